@@ -1,0 +1,2 @@
+pub mod db;
+pub mod pager;

@@ -1,0 +1,52 @@
+//! The salts that the clock hands out.
+
+use std::collections::VecDeque;
+
+/// Queued salts come first, in order. The n-th draw of all (n from 1) that
+/// finds the queue empty is the low half of `mix(n)`: no call needs a salt,
+/// yet every run is the same.
+#[derive(Default)]
+pub struct Salts {
+    queue: VecDeque<u32>,
+    draws: u64,
+}
+
+impl Salts {
+    pub fn queue(&mut self, salt: u32) {
+        self.queue.push_back(salt);
+    }
+
+    pub fn draw(&mut self) -> u32 {
+        self.draws += 1;
+        self.queue
+            .pop_front()
+            .unwrap_or_else(|| mix(self.draws) as u32)
+    }
+}
+
+/// SplitMix64's finishing steps: spreads near numbers far apart.
+pub fn mix(mut z: u64) -> u64 {
+    z ^= z >> 30;
+    z = z.wrapping_mul(0xbf58_476d_1ce4_e5b9);
+    z ^= z >> 27;
+    z = z.wrapping_mul(0x94d0_49bb_1331_11eb);
+    z ^ (z >> 31)
+}
+
+#[cfg(test)]
+mod tests {
+    use super::*;
+
+    #[test]
+    fn queued_salts_come_first_and_count_as_draws() {
+        let mut salts = Salts::default();
+        salts.queue(7);
+        salts.queue(0);
+        assert_eq!(salts.draw(), 7);
+        assert_eq!(salts.draw(), 0);
+        assert_eq!(salts.draw(), mix(3) as u32);
+        salts.queue(9);
+        assert_eq!(salts.draw(), 9);
+        assert_eq!(salts.draw(), mix(5) as u32);
+    }
+}

@@ -1,0 +1,2 @@
+-- The root of the cases.
+pub mod Cases

@@ -1,0 +1,2 @@
+-- The root of the laws of `checksum`.
+pub mod Sums

@@ -1,0 +1,4 @@
+-- The root of the laws of `header`.
+pub mod Decoding
+pub mod Encoding
+pub mod RoundTrip

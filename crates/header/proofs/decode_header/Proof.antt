@@ -1,0 +1,65 @@
+use mathlib.Core.Path.{_≡_, sym, _∙_}
+use lib.ListN.{take}
+use denote.Ref.{now}
+use borrow.Author.Needs.{needs}
+use borrow.Author.Tests.{not-true, not-false}
+use Rattle.le.specs.Le.{sameBytes}
+use Rattle.header.specs.Header.{magic, headerIn}
+use Rattle.header.specs.declared.HeaderDecoded.the-variants as decoded
+use Rattle.header.proofs.Decoding.{short, foreign, older, newer, resized, good}
+use Rattle.header.proofs.decode_header.Statement.{statement}
+use Rattle.header.proofs.decode_header.Tie as tie
+
+returns : tie.Need-returns
+returns c = short (now (c .before .before .args .buf)) (c .if1 .taken)
+
+-- the test on the leading bytes
+matched : (c : tie.After-same) → c .same .result ≡ sameBytes (take 16 (now (c .before .before .before .before .before .args .buf))) magic
+unfolding magic
+matched c = rw (c .before .before .part .ensures) at (c .same .ensures)
+
+returns-2 : tie.Need-returns-2
+returns-2 c =
+    let d = c .before .before .before .before in
+    foreign (now (d .before .before .args .buf)) (d .if1 .left) (sym (matched (c .before)) ∙ not-true _ (c .if2 .taken))
+
+returns-3 : tie.Need-returns-3
+returns-3 c =
+    let m = c .before .before in
+    let d = m .before .before .before .before in
+    older (now (d .before .before .args .buf)) (d .if1 .left) (sym (matched (m .before)) ∙ not-false _ (m .if2 .left))
+    (rw (c .before .read-u16 .ensures) at (c .if3 .taken))
+
+returns-4 : tie.Need-returns-4
+returns-4 c =
+    let m = c .before .before .before in
+    let d = m .before .before .before .before in
+    newer (now (d .before .before .args .buf)) (d .if1 .left) (sym (matched (m .before)) ∙ not-false _ (m .if2 .left))
+    (rw (c .before .before .read-u16 .ensures) at (c .before .if3 .left)) (rw (c .before .before .read-u16 .ensures) at (c .if4 .taken))
+
+returns-5 : tie.Need-returns-5
+returns-5 c =
+    let v = c .before .before .before .before in
+    let m = v .before in
+    let d = m .before .before .before .before in
+    resized (now (d .before .before .args .buf)) (d .if1 .left) (sym (matched (m .before)) ∙ not-false _ (m .if2 .left))
+    (rw (v .read-u16 .ensures) at (c .before .before .before .if3 .left)) (rw (v .read-u16 .ensures) at (c .before .before .if4 .left))
+    (rw (c .before .read-u162 .ensures) at (c .if5 .taken))
+
+returns-6 : tie.Need-returns-6
+unfolding headerIn
+returns-6 c =
+    let z = c .before .before .before in
+    let v = z .before .before .before .before in
+    let m = v .before in
+    let d = m .before .before .before .before in
+    let g =
+    good (now (d .before .before .args .buf)) (d .if1 .left) (sym (matched (m .before)) ∙ not-false _ (m .if2 .left))
+    (rw (v .read-u16 .ensures) at (z .before .before .before .if3 .left)) (rw (v .read-u16 .ensures) at (z .before .before .if4 .left))
+    (rw (z .before .read-u162 .ensures) at (z .if5 .left)) in
+    rw (c .before .before .read-u32 .ensures, c .before .read-u322 .ensures, c .read-u323 .ensures, v .read-u16 .ensures) (sym g)
+
+pub decode-header-spec : {M : Type 1} → statement M
+decode-header-spec =
+    tie.close
+    (tie.spec returns (search needs) (search needs) (search needs) returns-2 (search needs) returns-3 returns-4 (search needs) (search needs) returns-5 (search needs) (search needs) (search needs) returns-6)

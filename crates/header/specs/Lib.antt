@@ -1,0 +1,2 @@
+-- The root of the definitions of `header`.
+pub mod Header

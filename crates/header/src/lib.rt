@@ -1,0 +1,85 @@
+// The main file's header, page 0: what it holds, and its bytes in both directions.
+ghost use mathlib.Core.Path.{_≡_};
+ghost use Rattle.header.specs.Header.{decodeHeader, encodeAnswer, encodeAfter};
+use page::PAGE_SIZE;
+
+// The leading bytes of every main file.
+pub const MAGIC: [u8; 16] = *b"SQLRiteFormat\0\0\0";
+
+pub const FORMAT_VERSION_V4: u16 = 4;
+
+pub const FORMAT_VERSION_V5: u16 = 5;
+
+pub const FORMAT_VERSION_V6: u16 = 6;
+// The version that a new store is written with.
+pub const FORMAT_VERSION_BASELINE: u16 = FORMAT_VERSION_V4;
+
+// What the header says. The page count includes page 0.
+pub struct DbHeader {
+    pub page_count: u32,
+    pub schema_root_page: u32,
+    pub format_version: u16,
+    pub freelist_head: u32,
+}
+
+// What encoding answers.
+pub enum HeaderEncoded {
+    Done,
+    // The buffer does not have a page's length.
+    Short,
+}
+
+// Writes the header's page into a buffer of a page's length.
+pub fn encode_header(h: DbHeader, buf: &mut [u8]) -> HeaderEncoded
+    ensures { λ r. ⌜ (r ≡ encodeAnswer (now (buf .entry))) × (now (buf .exit) ≡ encodeAfter h (now (buf .entry))) ⌝ }
+{
+    if buf.len() != PAGE_SIZE {
+        return HeaderEncoded::Short;
+    }
+    le::write_bytes(buf, 0, &MAGIC);
+    le::write_u16(buf, 16, h.format_version);
+    le::write_u16(buf, 18, PAGE_SIZE as u16);
+    le::write_u32(buf, 20, h.page_count);
+    le::write_u32(buf, 24, h.schema_root_page);
+    le::write_u32(buf, 28, h.freelist_head);
+    le::write_zeros(buf, 32, PAGE_SIZE - 32);
+    HeaderEncoded::Done
+}
+
+// What decoding answers: the header, or the first of its refusals.
+pub enum HeaderDecoded {
+    Header(DbHeader),
+    Short,
+    Magic,
+    Version,
+    PageSize,
+}
+
+// Reads the header from its page.
+pub fn decode_header(buf: &[u8]) -> HeaderDecoded
+    ensures { λ r. ⌜ r ≡ decodeHeader (now (buf .entry)) ⌝ }
+{
+    if buf.len() != PAGE_SIZE {
+        return HeaderDecoded::Short;
+    }
+    if !le::same(le::part(buf, 0, 16), &MAGIC) {
+        return HeaderDecoded::Magic;
+    }
+    let version = le::read_u16(buf, 16);
+    if version < FORMAT_VERSION_V4 {
+        return HeaderDecoded::Version;
+    }
+    if FORMAT_VERSION_V6 < version {
+        return HeaderDecoded::Version;
+    }
+    let page_size = le::read_u16(buf, 18) as usize;
+    if page_size != PAGE_SIZE {
+        return HeaderDecoded::PageSize;
+    }
+    HeaderDecoded::Header(DbHeader {
+        page_count: le::read_u32(buf, 20),
+        schema_root_page: le::read_u32(buf, 24),
+        format_version: version,
+        freelist_head: le::read_u32(buf, 28),
+    })
+}

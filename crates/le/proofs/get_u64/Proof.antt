@@ -1,0 +1,16 @@
+use native.Mathlib.Omega.{arith}
+use denote.Ref.{now}
+use Rattle.le.proofs.Fields.{field-split}
+use borrow.Author.Needs.{needs}
+use Rattle.le.proofs.get_u64.Statement.{statement}
+use Rattle.le.proofs.get_u64.Tie as tie
+
+returns : tie.Need-returns
+returns c =
+    let a = c .before .before .before .args in
+    omega (arith, field-split 4 4 (a .at) (now (a .buf)))
+
+pub get-u64-spec : {M : Type 1} → statement M
+get-u64-spec =
+    tie.close
+    (tie.spec (search needs) (search needs) (search needs) (search needs) (search needs) (search needs) (search needs) returns)

@@ -1,0 +1,36 @@
+-- Fields of a list of bytes and the one store operation ("All layouts are little-endian").
+use mathlib.Core.Bool.{Bool, true, false}
+use mathlib.Core.List.{List, [], _∷_, _++_}
+use Prim.Native.Nat.{ℕ, zero, suc, _+_, _*_, _/_, _%_}
+use lib.Dec.{leb, eqb}
+use lib.ListN.{length, take, drop}
+use Rattle.le.specs.Choice.{pick, both}
+
+-- the number that a list of bytes stands for, lowest byte first
+unfoldable pub leOf : List ℕ → ℕ
+leOf [] = 0
+leOf (b ∷ bs) = b + 256 * leOf bs
+
+-- the n lowest bytes of x, lowest first
+unfoldable pub leBytes : ℕ → ℕ → List ℕ
+leBytes zero x = []
+leBytes (suc n) x = x % 256 ∷ leBytes n (x / 256)
+
+-- the field of n bytes at `at`; a byte past the end counts as 0
+abbrev pub field : ℕ → ℕ → List ℕ → ℕ
+field n at l = leOf (take n (drop at l))
+
+-- the list l with the bytes bs in the place of those from index `at` on
+unfoldable pub put : List ℕ → ℕ → List ℕ → List ℕ
+put l at bs = take at l ++ (bs ++ drop (at + length bs) l)
+
+-- a store: the bytes are put where they fit, otherwise the list stays as it was
+unfoldable pub store : List ℕ → ℕ → List ℕ → List ℕ
+store l at bs = pick (leb (at + length bs) (length l)) (put l at bs) l
+
+-- the two lists hold the same bytes
+unfoldable pub sameBytes : List ℕ → List ℕ → Bool
+sameBytes [] [] = true
+sameBytes [] (b ∷ ys) = false
+sameBytes (a ∷ xs) [] = false
+sameBytes (a ∷ xs) (b ∷ ys) = both (eqb a b) (sameBytes xs ys)

@@ -1,0 +1,54 @@
+-- Laws of the bytes that a line stands for, and of filling. Assumes nothing.
+use mathlib.Core.Path.{_≡_, refl, sym, ap, _∙_}
+use mathlib.Core.List.{List, [], _∷_, _++_}
+use Prim.Native.Nat.{ℕ, zero, suc, _+_, _-_, _*_, _/_, _≤_, _<_}
+use native.Mathlib.Nat.{zero-add}
+use native.Mathlib.Numerals.{add-one}
+use native.Mathlib.Omega.{arith}
+use lib.ListN.{length, take, drop, take-append-drop, getD, set, length-take, replicate, length-replicate, replicate-append-replicate}
+use lib.Seq.{take-suc, take-append-seam}
+use Rattle.le.specs.Le.{put}
+use Rattle.le.proofs.Stores.{put-more, put-all}
+use Rattle.replay.specs.Cases.{digitOf, bytesOf, Laid}
+
+pub length-bytes : (l : List ℕ) → length (bytesOf l) ≡ length l / 2
+unfolding bytesOf
+length-bytes [] = refl
+length-bytes (a ∷ []) = refl
+length-bytes (a ∷ b ∷ l) = let r : length (bytesOf l) ≡ length l / 2 = length-bytes l in omega arith
+
+-- the byte of the i-th pair of digits
+pub byte-at : (l : List ℕ) (i : ℕ) → 2 * i + 1 < length l → getD (bytesOf l) i 0 ≡ 16 * digitOf (getD l (2 * i) 0) + digitOf (getD l (2 * i + 1) 0)
+unfolding bytesOf
+byte-at [] i h = absurd (omega arith)
+byte-at (a ∷ []) i h = absurd (omega arith)
+byte-at (a ∷ b ∷ l) zero h = refl
+byte-at (a ∷ b ∷ l) (suc i) h =
+    let e : 2 * suc i ≡ suc (suc (2 * i)) = omega arith in
+    let f : 2 * suc i + 1 ≡ suc (suc (2 * i + 1)) = omega arith in
+    rw (f, e) (byte-at l i (omega arith))
+
+-- one byte more behind the first i
+pub lay-more : (l xs : List ℕ) (i b : ℕ) → i < length l → i < length xs → b ≡ getD xs i 0
+    → set (put l 0 (take i xs)) i b ≡ put l 0 (take (i + 1) xs)
+lay-more l xs i b h k e =
+    let n : length (take i xs) ≡ i = rw length-take (omega arith) in
+    let j : 0 + i < length l = omega arith in
+    rw (add-one, take-suc xs i 0, e) (rw zero-add at (put-more i l 0 (take i xs) (getD xs i 0) n j))
+
+-- all that there is room for
+fit : (m : ℕ) (xs : List ℕ) → take (length (take m xs)) xs ≡ take m xs
+fit m xs = rw (take-append-drop m xs) at (take-append-seam (take m xs) (drop m xs))
+
+pub laid : (l xs : List ℕ) (n : ℕ) {after : List ℕ} → n ≡ length (take (length l) xs) → after ≡ put l 0 (take n xs) → Laid xs l after n
+laid l xs n e f = record { count = e; bytes = rw (e, fit (length l) xs) at f }
+
+pub fill-more : (l : List ℕ) (i b : ℕ) → i < length l → set (put l 0 (replicate i b)) i b ≡ put l 0 (replicate (i + 1) b)
+fill-more l i b h =
+    let j : 0 + i < length l = omega arith in
+    let e : set (put l 0 (replicate i b)) (0 + i) b ≡ put l 0 (replicate (i + 1) b) =
+    rw (put-more i l 0 (replicate i b) b (length-replicate {A = ℕ} i b) j, ← replicate-append-replicate {A = ℕ} i 1 b) in
+    rw zero-add at e
+
+pub fill-all : (l : List ℕ) (n b : ℕ) → n ≡ length l → put l 0 (replicate n b) ≡ replicate (length l) b
+fill-all l n b e = put-all l (replicate n b) (length-replicate {A = ℕ} n b ∙ e) ∙ ap (λ (k : ℕ). replicate k b) e

@@ -1,0 +1,3 @@
+-- The root of the laws of `replay`.
+pub mod Lines
+pub mod Bytes

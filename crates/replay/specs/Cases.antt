@@ -1,0 +1,47 @@
+-- A list of cases: one a line, its bytes in hexadecimal digits.
+use mathlib.Core.Path.{_≡_}
+use mathlib.Core.List.{List, [], _∷_}
+use Prim.Native.Nat.{ℕ, _+_, _-_, _*_, _≤_, _<_}
+use lib.Dec.{ltb, leb, eqb}
+use lib.ListN.{length, take, drop}
+use Rattle.le.specs.Choice.{pick}
+use Rattle.le.specs.Le.{put}
+
+-- the first line, without its end (10)
+unfoldable pub lineOf : List ℕ → List ℕ
+lineOf [] = []
+lineOf (b ∷ l) = pick (eqb b 10) [] (b ∷ lineOf l)
+
+-- what stands behind the first line's end
+unfoldable pub restOf : List ℕ → List ℕ
+restOf [] = []
+restOf (b ∷ l) = pick (eqb b 10) l (restOf l)
+
+-- the value of a digit, `0` to `9` (48 to 57) or `a` to `f` (97 to 102); any other byte counts as 0
+unfoldable pub digitOf : ℕ → ℕ
+digitOf b = pick (ltb b 48) 0 (pick (leb b 57) (b - 48) (pick (ltb b 97) 0 (pick (leb b 102) (b - 97 + 10) 0)))
+
+-- the bytes that a line's pairs of digits stand for; a last digit without a partner stands for none
+unfoldable pub bytesOf : List ℕ → List ℕ
+bytesOf [] = []
+bytesOf (a ∷ []) = []
+bytesOf (a ∷ b ∷ l) = (16 * digitOf a + digitOf b) ∷ bytesOf l
+
+-- the bytes of the case at `at`
+abbrev pub caseAt : ℕ → List ℕ → List ℕ
+caseAt at l = bytesOf (lineOf (drop at l))
+
+-- the bytes xs, or as many of them as there is room for, were laid at the front of `before`: n of them
+pub record Laid (xs before after : List ℕ) (n : ℕ) : Type 0 where
+  pub count : n ≡ length (take (length before) xs)
+  pub bytes : after ≡ put before 0 (take (length before) xs)
+
+-- the case behind the one at `at` is at `next`
+pub record Next (l : List ℕ) (at next : ℕ) : Type 0 where
+  pub within : next ≤ length l
+  pub ahead : at < length l → at < next
+  pub rest : drop next l ≡ restOf (drop at l)
+
+-- where a text of n bytes that is added to a line at `at` ends; one that finds no room is left out
+abbrev pub endOf : List ℕ → ℕ → ℕ → ℕ
+endOf l at n = pick (leb (at + n) (length l)) (at + n) at

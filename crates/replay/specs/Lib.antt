@@ -1,0 +1,2 @@
+-- The root of the definitions of `replay`.
+pub mod Cases

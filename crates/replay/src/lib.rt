@@ -1,0 +1,145 @@
+// Test support: what the programs share that replay a list of cases.
+// A list has one case a line, its bytes in hexadecimal digits; an answer is a line of text.
+// Every public function is total: a case or a text that finds no room is cut or left out.
+ghost use mathlib.Core.Path.{_≡_};
+ghost use Prim.Native.Nat.{_+_, _<_, min};
+ghost use lib.ListN.{length, drop, replicate};
+ghost use Rattle.le.specs.Le.{store};
+ghost use Rattle.replay.specs.Cases.{lineOf, digitOf, bytesOf, caseAt, Laid, Next, endOf};
+
+// Room for the longest list of cases.
+pub const LIST_SIZE: usize = 131072;
+
+// The place of the end of the line that starts at `at`.
+fn line_end(list: &[u8], at: usize) -> usize
+    ensures { λ r. ⌜ r ≡ at + length (lineOf (drop at (now (list .entry)))) ⌝ }
+{
+    let mut end = at;
+    while end < list.len() {
+        if list[end] == b'\n' {
+            return end;
+        }
+        end += 1;
+    }
+    end
+}
+
+// The line that starts at `at`, without its end.
+fn line_at(list: &[u8], at: usize) -> &[u8]
+    ensures { λ r. ⌜ now r ≡ lineOf (drop at (now (list .entry))) ⌝ }
+{
+    le::part(list, at, line_end(list, at) - at)
+}
+
+// The place of the case behind the one at `at`.
+pub fn next_case(list: &[u8], at: usize) -> usize
+    ensures { λ r. ⌜ Next (now (list .entry)) at r ⌝ }
+{
+    let end = line_end(list, at);
+    if end < list.len() {
+        return end + 1;
+    }
+    list.len()
+}
+
+// The value of a hexadecimal digit.
+fn digit_of(b: u8) -> u8
+    ensures { λ r. ⌜ (r ≡ digitOf b) × (r < 16) ⌝ }
+{
+    if b < b'0' {
+        return 0;
+    }
+    if b <= b'9' {
+        return b - b'0';
+    }
+    if b < b'a' {
+        return 0;
+    }
+    if b <= b'f' {
+        return b - b'a' + 10;
+    }
+    0
+}
+
+fn least(a: usize, b: usize) -> usize
+    ensures { λ r. ⌜ r ≡ min a b ⌝ }
+{
+    if a < b { a } else { b }
+}
+
+// Lays the bytes that a line stands for at the front of `out`.
+fn decode(line: &[u8], out: &mut [u8]) -> usize
+    ensures { λ r. ⌜ Laid (bytesOf (now (line .entry))) (now (out .entry)) (now (out .exit)) r ⌝ }
+{
+    let n = least(line.len() / 2, out.len());
+    let mut i = 0;
+    while i < n {
+        out[i] = 16 * digit_of(line[2 * i]) + digit_of(line[2 * i + 1]);
+        i += 1;
+    }
+    n
+}
+
+// Lays the bytes of the case at `at` at the front of `out`, and answers how many there are.
+pub fn read_case(list: &[u8], at: usize, out: &mut [u8]) -> usize
+    ensures { λ r. ⌜ Laid (caseAt at (now (list .entry))) (now (out .entry)) (now (out .exit)) r ⌝ }
+{
+    decode(line_at(list, at), out)
+}
+
+// Makes every byte `b`.
+pub fn fill(out: &mut [u8], b: u8)
+    ensures { λ _. ⌜ now (out .exit) ≡ replicate (length (now (out .entry))) b ⌝ }
+{
+    let mut i = 0;
+    while i < out.len() {
+        out[i] = b;
+        i += 1;
+    }
+}
+
+// Adds a text to a line at `at`, and answers where the next one goes.
+pub fn add_text(line: &mut [u8], at: usize, text: &[u8]) -> usize
+    ensures { λ r. ⌜ (r ≡ endOf (now (line .entry)) at (length (now (text .entry)))) × (now (line .exit) ≡ store (now (line .entry)) at (now (text .entry))) ⌝ }
+{
+    if le::fits_in(line.len(), at, text.len()) {
+        le::write_bytes(line, at, text);
+        return at + text.len();
+    }
+    at
+}
+
+// Adds a number in decimal digits.
+pub fn add_decimal(line: &mut [u8], at: usize, n: u64) -> usize {
+    let mut digits = [0u8; 20];
+    let k = io::decimal(n, &mut digits);
+    add_text(line, at, &digits[..k])
+}
+
+// Adds a number in hexadecimal digits, `width` of them or more.
+pub fn add_hex(line: &mut [u8], at: usize, n: u64, width: usize) -> usize {
+    let mut digits = [0u8; 16];
+    let k = io::hex(n, width, &mut digits);
+    add_text(line, at, &digits[..k])
+}
+
+fn wide(b: u8) -> u64 {
+    b as u64
+}
+
+// Adds bytes, each in two hexadecimal digits.
+pub fn add_hex_bytes(line: &mut [u8], at: usize, bytes: &[u8]) -> usize {
+    let mut end = at;
+    let mut i = 0;
+    while i < bytes.len() {
+        end = add_hex(line, end, wide(bytes[i]), 2);
+        i += 1;
+    }
+    end
+}
+
+// Writes the line that ends at `at`, and a newline behind it.
+pub fn print_line(line: &mut [u8], at: usize) {
+    let end = add_text(line, at, b"\n");
+    io::write_all(1, le::part(line, 0, end));
+}
