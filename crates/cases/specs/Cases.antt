@@ -6,6 +6,7 @@ use lib.ListN.{replicate}
 use Rattle.le.specs.Le.{leBytes}
 use Rattle.checksum.specs.Checksum.{sumFrom}
 use Rattle.frame.specs.Frame.{heading, frameSum}
+use Rattle.text.specs.Utf8.{two, three, four, size, after, wellFormed, utf8Of, refusal}
 
 -- a page of zeros
 abbrev zeros : List ℕ
@@ -16,7 +17,23 @@ pub record Cases : Type 0 where
   pub sum-page-0-count-0 : frameSum 0 0 0 zeros ≡ 0
   pub sum-page-1-count-0 : frameSum 1 0 0 zeros ≡ 2048
   pub sum-page-1-count-2 : frameSum 1 2 0 zeros ≡ 2304
+  -- "Text C3 A9 and F4 8F BF BF good; C0 80, ED A0 80 and F4 90 80 80 bad (hexadecimal)": no refusal, and refusal 19
+  pub text-c3-a9 : refusal (utf8Of (0xc3 ∷ 0xa9 ∷ [])) ≡ 0
+  pub text-f4-8f-bf-bf : refusal (utf8Of (0xf4 ∷ 0x8f ∷ 0xbf ∷ 0xbf ∷ [])) ≡ 0
+  pub text-c0-80 : refusal (utf8Of (0xc0 ∷ 0x80 ∷ [])) ≡ 19
+  pub text-ed-a0-80 : refusal (utf8Of (0xed ∷ 0xa0 ∷ 0x80 ∷ [])) ≡ 19
+  pub text-f4-90-80-80 : refusal (utf8Of (0xf4 ∷ 0x90 ∷ 0x80 ∷ 0x80 ∷ [])) ≡ 19
 
 pub cases : Cases
-unfolding frameSum heading leBytes sumFrom
-cases = record { sum-page-0-count-0 = refl; sum-page-1-count-0 = refl; sum-page-1-count-2 = refl }
+unfolding frameSum heading leBytes sumFrom wellFormed after size two three four
+cases =
+    record {
+      sum-page-0-count-0 = refl;
+      sum-page-1-count-0 = refl;
+      sum-page-1-count-2 = refl;
+      text-c3-a9 = refl;
+      text-f4-8f-bf-bf = refl;
+      text-c0-80 = refl;
+      text-ed-a0-80 = refl;
+      text-f4-90-80-80 = refl;
+    }

@@ -2,22 +2,42 @@
 use mathlib.Core.Path.{_≡_, refl, sym, ap, _∙_}
 use mathlib.Core.Bool.{true, false}
 use mathlib.Core.List.{List, _++_}
-use Prim.Native.Nat.{ℕ, _+_, _≤_}
+use mathlib.Core.Logic.{⊎-elim}
+use Prim.Native.Nat.{ℕ, _+_, _≤_, _<_}
 use native.Mathlib.Omega.{arith}
 use borrow.Author.Tests.{eq-eqb, ne-eqb}
 use lib.Dec.{leb, eqb}
-use lib.ListN.{length, take, drop}
+use lib.ListN.{length, take, drop, length-take, length-drop}
 use lib.Seq.{take-take, drop-drop}
-use Rattle.le.specs.Le.{field}
-use Rattle.le.proofs.Fields.{drop-take, field-part}
+use Rattle.le.specs.Le.{field, wholeField}
+use Rattle.le.proofs.Tests.{le-or-lt}
+use Rattle.le.proofs.Fields.{drop-take, field-part, field-whole, field-cut}
 use Rattle.checksum.specs.Checksum.{sumFrom}
 use Rattle.checksum.proofs.Sums.{sumFrom-append}
 use Rattle.frame.specs.Frame.{frameAt, bodyOf, checksumOf, intact, intactAt}
 
 module _ (at : ℕ) (l : List ℕ) where
+  heading-there : (k : ℕ) → k + 4 ≤ 16 → at + k + 4 ≤ length l → wholeField 4 k (take 16 (drop at l)) ≡ wholeField 4 k (frameAt at l)
+  heading-there k h i =
+      let a : k + 4 ≤ length (take 16 (drop at l)) = rw (length-take, length-drop) (omega arith) in
+      let b : k + 4 ≤ length (frameAt at l) = rw (length-take, length-drop) (omega arith) in
+      field-whole 4 k (take 16 (drop at l)) a ∙ field-part 4 k 16 at l h ∙ sym (field-part 4 k 4112 at l (omega arith)) ∙ sym (field-whole 4 k (frameAt at l) b)
+
+  heading-cut : (k : ℕ) → k + 4 ≤ 16 → length l < at + k + 4 → wholeField 4 k (take 16 (drop at l)) ≡ wholeField 4 k (frameAt at l)
+  heading-cut k h i =
+      let a : length (take 16 (drop at l)) < k + 4 = rw (length-take, length-drop) (omega arith) in
+      let b : length (frameAt at l) < k + 4 = rw (length-take, length-drop) (omega arith) in
+      field-cut 4 k (take 16 (drop at l)) a ∙ sym (field-cut 4 k (frameAt at l) b)
+
   -- a field of the heading
-  pub heading-field : (k : ℕ) → k + 4 ≤ 16 → field 4 k (take 16 (drop at l)) ≡ field 4 k (frameAt at l)
-  heading-field k h = field-part 4 k 16 at l h ∙ sym (field-part 4 k 4112 at l (omega arith))
+  pub heading-field : (k : ℕ) → k + 4 ≤ 16 → wholeField 4 k (take 16 (drop at l)) ≡ wholeField 4 k (frameAt at l)
+  heading-field k h = ⊎-elim (heading-there k h) (heading-cut k h) (le-or-lt (at + k + 4) (length l))
+
+  -- .. of a whole frame
+  pub field-inside : (k : ℕ) → k + 4 ≤ 4112 → at + 4112 ≤ length l → wholeField 4 k (frameAt at l) ≡ field 4 k (frameAt at l)
+  field-inside k h i =
+      let b : k + 4 ≤ length (frameAt at l) = rw (length-take, length-drop) (omega arith) in
+      field-whole 4 k (frameAt at l) b
 
   pub body-there : bodyOf (frameAt at l) ≡ take 4096 (drop (at + 16) l)
   unfolding bodyOf

@@ -5,7 +5,7 @@ use Prim.Native.Nat.{ℕ, _+_}
 use lib.Dec.{leb, eqb}
 use lib.ListN.{length, take, drop}
 use Rattle.le.specs.Choice.{pick, both}
-use Rattle.le.specs.Le.{leBytes, field, put, store}
+use Rattle.le.specs.Le.{leBytes, field, wholeField, put, store}
 use Rattle.le.specs.Answers.{storedOf}
 use Rattle.le.specs.declared.Stored.{Stored}
 use Rattle.le.specs.declared.Stored.the-variants.{Done, Area}
@@ -37,9 +37,15 @@ encodeFrame page count salt body = heading page count salt ++ (leBytes 4 (frameS
 abbrev pub frameAt : ℕ → List ℕ → List ℕ
 frameAt at l = take frameSize (drop at l)
 
+-- its heading; of less than a frame, a field that is not wholly there is 0
 unfoldable pub headerOf : List ℕ → FrameHeader
 headerOf f =
-    record { «page_num» = field 4 0 f; «commit_page_count» = field 4 4 f; salt = field 4 8 f; checksum = field 4 12 f }
+    record {
+      «page_num» = wholeField 4 0 f;
+      «commit_page_count» = wholeField 4 4 f;
+      salt = wholeField 4 8 f;
+      checksum = wholeField 4 12 f;
+    }
 
 unfoldable pub bodyOf : List ℕ → List ℕ
 bodyOf f = drop 16 f

@@ -30,7 +30,7 @@ impl FrameHeader {
     }
 }
 
-// The heading of the frame at `at`.
+// The heading of the frame at `at`; a field that is not wholly there is 0.
 pub fn read_frame_header(log: &[u8], at: usize) -> FrameHeader
     ensures { λ r. ⌜ r ≡ headerOf (frameAt at (now (log .entry))) ⌝ }
 {

@@ -6,10 +6,11 @@ use Prim.Native.Nat.{ℕ, zero, suc, _+_, _-_, _*_, _/_, _%_, _^_, _≤_, _<_}
 use native.Mathlib.Nat.{mul-add, mul-assoc, add-assoc, zero-add, suc-add, div-one, pow-succ', pow-suc, one-le-pow, div-lt-iff-lt-mul, div-div-eq-div-mul}
 use native.Mathlib.Numerals.{add-one}
 use native.Mathlib.Omega.{arith}
+use borrow.Author.Tests.{le-leb, lt-leb}
 use lib.Arith.{mod-mul, digits-div, digits-mod}
 use lib.ListN.{length, take, drop, getD, length-take, length-drop, drop-of-length-le}
 use lib.Seq.{take-add, take-all, take-at, drop-append-add, take-nil, take-take, drop-drop, drop-cons}
-use Rattle.le.specs.Le.{leOf, leBytes, field}
+use Rattle.le.specs.Le.{leOf, leBytes, field, wholeField}
 use Rattle.le.proofs.Tests.{le-or-lt}
 
 -- ---- reading
@@ -35,6 +36,15 @@ split-past n m at l h =
     let k : length (drop at l) ≤ n = rw length-drop (omega arith) in
     let j : length (drop at l) ≤ n + m = omega arith in
     rw (take-all (n + m) (drop at l) j, take-all n (drop at l) k, field-none m (at + n) l (omega arith)) (omega arith)
+
+-- a field that is wholly there, and one that is not
+pub field-whole : (n at : ℕ) (l : List ℕ) → at + n ≤ length l → wholeField n at l ≡ field n at l
+unfolding wholeField
+field-whole n at l h = rw (le-leb _ _ h)
+
+pub field-cut : (n at : ℕ) (l : List ℕ) → length l < at + n → wholeField n at l ≡ 0
+unfolding wholeField
+field-cut n at l h = rw (lt-leb _ _ h)
 
 -- a field of n + m bytes is one of n and, times 256 ^ n, one of m
 pub field-split : (n m at : ℕ) (l : List ℕ) → field (n + m) at l ≡ field n at l + 256 ^ n * field m (at + n) l

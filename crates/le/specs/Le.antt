@@ -16,9 +16,13 @@ unfoldable pub leBytes : ℕ → ℕ → List ℕ
 leBytes zero x = []
 leBytes (suc n) x = x % 256 ∷ leBytes n (x / 256)
 
--- the field of n bytes at `at`; a byte past the end counts as 0
+-- the field of n bytes at `at`, or of as many as there are
 abbrev pub field : ℕ → ℕ → List ℕ → ℕ
 field n at l = leOf (take n (drop at l))
+
+-- what reading it gives: 0 where it is not wholly there
+unfoldable pub wholeField : ℕ → ℕ → List ℕ → ℕ
+wholeField n at l = pick (leb (at + n) (length l)) (field n at l) 0
 
 -- the list l with the bytes bs in the place of those from index `at` on
 unfoldable pub put : List ℕ → ℕ → List ℕ → List ℕ

@@ -1,11 +1,11 @@
 // Little-endian fields of byte slices, parts of them and stores into them.
-// Every public function is total: a field or a part that runs past the end is what is there of it,
-// and a store that does not fit is refused and changes nothing.
+// Every public function is total: a field that is not wholly there reads as 0, a part is what is there
+// of it, and a store that does not fit is refused and changes nothing.
 ghost use mathlib.Core.Path.{_≡_};
 ghost use Prim.Native.Nat.{_+_, _≤_, _<_};
 ghost use lib.Dec.{leb};
 ghost use lib.ListN.{length, take, drop, replicate};
-ghost use Rattle.le.specs.Le.{leBytes, field, put, store, sameBytes};
+ghost use Rattle.le.specs.Le.{leBytes, field, wholeField, put, store, sameBytes};
 ghost use Rattle.le.specs.Answers.{storedOf};
 
 // Whether n bytes from `at` on lie within a length.
@@ -52,43 +52,30 @@ fn get_u64(buf: &[u8], at: usize) -> u64
     (low as u64) + 4294967296 * (high as u64)
 }
 
-// The field at `at`; a byte past the end counts as 0.
+// The field at `at`, or 0 where it is not wholly there.
 pub fn read_u16(buf: &[u8], at: usize) -> u16
-    ensures { λ r. ⌜ r ≡ field 2 at (now (buf .entry)) ⌝ }
+    ensures { λ r. ⌜ r ≡ wholeField 2 at (now (buf .entry)) ⌝ }
 {
     if fits_in(buf.len(), at, 2) {
         return get_u16(buf, at);
-    }
-    if at < buf.len() {
-        return wide(buf[at]);
     }
     0
 }
 
 pub fn read_u32(buf: &[u8], at: usize) -> u32
-    ensures { λ r. ⌜ r ≡ field 4 at (now (buf .entry)) ⌝ }
+    ensures { λ r. ⌜ r ≡ wholeField 4 at (now (buf .entry)) ⌝ }
 {
     if fits_in(buf.len(), at, 4) {
         return get_u32(buf, at);
-    }
-    if at < buf.len() {
-        let low = read_u16(buf, at);
-        let high = read_u16(buf, at + 2);
-        return (low as u32) + 65536 * (high as u32);
     }
     0
 }
 
 pub fn read_u64(buf: &[u8], at: usize) -> u64
-    ensures { λ r. ⌜ r ≡ field 8 at (now (buf .entry)) ⌝ }
+    ensures { λ r. ⌜ r ≡ wholeField 8 at (now (buf .entry)) ⌝ }
 {
     if fits_in(buf.len(), at, 8) {
         return get_u64(buf, at);
-    }
-    if at < buf.len() {
-        let low = read_u32(buf, at);
-        let high = read_u32(buf, at + 4);
-        return (low as u64) + 4294967296 * (high as u64);
     }
     0
 }

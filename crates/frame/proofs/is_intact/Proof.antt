@@ -1,10 +1,11 @@
 use mathlib.Core.Path.{sym, ap, _∙_}
+use native.Mathlib.Omega.{arith}
 use denote.Ref.{now}
 use borrow.Author.Needs.{needs}
-use borrow.Author.Tests.{not-true, not-false}
+use borrow.Author.Tests.{not-true, not-false, leb-true}
 use Rattle.frame.specs.Frame.{headerOf}
 use Rattle.frame.specs.declared.FrameHeader.{FrameHeader}
-use Rattle.frame.proofs.Places.{outside, other-salt, by-sum}
+use Rattle.frame.proofs.Places.{field-inside, outside, other-salt, by-sum}
 use Rattle.frame.proofs.is_intact.Statement.{statement}
 use Rattle.frame.proofs.is_intact.Tie as tie
 
@@ -19,8 +20,9 @@ returns-2 c =
     let h = c .before .before in
     let d = h .before in
     let a = d .before .before .before .args in
-    let e = ap (λ (r : FrameHeader). r .salt) (h .read-frame-header .ensures) in
-    other-salt (now (a .log)) (a .at) (a .salt) (sym (d .before .fits-in .ensures) ∙ not-false _ (d .if1 .left)) (λ s. c .if2 .taken (e ∙ s))
+    let t = sym (d .before .fits-in .ensures) ∙ not-false _ (d .if1 .left) in
+    let e = ap (λ (r : FrameHeader). r .salt) (h .read-frame-header .ensures) ∙ field-inside (a .at) (now (a .log)) 8 (omega arith) (leb-true _ _ t) in
+    other-salt (now (a .log)) (a .at) (a .salt) t (λ s. c .if2 .taken (e ∙ s))
 
 returns-3 : tie.Need-returns-3
 unfolding headerOf
@@ -28,9 +30,11 @@ returns-3 c =
     let h = c .before .before .before .before in
     let d = h .before in
     let a = d .before .before .before .args in
-    let e = ap (λ (r : FrameHeader). r .salt) (h .read-frame-header .ensures) in
-    rw (h .read-frame-header .ensures, c .before .compute-checksum .ensures)
-    (by-sum (now (a .log)) (a .at) (a .salt) (sym (d .before .fits-in .ensures) ∙ not-false _ (d .if1 .left)) (sym e ∙ c .before .before .if2 .left))
+    let t = sym (d .before .fits-in .ensures) ∙ not-false _ (d .if1 .left) in
+    let inside = field-inside (a .at) (now (a .log)) in
+    let e = ap (λ (r : FrameHeader). r .salt) (h .read-frame-header .ensures) ∙ inside 8 (omega arith) (leb-true _ _ t) in
+    rw (h .read-frame-header .ensures, c .before .compute-checksum .ensures, inside 12 (omega arith) (leb-true _ _ t))
+    (by-sum (now (a .log)) (a .at) (a .salt) t (sym e ∙ c .before .before .if2 .left))
 
 pub is-intact-spec : {M : Type 1} → statement M
 is-intact-spec = tie.close (tie.spec (search needs) returns (search needs) returns-2 (search needs) returns-3)

@@ -3,7 +3,7 @@ use native.Mathlib.Omega.{arith}
 use denote.Ref.{now}
 use borrow.Author.Needs.{needs}
 use Prim.Native.Nat.{ℕ, _+_, _≤_}
-use Rattle.le.specs.Le.{field}
+use Rattle.le.specs.Le.{wholeField}
 use Rattle.frame.specs.Frame.{frameAt, headerOf}
 use Rattle.frame.proofs.Places.{heading-field}
 use Rattle.frame.proofs.read_frame_header.Statement.{statement}
@@ -14,7 +14,7 @@ unfolding headerOf
 returns c =
     let p = c .before .before .before .before in
     let a = p .before .before .args in
-    let read : (k : ℕ) → k + 4 ≤ 16 → field 4 k (now (p .part .result)) ≡ field 4 k (frameAt (a .at) (now (a .log))) =
+    let read : (k : ℕ) → k + 4 ≤ 16 → wholeField 4 k (now (p .part .result)) ≡ wholeField 4 k (frameAt (a .at) (now (a .log))) =
     λ k h. rw (p .part .ensures) (heading-field (a .at) (now (a .log)) k h) in
     rw (
       c .before .before .before .read-u32 .ensures,

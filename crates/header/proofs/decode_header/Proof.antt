@@ -1,9 +1,13 @@
 use mathlib.Core.Path.{_≡_, sym, _∙_}
-use lib.ListN.{take}
+use mathlib.Core.List.{List}
+use Prim.Native.Nat.{ℕ, _+_, _≤_}
+use native.Mathlib.Omega.{arith}
+use lib.ListN.{length, take}
 use denote.Ref.{now}
 use borrow.Author.Needs.{needs}
 use borrow.Author.Tests.{not-true, not-false}
-use Rattle.le.specs.Le.{sameBytes}
+use Rattle.le.specs.Le.{field, wholeField, sameBytes}
+use Rattle.le.proofs.Fields.{field-whole}
 use Rattle.header.specs.Header.{magic, headerIn}
 use Rattle.header.specs.declared.HeaderDecoded.the-variants as decoded
 use Rattle.header.proofs.Decoding.{short, foreign, older, newer, resized, good}
@@ -23,28 +27,39 @@ returns-2 c =
     let d = c .before .before .before .before in
     foreign (now (d .before .before .args .buf)) (d .if1 .left) (sym (matched (c .before)) ∙ not-true _ (c .if2 .taken))
 
+-- a field of a buffer of a page's length is wholly there
+inside : (l : List ℕ) → length l ≡ 4096 → (n at : ℕ) → at + n ≤ 4096 → wholeField n at l ≡ field n at l
+inside l e n at h = field-whole n at l (omega arith)
+
+-- the version that was read
+version : (c : tie.After-read-u16) → c .read-u16 .result ≡ field 2 16 (now (c .before .before .before .before .before .before .before .args .buf))
+version c =
+    let d = c .before .before .before .before .before in
+    c .read-u16 .ensures ∙ inside (now (d .before .before .args .buf)) (d .if1 .left) 2 16 (omega arith)
+
 returns-3 : tie.Need-returns-3
 returns-3 c =
     let m = c .before .before in
     let d = m .before .before .before .before in
     older (now (d .before .before .args .buf)) (d .if1 .left) (sym (matched (m .before)) ∙ not-false _ (m .if2 .left))
-    (rw (c .before .read-u16 .ensures) at (c .if3 .taken))
+    (rw (version (c .before)) at (c .if3 .taken))
 
 returns-4 : tie.Need-returns-4
 returns-4 c =
     let m = c .before .before .before in
     let d = m .before .before .before .before in
     newer (now (d .before .before .args .buf)) (d .if1 .left) (sym (matched (m .before)) ∙ not-false _ (m .if2 .left))
-    (rw (c .before .before .read-u16 .ensures) at (c .before .if3 .left)) (rw (c .before .before .read-u16 .ensures) at (c .if4 .taken))
+    (rw (version (c .before .before)) at (c .before .if3 .left)) (rw (version (c .before .before)) at (c .if4 .taken))
 
 returns-5 : tie.Need-returns-5
 returns-5 c =
     let v = c .before .before .before .before in
     let m = v .before in
     let d = m .before .before .before .before in
+    let whole = inside (now (d .before .before .args .buf)) (d .if1 .left) in
     resized (now (d .before .before .args .buf)) (d .if1 .left) (sym (matched (m .before)) ∙ not-false _ (m .if2 .left))
-    (rw (v .read-u16 .ensures) at (c .before .before .before .if3 .left)) (rw (v .read-u16 .ensures) at (c .before .before .if4 .left))
-    (rw (c .before .read-u162 .ensures) at (c .if5 .taken))
+    (rw (version v) at (c .before .before .before .if3 .left)) (rw (version v) at (c .before .before .if4 .left))
+    (rw (c .before .read-u162 .ensures ∙ whole 2 18 (omega arith)) at (c .if5 .taken))
 
 returns-6 : tie.Need-returns-6
 unfolding headerIn
@@ -53,11 +68,18 @@ returns-6 c =
     let v = z .before .before .before .before in
     let m = v .before in
     let d = m .before .before .before .before in
+    let whole = inside (now (d .before .before .args .buf)) (d .if1 .left) in
     let g =
     good (now (d .before .before .args .buf)) (d .if1 .left) (sym (matched (m .before)) ∙ not-false _ (m .if2 .left))
-    (rw (v .read-u16 .ensures) at (z .before .before .before .if3 .left)) (rw (v .read-u16 .ensures) at (z .before .before .if4 .left))
-    (rw (z .before .read-u162 .ensures) at (z .if5 .left)) in
-    rw (c .before .before .read-u32 .ensures, c .before .read-u322 .ensures, c .read-u323 .ensures, v .read-u16 .ensures) (sym g)
+    (rw (version v) at (z .before .before .before .if3 .left)) (rw (version v) at (z .before .before .if4 .left))
+    (rw (z .before .read-u162 .ensures ∙ whole 2 18 (omega arith)) at (z .if5 .left)) in
+    rw (
+      c .before .before .read-u32 .ensures ∙ whole 4 20 (omega arith),
+      c .before .read-u322 .ensures ∙ whole 4 24 (omega arith),
+      c .read-u323 .ensures ∙ whole 4 28 (omega arith),
+      version v,
+    )
+    (sym g)
 
 pub decode-header-spec : {M : Type 1} → statement M
 decode-header-spec =

@@ -1,0 +1,3 @@
+pub mod Table
+pub mod Utf8
+pub mod Walk

@@ -1,0 +1,17 @@
+use mathlib.Core.Path.{_≡_}
+use borrow.Author.Needs.{needs}
+use Prim.Native.Nat.{_-_, _≤_}
+use lib.ListN.{length}
+use Rattle.utf8_replay.proofs.print_bitmap.Statement.{statement}
+use Rattle.utf8_replay.proofs.print_bitmap.Tie as tie
+
+abbrev Inv-loop : tie.InvT-loop
+Inv-loop front line₀ at₀ k₀ line at k = (k ≤ 64) × (80 ≡ length line)
+
+abbrev μ-loop : tie.MeasureT-loop
+μ-loop front line₀ at₀ k₀ line at k = 64 - k
+
+pub print-bitmap-spec : {M : Type 1} → statement M
+print-bitmap-spec =
+    tie.close
+    (tie.spec Inv-loop μ-loop (search needs) (search needs) (search needs) (search needs) (search needs) (search needs) (search needs) (search needs) (search needs) (search needs) (search needs))
