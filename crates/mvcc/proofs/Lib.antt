@@ -1,0 +1,10 @@
+-- The root of the laws of `mvcc`.
+pub mod Laws
+pub mod Has
+pub mod Trip
+pub mod Bytes
+pub mod Elements
+pub mod Sound
+pub mod Whole
+pub mod Encode
+pub mod Canonical

@@ -1,0 +1,7 @@
+-- The root of the definitions of `mvcc`.
+pub mod Answer
+pub mod Fields
+pub mod Decode
+pub mod Batch
+pub mod Seen
+pub mod Vector

@@ -1,0 +1,467 @@
+// Batches of the mvcc log: what a batch's body holds, read in place.
+// Nothing is copied: texts and vectors are told by their places in the body, and a batch is walked
+// record by record and column by column with a cursor. Every public function is total.
+ghost use mathlib.Core.Path.{_≡_};
+ghost use lib.ListN.{drop, take};
+ghost use Rattle.mvcc.specs.Answer.{why};
+ghost use Rattle.mvcc.specs.Fields.{numAnswer, textAnswer, valueAnswer, columnAnswer, recordAnswer};
+ghost use Rattle.mvcc.specs.Decode.{numAt, textOf, textAt, signed, realOf, integerAt, realAt, boolAt, textValueAt, vectorAt, valueAt, columnAt, presentAt, recordAt, batchOf};
+ghost use Rattle.mvcc.specs.Seen.{refusalOf};
+ghost use Rattle.mvcc.specs.Vector.{bitsAt, elementAt};
+
+// Where a text stands in the body.
+pub struct TextPlace {
+    pub start: usize,
+    pub len: usize,
+}
+
+// A column's value. A float is its bits: Nan has those of a NaN, Real every other one.
+pub enum Value {
+    Null,
+    Integer(i64),
+    Real(f64),
+    Nan(u64),
+    Text(TextPlace),
+    Bool(bool),
+    // `count` f32s of 4 bytes each
+    Vector { start: usize, count: usize },
+}
+
+pub struct Column {
+    pub name: TextPlace,
+    pub value: Value,
+}
+
+pub struct RowID {
+    pub table: TextPlace,
+    pub rowid: i64,
+}
+
+// A present row has `count` columns, the first at the cursor `first`.
+pub enum VersionPayload {
+    Tombstone,
+    Present { count: usize, first: usize },
+}
+
+pub struct MvccLogRecord {
+    pub row: RowID,
+    pub payload: VersionPayload,
+}
+
+// A batch: its records start at 18, and decoding ended at `end`.
+pub struct MvccCommitBatch {
+    pub commit_ts: u64,
+    pub records: usize,
+    pub end: usize,
+}
+
+// Why a body does not decode, once its heading is read.
+pub enum Refusal {
+    // A field runs past the body.
+    Truncated,
+    // An unknown op or value tag.
+    Tag,
+    // Not UTF-8.
+    Text,
+}
+
+// A number field: its number and the next cursor, or it runs past the body.
+enum NumField {
+    Taken(u64, usize),
+    Short,
+}
+
+enum TextField {
+    Taken(TextPlace, usize),
+    Refused(Refusal),
+}
+
+pub enum ValueField {
+    Taken(Value, usize),
+    Refused(Refusal),
+}
+
+pub enum ColumnField {
+    Taken(Column, usize),
+    Refused(Refusal),
+}
+
+pub enum RecordField {
+    Taken(MvccLogRecord, usize),
+    Refused(Refusal),
+}
+
+pub enum BatchDecoded {
+    Batch(MvccCommitBatch),
+    Short,
+    Magic,
+    Refused(Refusal),
+}
+
+// An element of a vector: its bits, or there is none.
+pub enum ElementBits {
+    Bits(u32),
+    Beyond,
+}
+
+// An element of a vector as a float, where it is no NaN.
+pub enum Element {
+    Real(f32),
+    Nan(u32),
+    Beyond,
+}
+
+// ---- fields
+
+fn take_u8(body: &[u8], at: usize) -> NumField
+    ensures { λ r. ⌜ numAnswer r ≡ numAt 1 (now (body .entry)) at ⌝ }
+{
+    if at < body.len() {
+        return NumField::Taken(body[at] as u64, at + 1);
+    }
+    NumField::Short
+}
+
+fn take_u16(body: &[u8], at: usize) -> NumField
+    ensures { λ r. ⌜ numAnswer r ≡ numAt 2 (now (body .entry)) at ⌝ }
+{
+    if le::fits_in(body.len(), at, 2) {
+        return NumField::Taken(le::read_u16(body, at) as u64, at + 2);
+    }
+    NumField::Short
+}
+
+fn take_u32(body: &[u8], at: usize) -> NumField
+    ensures { λ r. ⌜ numAnswer r ≡ numAt 4 (now (body .entry)) at ⌝ }
+{
+    if le::fits_in(body.len(), at, 4) {
+        return NumField::Taken(le::read_u32(body, at) as u64, at + 4);
+    }
+    NumField::Short
+}
+
+fn take_u64(body: &[u8], at: usize) -> NumField
+    ensures { λ r. ⌜ numAnswer r ≡ numAt 8 (now (body .entry)) at ⌝ }
+{
+    if le::fits_in(body.len(), at, 8) {
+        return NumField::Taken(le::read_u64(body, at), at + 8);
+    }
+    NumField::Short
+}
+
+// The signed number with the bits of n.
+fn signed_of(n: u64) -> i64
+    ensures { λ r. ⌜ r ≡ signed n ⌝ }
+{
+    if n < 0x8000_0000_0000_0000 {
+        n as i64
+    } else {
+        -1 - ((0xffff_ffff_ffff_ffff - n) as i64)
+    }
+}
+
+// The float with the bits of n; a NaN stays its bits.
+fn real_of(n: u64) -> Value
+    ensures { λ r. ⌜ r ≡ realOf n ⌝ }
+{
+    if 0x7ff0_0000_0000_0000 < n % 0x8000_0000_0000_0000 {
+        Value::Nan(n)
+    } else {
+        Value::Real(f64::from_bits(n))
+    }
+}
+
+// The text of n bytes from `at` on.
+fn text_of(body: &[u8], at: usize, n: usize) -> TextField
+    ensures { λ r. ⌜ textAnswer r ≡ textOf (now (body .entry)) at n ⌝ }
+{
+    if le::fits_in(body.len(), at, n) {
+        let checked = text::from_utf8(le::part(body, at, n));
+        let text::Utf8::WellFormed = checked else {
+            return TextField::Refused(Refusal::Text);
+        };
+        return TextField::Taken(TextPlace { start: at, len: n }, at + n);
+    }
+    TextField::Refused(Refusal::Truncated)
+}
+
+// A text with a length of two bytes.
+fn read_str(body: &[u8], at: usize) -> TextField
+    ensures { λ r. ⌜ textAnswer r ≡ textAt 2 (now (body .entry)) at ⌝ }
+{
+    let NumField::Taken(n, next) = take_u16(body, at) else {
+        return TextField::Refused(Refusal::Truncated);
+    };
+    text_of(body, next, n as usize)
+}
+
+// ---- values
+
+fn integer_at(body: &[u8], at: usize) -> ValueField
+    ensures { λ r. ⌜ valueAnswer r ≡ integerAt (now (body .entry)) at ⌝ }
+{
+    let NumField::Taken(n, next) = take_u64(body, at) else {
+        return ValueField::Refused(Refusal::Truncated);
+    };
+    ValueField::Taken(Value::Integer(signed_of(n)), next)
+}
+
+fn real_at(body: &[u8], at: usize) -> ValueField
+    ensures { λ r. ⌜ valueAnswer r ≡ realAt (now (body .entry)) at ⌝ }
+{
+    let NumField::Taken(n, next) = take_u64(body, at) else {
+        return ValueField::Refused(Refusal::Truncated);
+    };
+    ValueField::Taken(real_of(n), next)
+}
+
+fn bool_at(body: &[u8], at: usize) -> ValueField
+    ensures { λ r. ⌜ valueAnswer r ≡ boolAt (now (body .entry)) at ⌝ }
+{
+    let NumField::Taken(n, next) = take_u8(body, at) else {
+        return ValueField::Refused(Refusal::Truncated);
+    };
+    ValueField::Taken(Value::Bool(n != 0), next)
+}
+
+// Why a text was refused, for the answer of which it is a part.
+fn why_text(t: TextField) -> Refusal
+    ensures { λ r. ⌜ r ≡ why (textAnswer t) ⌝ }
+{
+    match t {
+        TextField::Taken(_, _) => Refusal::Truncated,
+        TextField::Refused(k) => k,
+    }
+}
+
+fn text_value_at(body: &[u8], at: usize) -> ValueField
+    ensures { λ r. ⌜ valueAnswer r ≡ textValueAt (now (body .entry)) at ⌝ }
+{
+    let NumField::Taken(n, from) = take_u32(body, at) else {
+        return ValueField::Refused(Refusal::Truncated);
+    };
+    let t = text_of(body, from, n as usize);
+    let TextField::Taken(place, next) = t else {
+        return ValueField::Refused(why_text(t));
+    };
+    ValueField::Taken(Value::Text(place), next)
+}
+
+fn vector_at(body: &[u8], at: usize) -> ValueField
+    ensures { λ r. ⌜ valueAnswer r ≡ vectorAt (now (body .entry)) at ⌝ }
+{
+    let NumField::Taken(n, start) = take_u32(body, at) else {
+        return ValueField::Refused(Refusal::Truncated);
+    };
+    let count = n as usize;
+    if (body.len() - start) / 4 < count {
+        return ValueField::Refused(Refusal::Truncated);
+    }
+    ValueField::Taken(Value::Vector { start, count }, start + count * 4)
+}
+
+// The value at a cursor, with the next cursor.
+pub fn decode_value(body: &[u8], at: usize) -> ValueField
+    ensures { λ r. ⌜ valueAnswer r ≡ valueAt (now (body .entry)) at ⌝ }
+{
+    let NumField::Taken(tag, next) = take_u8(body, at) else {
+        return ValueField::Refused(Refusal::Truncated);
+    };
+    match tag {
+        0 => ValueField::Taken(Value::Null, next),
+        1 => integer_at(body, next),
+        2 => real_at(body, next),
+        3 => text_value_at(body, next),
+        4 => bool_at(body, next),
+        5 => vector_at(body, next),
+        _ => ValueField::Refused(Refusal::Tag),
+    }
+}
+
+fn why_value(v: ValueField) -> Refusal
+    ensures { λ r. ⌜ r ≡ why (valueAnswer v) ⌝ }
+{
+    match v {
+        ValueField::Taken(_, _) => Refusal::Truncated,
+        ValueField::Refused(k) => k,
+    }
+}
+
+// ---- columns and records
+
+// The column at a cursor, with the next cursor.
+pub fn decode_column(body: &[u8], at: usize) -> ColumnField
+    ensures { λ r. ⌜ columnAnswer r ≡ columnAt (now (body .entry)) at ⌝ }
+{
+    let t = read_str(body, at);
+    let TextField::Taken(name, next) = t else {
+        return ColumnField::Refused(why_text(t));
+    };
+    let v = decode_value(body, next);
+    let ValueField::Taken(value, end) = v else {
+        return ColumnField::Refused(why_value(v));
+    };
+    ColumnField::Taken(Column { name, value }, end)
+}
+
+fn why_column(c: ColumnField) -> Refusal
+    ensures { λ r. ⌜ r ≡ why (columnAnswer c) ⌝ }
+{
+    match c {
+        ColumnField::Taken(_, _) => Refusal::Truncated,
+        ColumnField::Refused(k) => k,
+    }
+}
+
+// The rest of a present record: its column count and its columns.
+fn present_at(body: &[u8], row: RowID, at: usize) -> RecordField
+    ensures { λ r. ⌜ recordAnswer r ≡ presentAt (now (body .entry)) row at ⌝ }
+{
+    let NumField::Taken(n, first) = take_u16(body, at) else {
+        return RecordField::Refused(Refusal::Truncated);
+    };
+    let count = n as usize;
+    let mut end = first;
+    let mut left = count;
+    while 0 < left {
+        let c = decode_column(body, end);
+        let ColumnField::Taken(_, next) = c else {
+            return RecordField::Refused(why_column(c));
+        };
+        end = next;
+        left -= 1;
+    }
+    RecordField::Taken(
+        MvccLogRecord {
+            row,
+            payload: VersionPayload::Present { count, first },
+        },
+        end,
+    )
+}
+
+// The record at a cursor, with the next cursor. Its op is judged after its table and its row id are read.
+pub fn decode_record(body: &[u8], at: usize) -> RecordField
+    ensures { λ r. ⌜ recordAnswer r ≡ recordAt (now (body .entry)) at ⌝ }
+{
+    let NumField::Taken(op, named) = take_u8(body, at) else {
+        return RecordField::Refused(Refusal::Truncated);
+    };
+    let t = read_str(body, named);
+    let TextField::Taken(table, next) = t else {
+        return RecordField::Refused(why_text(t));
+    };
+    let NumField::Taken(n, rest) = take_u64(body, next) else {
+        return RecordField::Refused(Refusal::Truncated);
+    };
+    let row = RowID {
+        table,
+        rowid: signed_of(n),
+    };
+    match op {
+        0 => RecordField::Taken(
+            MvccLogRecord {
+                row,
+                payload: VersionPayload::Tombstone,
+            },
+            rest,
+        ),
+        1 => present_at(body, row, rest),
+        _ => RecordField::Refused(Refusal::Tag),
+    }
+}
+
+fn why_record(r: RecordField) -> Refusal
+    ensures { λ k. ⌜ k ≡ why (recordAnswer r) ⌝ }
+{
+    match r {
+        RecordField::Taken(_, _) => Refusal::Truncated,
+        RecordField::Refused(k) => k,
+    }
+}
+
+impl MvccCommitBatch {
+    // A batch's body: its heading and its records. Bytes after the last record are ignored.
+    pub fn decode(body: &[u8]) -> BatchDecoded
+        ensures { λ r. ⌜ r ≡ batchOf (now (body .entry)) ⌝ }
+    {
+        if body.len() < 18 {
+            return BatchDecoded::Short;
+        }
+        if le::read_u64(body, 0) != 0x3130_3030_4343_564d {
+            return BatchDecoded::Magic;
+        }
+        let commit_ts = le::read_u64(body, 8);
+        let records = le::read_u16(body, 16) as usize;
+        let mut end: usize = 18;
+        let mut left = records;
+        while 0 < left {
+            let r = decode_record(body, end);
+            let RecordField::Taken(_, next) = r else {
+                return BatchDecoded::Refused(why_record(r));
+            };
+            end = next;
+            left -= 1;
+        }
+        BatchDecoded::Batch(MvccCommitBatch {
+            commit_ts,
+            records,
+            end,
+        })
+    }
+}
+
+// Document 01's number for a body that does not decode; 0 for one that does.
+pub fn refusal_number(body: &[u8]) -> u8
+    ensures { λ r. ⌜ r ≡ refusalOf (now (body .entry)) ⌝ }
+{
+    let d = MvccCommitBatch::decode(body);
+    match d {
+        BatchDecoded::Batch(_) => 0,
+        BatchDecoded::Short => 2,
+        BatchDecoded::Magic => 3,
+        BatchDecoded::Refused(k) => match k {
+            Refusal::Truncated => 17,
+            Refusal::Tag => 18,
+            Refusal::Text => 19,
+        },
+    }
+}
+
+// ---- what stands at a place
+
+// A text's bytes: that part of the body.
+pub fn text(body: &[u8], place: TextPlace) -> &[u8]
+    ensures { λ r. ⌜ now r ≡ take (place .len) (drop (place .start) (now (body .entry))) ⌝ }
+{
+    let start = place.start;
+    let len = place.len;
+    le::part(body, start, len)
+}
+
+// The bits of the element with index i of a vector.
+pub fn vector_bits(body: &[u8], start: usize, count: usize, i: usize) -> ElementBits
+    ensures { λ r. ⌜ r ≡ bitsAt (now (body .entry)) start count i ⌝ }
+{
+    if i < count {
+        if start <= body.len() {
+            if i < (body.len() - start) / 4 {
+                return ElementBits::Bits(le::read_u32(body, start + 4 * i));
+            }
+        }
+    }
+    ElementBits::Beyond
+}
+
+// The element with index i of a vector as a float.
+pub fn vector_f32(body: &[u8], start: usize, count: usize, i: usize) -> Element
+    ensures { λ r. ⌜ r ≡ elementAt (now (body .entry)) start count i ⌝ }
+{
+    let ElementBits::Bits(n) = vector_bits(body, start, count, i) else {
+        return Element::Beyond;
+    };
+    if 0x7f80_0000 < n % 0x8000_0000 {
+        return Element::Nan(n);
+    }
+    Element::Real(f32::from_bits(n))
+}
