@@ -6,8 +6,14 @@ ghost use lib.ListN.{drop, take};
 ghost use Rattle.mvcc.specs.Answer.{why};
 ghost use Rattle.mvcc.specs.Fields.{numAnswer, textAnswer, valueAnswer, columnAnswer, recordAnswer};
 ghost use Rattle.mvcc.specs.Decode.{numAt, textOf, textAt, signed, realOf, integerAt, realAt, boolAt, textValueAt, vectorAt, valueAt, columnAt, presentAt, recordAt, batchOf};
-ghost use Rattle.mvcc.specs.Seen.{refusalOf};
+ghost use Rattle.mvcc.specs.Seen.{refusalOf, decodes};
 ghost use Rattle.mvcc.specs.Vector.{bitsAt, elementAt};
+
+// The page number of a frame that holds a batch in place of a page.
+pub const MVCC_FRAME_MARKER: u32 = 0xffff_ffff;
+
+// The leading bytes of a body, `MVCC0001`, as one number.
+const MVCC_BODY_MAGIC: u64 = 0x3130_3030_4343_564d;
 
 // Where a text stands in the body.
 pub struct TextPlace {
@@ -388,7 +394,7 @@ impl MvccCommitBatch {
         if body.len() < 18 {
             return BatchDecoded::Short;
         }
-        if le::read_u64(body, 0) != 0x3130_3030_4343_564d {
+        if le::read_u64(body, 0) != MVCC_BODY_MAGIC {
             return BatchDecoded::Magic;
         }
         let commit_ts = le::read_u64(body, 8);
@@ -426,6 +432,13 @@ pub fn refusal_number(body: &[u8]) -> u8
             Refusal::Text => 19,
         },
     }
+}
+
+// Whether a body decodes.
+pub fn decodes(body: &[u8]) -> bool
+    ensures { λ r. ⌜ r ≡ decodes (now (body .entry)) ⌝ }
+{
+    refusal_number(body) == 0
 }
 
 // ---- what stands at a place
