@@ -50,14 +50,28 @@ module _ (page count salt : ℕ) (body : List ℕ) where
       let t : take 12 (encodeFrame page count salt body) ≡ heading page count salt = take-at (heading page count salt) _ 12 (length-heading page count salt) in
       rw (t, body-back)
 
-  pub header-back : length body ≡ 4096 → page < 2 ^ 32 → count < 2 ^ 32 → salt < 2 ^ 32
+  -- the heading is wholly there
+  pub whole-back : (k : ℕ) → k + 4 ≤ 16 → wholeField 4 k (encodeFrame page count salt body) ≡ field 4 k (encodeFrame page count salt body)
+  unfolding encodeFrame
+  whole-back k h =
+      let n : k + 4 ≤ length (encodeFrame page count salt body) = simp (length-append, length-heading, length-leBytes) (omega arith) in
+      field-whole 4 k (encodeFrame page count salt body) n
+
+  pub header-back : page < 2 ^ 32 → count < 2 ^ 32 → salt < 2 ^ 32
       → headerOf (encodeFrame page count salt body)
       ≡ record { «page_num» = page; «commit_page_count» = count; salt = salt; checksum = frameSum page count salt body }
   unfolding headerOf
-  header-back n p c s =
-      let w : (k : ℕ) → k + 4 ≤ 16 → wholeField 4 k (encodeFrame page count salt body) ≡ field 4 k (encodeFrame page count salt body) =
-      λ k h. field-whole 4 k (encodeFrame page count salt body) (rw (length-encodeFrame page count salt body n) (omega arith)) in
-      rw (w 0 (omega arith), w 4 (omega arith), w 8 (omega arith), w 12 (omega arith), page-back p, count-back c, salt-back s, sum-back)
+  header-back p c s =
+      rw (
+        whole-back 0 (omega arith),
+        whole-back 4 (omega arith),
+        whole-back 8 (omega arith),
+        whole-back 12 (omega arith),
+        page-back p,
+        count-back c,
+        salt-back s,
+        sum-back,
+      )
 
   pub intact-back : salt < 2 ^ 32 → intact salt (encodeFrame page count salt body) ≡ true
   unfolding intact

@@ -1,0 +1,14 @@
+-- The root of the laws of `wal`.
+pub mod Encoding
+pub mod Decoding
+pub mod HeaderRoundTrip
+pub mod Places
+pub mod Frames
+pub mod Recovered
+pub mod Laid
+pub mod Opening
+pub mod Replay
+pub mod Reading
+pub mod Writing
+pub mod Lengths
+pub mod Sample

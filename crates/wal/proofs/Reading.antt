@@ -1,0 +1,139 @@
+-- Looking up pages, batches and frames by their places, and what that means for an open log. Assumes nothing.
+use mathlib.Core.Path.{_≡_, refl, sym, _∙_}
+use mathlib.Core.Bool.{Bool, true, false}
+use mathlib.Core.List.{List, [], _∷_}
+use Prim.Native.Nat.{ℕ, zero, suc, _+_, _-_, _/_, _≤_, _<_}
+use native.Mathlib.Nat.{add-zero}
+use native.Mathlib.Numerals.{add-one}
+use native.Mathlib.Omega.{arith}
+use borrow.Author.Tests.{eq-eqb, ne-eqb, lt-ltb, le-ltb}
+use lib.ListN.{length, take, drop, getD}
+use lib.Seq.{take-all, getD-drop, drop-drop}
+use Rattle.le.specs.Choice.{pick}
+use Rattle.frame.specs.Frame.{frameAt, headerOf, bodyOf}
+use Rattle.wal.specs.Recovery.{chunks, chunkAt, pageOf, isBatch, pageIn, batchesIn, recovered, sealedFrames, walOf}
+use Rattle.wal.specs.Read.{committed, readPage, frameIn, batchFrom, nextBatch}
+use Rattle.wal.specs.declared.Wal.{Wal}
+use Rattle.wal.specs.declared.FrameFound.the-variants as found
+use Rattle.wal.specs.declared.BatchFound.{BatchFound}
+use Rattle.wal.specs.declared.BatchFound.the-variants as batch
+use Rattle.wal.proofs.Places.{length-chunks, chunk-gone, chunk-there, get-chunk, take-chunk}
+use Rattle.wal.proofs.Frames.{pageIn-snoc}
+use Rattle.wal.proofs.Recovered.{committed-sealed}
+use Rattle.wal.proofs.Opening.{known-commit}
+
+-- ---- a page, from the last chunk back
+
+module _ (l : List ℕ) (p : ℕ) where
+  pub page-start : (n : ℕ) → n ≡ (length l - 32) / 4112 → pageIn p (take n (chunks l)) ≡ pageIn p (chunks l)
+  page-start n e = rw (take-all n (chunks l) (omega (arith, length-chunks l)))
+
+  pub page-here : (i : ℕ) → 0 < i → i ≤ (length l - 32) / 4112 → pageOf (frameAt (chunkAt (i - 1)) l) ≡ p
+      → frameAt (chunkAt (i - 1)) l ≡ pageIn p (take i (chunks l))
+  page-here zero h k e = absurd (omega arith)
+  page-here (suc i) h k e =
+      let m : suc i - 1 ≡ i = omega arith in
+      let f : pageOf (frameAt (chunkAt i) l) ≡ p = rw m at e in
+      rw (m, take-chunk i l (omega arith), pageIn-snoc p (take i (chunks l)) (frameAt (chunkAt i) l), eq-eqb _ _ f)
+
+  pub page-before : (i : ℕ) → 0 < i → i ≤ (length l - 32) / 4112 → (pageOf (frameAt (chunkAt (i - 1)) l) ≡ p → ⊥)
+      → pageIn p (take (i - 1) (chunks l)) ≡ pageIn p (take i (chunks l))
+  page-before zero h k e = absurd (omega arith)
+  page-before (suc i) h k e =
+      let m : suc i - 1 ≡ i = omega arith in
+      let f : pageOf (frameAt (chunkAt i) l) ≡ p → ⊥ = rw m at e in
+      rw (m, take-chunk i l (omega arith), pageIn-snoc p (take i (chunks l)) (frameAt (chunkAt i) l), ne-eqb _ _ f)
+
+  pub page-none : (i : ℕ) → i ≡ 0 → pageIn p (take i (chunks l)) ≡ []
+  unfolding pageIn
+  page-none i e = rw e
+
+-- ---- a batch
+
+module _ (l : List ℕ) (i : ℕ) where
+  pub batch-here : i < (length l - 32) / 4112 → pageOf (frameAt (chunkAt i) l) ≡ 4294967295
+      → batch.Batch i (chunkAt i) ≡ batchFrom i (drop i (chunks l))
+  unfolding batchFrom
+  batch-here h e = rw (chunk-there i l (omega arith), eq-eqb _ _ e)
+
+  pub batch-later : i < (length l - 32) / 4112 → (pageOf (frameAt (chunkAt i) l) ≡ 4294967295 → ⊥)
+      → batchFrom (i + 1) (drop (i + 1) (chunks l)) ≡ batchFrom i (drop i (chunks l))
+  unfolding batchFrom
+  batch-later h e = rw (chunk-there i l (omega arith), ne-eqb _ _ e, add-one)
+
+  pub batch-none : (length l - 32) / 4112 ≤ i → batch.Nothing ≡ batchFrom i (drop i (chunks l))
+  unfolding batchFrom
+  batch-none h = rw (chunk-gone i l (omega arith))
+
+-- ---- a frame at an index
+
+module _ (l : List ℕ) (i : ℕ) where
+  pub frame-there : i < (length l - 32) / 4112 → found.Frame (chunkAt i) (headerOf (frameAt (chunkAt i) l)) ≡ frameIn l i
+  unfolding frameIn
+  frame-there h = rw (length-chunks l, lt-ltb _ _ h, get-chunk i l (omega arith))
+
+  pub frame-gone : (length l - 32) / 4112 ≤ i → found.Nothing ≡ frameIn l i
+  unfolding frameIn
+  frame-gone h = rw (length-chunks l, le-ltb _ _ h)
+
+-- ---- an open log
+
+module _ (l : List ℕ) (w : Wal) (k : w ≡ walOf (length l) (recovered l)) where
+  -- the chunks that reads go through are the sealed frames
+  pub known-committed : committed (w .«last_commit_offset») l ≡ sealedFrames (recovered l)
+  known-committed = rw (known-commit l w k) (committed-sealed l)
+
+  -- "Per page the last sealed frame counts"
+  pub known-page : (p : ℕ) → (p ≡ 4294967295 → ⊥) → readPage l (w .«last_commit_offset») p ≡ bodyOf (pageIn p (sealedFrames (recovered l)))
+  unfolding readPage
+  known-page p n = rw (ne-eqb p 4294967295 n, known-committed)
+
+  -- "batches come in log order"
+  pub known-batch : (i : ℕ) → nextBatch l (w .«last_commit_offset») i ≡ batchFrom i (drop i (sealedFrames (recovered l)))
+  unfolding nextBatch
+  known-batch i = rw known-committed
+
+-- ---- walking the batches
+
+-- the batches of frames at or behind index i: the one at j, and those behind it
+pub record First (fs : List (List ℕ)) (i j at : ℕ) : Type 0 where
+  pub behind : i ≤ j
+  pub place : at ≡ chunkAt j
+  pub batches : batchesIn (drop i fs) ≡ getD fs j [] ∷ batchesIn (drop (j + 1) fs)
+
+abbrev pub Walked : List (List ℕ) → ℕ → BatchFound → Type 0
+Walked fs i batch.Nothing = batchesIn (drop i fs) ≡ []
+Walked fs i (batch.Batch j at) = First fs i j at
+
+first-of : (fs : List (List ℕ)) (i : ℕ) (f : List ℕ) (rest : List (List ℕ)) → drop i fs ≡ f ∷ rest → getD fs i [] ≡ f
+first-of fs i f rest d =
+    let e : getD (drop i fs) 0 [] ≡ getD fs (i + 0) [] = getD-drop i fs 0 [] in
+    sym (rw add-zero at e) ∙ rw d
+
+module _ (fs : List (List ℕ)) (i : ℕ) (f : List ℕ) (rest : List (List ℕ)) (d : drop i fs ≡ f ∷ rest) (d₁ : drop (i + 1) fs ≡ rest) where
+  no-batch : isBatch f ≡ false → batchesIn (drop i fs) ≡ batchesIn (drop (i + 1) fs)
+  unfolding batchesIn
+  no-batch e = rw (d, d₁, e)
+
+  later : isBatch f ≡ false → (r : BatchFound) → Walked fs (i + 1) r → Walked fs i r
+  later e batch.Nothing w = no-batch e ∙ w
+  later e (batch.Batch j at) w = record { behind = omega (arith, w .behind); place = w .place; batches = no-batch e ∙ w .batches }
+
+  walked-cons : (b : Bool) → isBatch f ≡ b → Walked fs (i + 1) (batchFrom (i + 1) rest)
+      → Walked fs i (pick b (batch.Batch i (chunkAt i)) (batchFrom (i + 1) rest))
+  unfolding batchesIn
+  walked-cons true e w =
+      let g : getD fs i [] ≡ f = first-of fs i f rest d in
+      record { behind = omega arith; place = refl; batches = rw (d, d₁, e, g) }
+  walked-cons false e w = later e (batchFrom (i + 1) rest) w
+
+walked : (fs : List (List ℕ)) (i : ℕ) (rest : List (List ℕ)) → drop i fs ≡ rest → Walked fs i (batchFrom i rest)
+unfolding batchFrom batchesIn
+walked fs i [] d = rw d
+walked fs i (f ∷ rest) d =
+    let d₁ : drop (i + 1) fs ≡ rest = sym (drop-drop 1 i fs) ∙ rw d in
+    walked-cons fs i f rest d d₁ (isBatch f) refl (walked fs (i + 1) rest d₁)
+
+-- a walk from index 0, each time on behind the batch that was found, meets `batchesIn`, in order
+pub batches-walked : (fs : List (List ℕ)) (i : ℕ) → Walked fs i (batchFrom i (drop i fs))
+batches-walked fs i = walked fs i (drop i fs) refl

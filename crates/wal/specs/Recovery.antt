@@ -1,0 +1,176 @@
+-- What reading a log finds: document 01's line on `wal.rs`, from "Frames stand at" to "a final undecodable batch frame".
+-- A frame is the list of its 4,112 bytes.
+use mathlib.Core.Bool.{Bool, true, false}
+use mathlib.Core.List.{List, [], _∷_, foldl}
+use Prim.Native.Nat.{ℕ, zero, suc, _+_, _*_, _/_}
+use lib.Dec.{leb, eqb}
+use lib.ListN.{length, take, drop}
+use Rattle.le.specs.Choice.{pick, both}
+use Rattle.frame.specs.Frame.{frameSize, frameAt, headerOf, bodyOf, isCommit, intact, intactAt}
+use Rattle.mvcc.specs.Seen.{decodes}
+use Rattle.wal.specs.Header.{headerSize, headerIn, decodeWalHeader}
+use Rattle.wal.specs.declared.WalHeader.{WalHeader}
+use Rattle.wal.specs.declared.WalHeaderDecoded.{WalHeaderDecoded}
+use Rattle.wal.specs.declared.WalHeaderDecoded.the-variants as decoded
+use Rattle.wal.specs.declared.LastCommit.{LastCommit}
+use Rattle.wal.specs.declared.LastCommit.the-variants as commit
+use Rattle.wal.specs.declared.Wal.{Wal}
+use Rattle.wal.specs.declared.WalOpened.{WalOpened}
+use Rattle.wal.specs.declared.WalOpened.the-variants as opened
+
+-- ---- frames by their places
+
+-- the first n runs of a frame's size
+unfoldable pub runs : ℕ → List ℕ → List (List ℕ)
+runs zero l = []
+runs (suc n) l = take frameSize l ∷ runs n (drop frameSize l)
+
+-- all runs that lie wholly inside l
+unfoldable pub wholeRuns : List ℕ → List (List ℕ)
+wholeRuns l = runs (length l / frameSize) l
+
+-- "Frames stand at 32 + 4,112 × i", "wholly inside the length"
+unfoldable pub chunks : List ℕ → List (List ℕ)
+chunks l = wholeRuns (drop headerSize l)
+
+-- the place of the chunk at an index
+abbrev pub chunkAt : ℕ → ℕ
+chunkAt i = headerSize + frameSize * i
+
+-- ---- one frame
+
+abbrev pub pageOf : List ℕ → ℕ
+pageOf f = headerOf f .«page_num»
+
+abbrev pub countOf : List ℕ → ℕ
+countOf f = headerOf f .«commit_page_count»
+
+-- "A nonzero commit count seals"
+abbrev pub seals : List ℕ → Bool
+seals f = isCommit (headerOf f)
+
+-- "page 4294967295 (a batch)"
+abbrev pub batchPage : ℕ
+batchPage = 4294967295
+
+abbrev pub isBatch : List ℕ → Bool
+isBatch f = eqb (pageOf f) batchPage
+
+-- "for page 4294967295 (a batch), the body decodes"
+abbrev pub readable : List ℕ → Bool
+readable f = pick (isBatch f) (decodes (bodyOf f)) true
+
+-- "A frame is good if wholly inside the length, salt and checksum agree and, for page 4294967295 (a batch), the body decodes"
+unfoldable pub good : ℕ → List ℕ → Bool
+good salt f = both (intact salt f) (readable f)
+
+-- the same at a place of the log
+unfoldable pub goodAt : List ℕ → ℕ → ℕ → Bool
+goodAt l at salt = both (intactAt l at salt) (readable (frameAt at l))
+
+-- ---- lists of frames
+
+-- "Reading stops at the first frame that isn't"
+unfoldable pub goodFront : ℕ → List (List ℕ) → List (List ℕ)
+goodFront salt [] = []
+goodFront salt (f ∷ fs) =
+    let rest = goodFront salt fs in
+    pick (good salt f) (f ∷ rest) []
+
+-- whether it stops at "a final undecodable batch frame": one that isn't good although salt and checksum agree
+unfoldable pub undecodable : ℕ → List (List ℕ) → Bool
+undecodable salt [] = false
+undecodable salt (f ∷ fs) =
+    let rest = undecodable salt fs in
+    pick (good salt f) rest (intact salt f)
+
+-- f before some sealed frames; where there are none, f if it seals
+abbrev pub sealedFrom : List ℕ → List (List ℕ) → List (List ℕ)
+sealedFrom f [] = pick (seals f) (f ∷ []) []
+sealedFrom f (g ∷ gs) = f ∷ g ∷ gs
+
+-- the longest front part that ends in a seal
+unfoldable pub sealed : List (List ℕ) → List (List ℕ)
+sealed [] = []
+sealed (f ∷ fs) = sealedFrom f (sealed fs)
+
+-- the commit count of the last frame
+unfoldable pub lastCount : List (List ℕ) → LastCommit
+lastCount fs = foldl (λ (found : LastCommit) (f : List ℕ). commit.Count (countOf f)) commit.Nothing fs
+
+-- "Per page the last sealed frame counts": the last frame of the page, or no byte
+unfoldable pub pageIn : ℕ → List (List ℕ) → List ℕ
+pageIn p fs = foldl (λ (found f : List ℕ). pick (eqb (pageOf f) p) f found) [] fs
+
+-- "batches come in log order"
+unfoldable pub batchesIn : List (List ℕ) → List (List ℕ)
+batchesIn [] = []
+batchesIn (f ∷ fs) =
+    let rest = batchesIn fs in
+    pick (isBatch f) (f ∷ rest) rest
+
+-- ---- a whole log
+
+-- all that reading finds: the header, the good frames, and whether an undecodable batch ended it
+pub record Recovered : Type 0 where
+  pub header : WalHeader
+  pub frames : List (List ℕ)
+  pub stopped : Bool
+
+unfoldable pub recovered : List ℕ → Recovered
+recovered l =
+    let salt = headerIn l .salt in
+    record { header = headerIn l; frames = goodFront salt (chunks l); stopped = undecodable salt (chunks l) }
+
+abbrev pub sealedFrames : Recovered → List (List ℕ)
+sealedFrames r = sealed (r .frames)
+
+-- "The commit point is the end of the last seal, else 32"
+abbrev pub commitPoint : Recovered → ℕ
+commitPoint r = chunkAt (length (sealedFrames r))
+
+-- the last seal's count, or none
+abbrev pub lastCommit : Recovered → LastCommit
+lastCommit r = lastCount (sealedFrames r)
+
+-- "The frame count includes an unsealed good frame and a final undecodable batch frame"
+abbrev pub frameCount : Recovered → ℕ
+frameCount r = length (r .frames) + pick (r .stopped) 1 0
+
+-- ---- opening
+
+-- what an open log of a length holds
+unfoldable pub walOf : ℕ → Recovered → Wal
+walOf n r =
+    record {
+      header = r .header;
+      len = n;
+      «last_commit_offset» = commitPoint r;
+      «last_commit_page_count» = lastCommit r;
+      «frame_count» = frameCount r;
+    }
+
+-- "Log area 4,210,720 bytes (1,024 frames)"
+abbrev pub walArea : ℕ
+walArea = 4210720
+
+-- the header's refusals, else the log
+abbrev pub openedBy : WalHeaderDecoded → Wal → WalOpened
+openedBy (decoded.Header h) w = opened.Opened w
+openedBy decoded.Short w = opened.Short
+openedBy decoded.Magic w = opened.Magic
+openedBy decoded.Version w = opened.Version
+openedBy decoded.PageSize w = opened.PageSize
+
+-- "a log read without the pager may be any bytes up to the log area's length": longer is refusal 1, then come the header's
+unfoldable pub openLog : List ℕ → WalOpened
+openLog l = pick (leb (length l) walArea) (openedBy (decodeWalHeader l) (walOf (length l) (recovered l))) opened.Area
+
+-- document 01's numbers; 0 is an open log
+abbrev pub openRefusal : WalOpened → ℕ
+openRefusal (opened.Opened w) = 0
+openRefusal opened.Area = 1
+openRefusal opened.Short = 2
+openRefusal opened.Magic = 3
+openRefusal opened.Version = 4
+openRefusal opened.PageSize = 5

@@ -1,0 +1,137 @@
+-- What creating, truncating, appending and setting the clock answer and leave. In a refusal's number 0 is none.
+use mathlib.Core.Bool.{Bool}
+use mathlib.Core.List.{List}
+use Prim.Native.Nat.{ℕ, _+_, _%_, _^_}
+use lib.Dec.{leb, eqb}
+use lib.ListN.{length}
+use Rattle.le.specs.Choice.{pick, both}
+use Rattle.le.specs.Le.{put}
+use Rattle.page.specs.Page.{pageSize}
+use Rattle.frame.specs.Frame.{frameSize, encodeFrame}
+use Rattle.wal.specs.Header.{headerSize, walVersion, encodeWalHeader}
+use Rattle.wal.specs.Recovery.{walArea}
+use Rattle.wal.specs.declared.WalHeader.{WalHeader}
+use Rattle.wal.specs.declared.LastCommit.the-variants as commit
+use Rattle.wal.specs.declared.Wal.{Wal}
+use Rattle.wal.specs.declared.WalCreated.{WalCreated}
+use Rattle.wal.specs.declared.WalCreated.the-variants as created
+use Rattle.wal.specs.declared.WalTruncated.{WalTruncated}
+use Rattle.wal.specs.declared.WalTruncated.the-variants as truncated
+use Rattle.wal.specs.declared.FrameAppended.{FrameAppended}
+use Rattle.wal.specs.declared.FrameAppended.the-variants as appended
+use Rattle.wal.specs.declared.ClockSet.{ClockSet}
+use Rattle.wal.specs.declared.ClockSet.the-variants as clock
+
+-- ---- a log of its header alone
+
+-- an open log without frames
+unfoldable pub emptyWal : WalHeader → Wal
+emptyWal h =
+    record {
+      header = h;
+      len = headerSize;
+      «last_commit_offset» = headerSize;
+      «last_commit_page_count» = commit.Nothing;
+      «frame_count» = 0;
+    }
+
+-- the area with the header stored in front, where its length is the log area's; the bytes behind stay
+unfoldable pub headed : List ℕ → WalHeader → List ℕ
+headed l h = pick (eqb (length l) walArea) (put l 0 (encodeWalHeader h)) l
+
+-- "Salts come from the caller": a new log's header
+unfoldable pub createdHeader : ℕ → WalHeader
+createdHeader salt = record { version = walVersion; salt = salt; «checkpoint_seq» = 0; «clock_high_water» = 0 }
+
+-- refusal 1: "a wrong area length"
+unfoldable pub createAnswer : List ℕ → ℕ → WalCreated
+createAnswer l salt = pick (eqb (length l) walArea) (created.Created (emptyWal (createdHeader salt))) created.Area
+
+abbrev pub createAfter : List ℕ → ℕ → List ℕ
+createAfter l salt = headed l (createdHeader salt)
+
+abbrev pub createRefusal : WalCreated → ℕ
+createRefusal (created.Created w) = 0
+createRefusal created.Area = 1
+
+-- "log length 32; log header with the next sequence and the given salt"; "checkpoint sequence (4, wraps)"
+unfoldable pub truncatedHeader : WalHeader → ℕ → WalHeader
+truncatedHeader h salt =
+    record {
+      version = walVersion;
+      salt = salt;
+      «checkpoint_seq» = (h .«checkpoint_seq» + 1) % 2 ^ 32;
+      «clock_high_water» = h .«clock_high_water»;
+    }
+
+unfoldable pub truncateAnswer : List ℕ → Wal → ℕ → WalTruncated
+truncateAnswer l w salt =
+    pick (eqb (length l) walArea) (truncated.Truncated (emptyWal (truncatedHeader (w .header) salt))) truncated.Area
+
+abbrev pub truncateAfter : List ℕ → Wal → ℕ → List ℕ
+truncateAfter l w salt = headed l (truncatedHeader (w .header) salt)
+
+abbrev pub truncateRefusal : WalTruncated → ℕ
+truncateRefusal (truncated.Truncated w) = 0
+truncateRefusal truncated.Area = 1
+
+-- ---- one frame more
+
+-- the log one frame longer; "A nonzero commit count seals"
+unfoldable pub withFrame : Wal → ℕ → Wal
+withFrame w count =
+    let plain = eqb count 0 in
+    let end = w .len + frameSize in
+    record {
+      header = w .header;
+      len = end;
+      «last_commit_offset» = pick plain (w .«last_commit_offset») end;
+      «last_commit_page_count» = pick plain (w .«last_commit_page_count») (commit.Count count);
+      «frame_count» = (w .«frame_count» + 1) % 2 ^ 64;
+    }
+
+-- a page, the log's area, and a length within it
+abbrev pub appendable : List ℕ → Wal → List ℕ → Bool
+appendable l w body = both (eqb (length body) pageSize) (both (eqb (length l) walArea) (leb (w .len) walArea))
+
+-- 15: "length + 4,112 × frames to add is above 4,210,720"
+abbrev pub hasRoom : Wal → Bool
+hasRoom w = leb (w .len + frameSize) walArea
+
+-- refusals in the order of their numbers
+unfoldable pub appendAnswer : List ℕ → Wal → List ℕ → ℕ → FrameAppended
+appendAnswer l w body count =
+    pick (appendable l w body) (pick (hasRoom w) (appended.Appended (withFrame w count)) appended.LogFull) appended.Area
+
+-- "An added frame lands at the log's length, even where a torn tail leaves that off the frame places"
+unfoldable pub appendAfter : List ℕ → Wal → ℕ → List ℕ → ℕ → List ℕ
+appendAfter l w page body count =
+    pick (both (appendable l w body) (hasRoom w)) (put l (w .len) (encodeFrame page count (w .header .salt) body)) l
+
+abbrev pub appendRefusal : FrameAppended → ℕ
+appendRefusal (appended.Appended w) = 0
+appendRefusal appended.Area = 1
+appendRefusal appended.LogFull = 15
+
+-- ---- the clock
+
+-- the log with another clock
+unfoldable pub withClock : Wal → ℕ → Wal
+withClock w value =
+    let h = w .header in
+    record {
+      header =
+          record { version = h .version; salt = h .salt; «checkpoint_seq» = h .«checkpoint_seq»; «clock_high_water» = value };
+      len = w .len;
+      «last_commit_offset» = w .«last_commit_offset»;
+      «last_commit_page_count» = w .«last_commit_page_count»;
+      «frame_count» = w .«frame_count»;
+    }
+
+-- 16: "set below the present clock"
+unfoldable pub clockAnswer : Wal → ℕ → ClockSet
+clockAnswer w value = pick (leb (w .header .«clock_high_water») value) (clock.Set (withClock w value)) clock.Clock
+
+abbrev pub clockRefusal : ClockSet → ℕ
+clockRefusal (clock.Set w) = 0
+clockRefusal clock.Clock = 16
