@@ -1,11 +1,13 @@
 -- Document 01's starred cases, one row each, in its order. `cases`, at the end, proves them all.
 use mathlib.Core.Path.{_≡_, refl}
 use mathlib.Core.List.{List, [], _∷_}
-use Prim.Native.Nat.{ℕ}
-use lib.ListN.{replicate}
+use Prim.Native.Nat.{ℕ, _≤_}
+use lib.ListN.{length, replicate}
 use Rattle.le.specs.Le.{leBytes}
 use Rattle.checksum.specs.Checksum.{sumFrom}
 use Rattle.frame.specs.Frame.{heading, frameSum}
+use Rattle.wal.specs.Recovery.{recovered, frameCount}
+use Rattle.wal.proofs.Lengths.{none-32, none-4143, one-4144, one-8255, two-8256}
 use Rattle.text.specs.Utf8.{two, three, four, size, after, wellFormed, utf8Of, refusal}
 
 -- a page of zeros
@@ -13,6 +15,12 @@ abbrev zeros : List ℕ
 zeros = replicate 4096 0
 
 pub record Cases : Type 0 where
+  -- "Lengths 32 and 4,143: no frame; 4,144 and 8,255: at most one; 8,256: at most two"
+  pub length-32 : (l : List ℕ) → length l ≡ 32 → frameCount (recovered l) ≤ 0
+  pub length-4143 : (l : List ℕ) → length l ≡ 4143 → frameCount (recovered l) ≤ 0
+  pub length-4144 : (l : List ℕ) → length l ≡ 4144 → frameCount (recovered l) ≤ 1
+  pub length-8255 : (l : List ℕ) → length l ≡ 8255 → frameCount (recovered l) ≤ 1
+  pub length-8256 : (l : List ℕ) → length l ≡ 8256 → frameCount (recovered l) ≤ 2
   -- "Salt 0, zero body: page 0, count 0 has checksum 0; page 1, count 0 has 2048; page 1, count 2 has 2304"
   pub sum-page-0-count-0 : frameSum 0 0 0 zeros ≡ 0
   pub sum-page-1-count-0 : frameSum 1 0 0 zeros ≡ 2048
@@ -28,6 +36,11 @@ pub cases : Cases
 unfolding frameSum heading leBytes sumFrom wellFormed after size two three four
 cases =
     record {
+      length-32 = none-32;
+      length-4143 = none-4143;
+      length-4144 = one-4144;
+      length-8255 = one-8255;
+      length-8256 = two-8256;
       sum-page-0-count-0 = refl;
       sum-page-1-count-0 = refl;
       sum-page-1-count-2 = refl;
