@@ -18,6 +18,7 @@ use Rattle.le.specs.Choice.{pick}
 use Rattle.le.specs.Le.{field, wholeField}
 use Rattle.le.proofs.Fields.{field-whole}
 use Rattle.text.specs.Utf8.{wellFormed, utf8Of}
+use Rattle.text.proofs.Answers.{well-is, ill-is}
 use Rattle.text.specs.declared.Utf8.{Utf8}
 use Rattle.text.specs.declared.Utf8.the-variants.{WellFormed, IllFormed}
 use Rattle.mvcc.specs.Answer.{Answer, taken, refused, then, many, why}
@@ -136,14 +137,6 @@ module _ (n : ℕ) where
   no-nan32 h = nanBits-above binary32 n ∙ le-ltb _ _ h
 
 -- ---- texts
-
-well-is : (b : Bool) → pick b WellFormed IllFormed ≡ WellFormed → b ≡ true
-well-is true e = refl
-well-is false e = let z : _≡_ {A = ℕ} 0 1 = cc in absurd (omega arith)
-
-ill-is : (b : Bool) → pick b WellFormed IllFormed ≡ IllFormed → b ≡ false
-ill-is true e = let z : _≡_ {A = ℕ} 0 1 = cc in absurd (omega arith)
-ill-is false e = refl
 
 module _ (s : List ℕ) (at n : ℕ) where
   pub text-good : {l : List ℕ} {u : Utf8} → fitsIn s at n ≡ true → l ≡ take n (drop at s) → u ≡ utf8Of l → u ≡ WellFormed

@@ -37,12 +37,12 @@ abbrev pub When : {A : Type 0} → (A → ℕ → Type 0) → Answer A → Type 
 When P (taken a next) = P a next
 When P (refused k) = Unit
 
-then-when : {A B : Type 0} (P : A → ℕ → Type 0) (Q : B → ℕ → Type 0) (x : Answer A) (f : A → ℕ → Answer B) → When P x
+pub then-when : {A B : Type 0} (P : A → ℕ → Type 0) (Q : B → ℕ → Type 0) (x : Answer A) (f : A → ℕ → Answer B) → When P x
     → ((a : A) (next : ℕ) → x ≡ taken a next → P a next → When Q (f a next)) → When Q (then x f)
 then-when P Q (taken a next) f p q = q a next refl p
 then-when P Q (refused k) f p q = tt
 
-pick-test : {A : Type 0} (P : A → Type 0) (b : Bool) {x y : A} → (b ≡ true → P x) → (b ≡ false → P y) → P (pick b x y)
+pub pick-test : {A : Type 0} (P : A → Type 0) (b : Bool) {x y : A} → (b ≡ true → P x) → (b ≡ false → P y) → P (pick b x y)
 pick-test P true f g = f refl
 pick-test P false f g = g refl
 
@@ -104,7 +104,7 @@ module _ (s : List ℕ) (sb : Bytes s) where
       (λ r. pick-test (When (TextOk k at)) (wellFormed (take n (drop next s))) (λ w. text-good k at n next p (leb-true _ _ r) w) (λ w. tt))
       (λ r. tt))
 
-  words-length : (n at : ℕ) → length (words s n at) ≡ n
+  pub words-length : (n at : ℕ) → length (words s n at) ≡ n
   unfolding words
   words-length zero at = refl
   words-length (suc n) at = ap suc (words-length n (at + 4))

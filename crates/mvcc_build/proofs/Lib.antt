@@ -1,0 +1,6 @@
+-- The root of the laws of `mvcc_build`.
+pub mod Laws
+pub mod Grow
+pub mod Built
+pub mod Run
+pub mod Cases

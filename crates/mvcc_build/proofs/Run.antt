@@ -1,0 +1,81 @@
+-- After any run of additions the body is the encoding of the records added so far. Assumes nothing.
+use mathlib.Core.Path.{_≡_, refl, sym, ap, _∙_}
+use mathlib.Core.Bool.{Bool, true, false}
+use mathlib.Core.List.{List, [], _∷_, _++_}
+use Prim.Native.Nat.{ℕ, _+_, _^_, _<_}
+use native.Mathlib.Omega.{arith}
+use lib.Dec.{leb}
+use lib.ListN.{length}
+use Rattle.le.specs.Choice.{pick, both}
+use Rattle.text.specs.Utf8.{wellFormed}
+use Rattle.mvcc.specs.Batch.{Col, Rec, encodeColumn, encodeRecord, encodeBatch, encodeBody, Each}
+use Rattle.mvcc_build.specs.declared.BatchBuilder.{BatchBuilder}
+use Rattle.mvcc_build.specs.declared.Added.{Added}
+use Rattle.mvcc_build.specs.declared.Added.the-variants.{Done, Area, Truncated, Text, Fit, NoRecord}
+use Rattle.mvcc_build.specs.Build.{addedNumber, startedBytes, recordCount, columnCount, tableOf, recordAdded, recordBytes, texted, columnAdded, columnBytes}
+use Rattle.mvcc_build.specs.Built.{builderOf, Built, endsPresent, withColumn, Held, HeldValue}
+use Rattle.mvcc_build.specs.Run.{Call, record-call, column-call, HeldCall, onward, nextBuilder, nextBody, nextRecords, runBuilder, runBody, runRecords}
+use Rattle.mvcc_build.proofs.Built.{start-built, refused-keeps, record-answer, record-built, column-answer, column-built}
+
+onward-refused : (x : Added) (b : BatchBuilder) → (addedNumber x ≡ 0 → ⊥) → onward x b ≡ b
+onward-refused (Done next) b h = absurd (h refl)
+onward-refused Area b h = refl
+onward-refused Truncated b h = refl
+onward-refused Text b h = refl
+onward-refused Fit b h = refl
+onward-refused NoRecord b h = refl
+
+module _ {t : ℕ} {rs : List Rec} {b : BatchBuilder} {body : List ℕ} (h : Built t rs b body) where
+  -- a refused call leaves all as it was
+  refused-record : (r : Rec) (x : Added) → recordAdded b body r ≡ x → (addedNumber x ≡ 0 → ⊥)
+      → Built t rs (nextBuilder (record-call r) b body) (nextBody (record-call r) b body)
+  unfolding nextBuilder nextBody recordBytes
+  refused-record r x e n = rw (e, onward-refused x b n, refused-keeps recordCount b body (encodeRecord r) x n) h
+
+  refused-column : (c : Col) (x : Added) → columnAdded b body c ≡ x → (addedNumber x ≡ 0 → ⊥)
+      → Built t rs (nextBuilder (column-call c) b body) (nextBody (column-call c) b body)
+  unfolding nextBuilder nextBody columnBytes
+  refused-column c x e n = rw (e, onward-refused x b n, refused-keeps columnCount b body (encodeColumn c) x n) h
+
+  taken-record : (r : Rec) (b2 : BatchBuilder) → Held r → recordAdded b body r ≡ Done b2
+      → Built t (rs ++ (r ∷ [])) (nextBuilder (record-call r) b body) (nextBody (record-call r) b body)
+  unfolding nextBuilder nextBody
+  taken-record r b2 k e = let g = record-built h r k e in rw e g
+
+  taken-column : (c : Col) (b2 : BatchBuilder) → HeldValue (c .val) → columnAdded b body c ≡ Done b2
+      → Built t (withColumn rs c) (nextBuilder (column-call c) b body) (nextBody (column-call c) b body)
+  unfolding nextBuilder nextBody
+  taken-column c b2 k e = let g = column-built h c k e in rw e g
+
+  record-in : (r : Rec) → Held r → (w f : Bool) → wellFormed (tableOf r) ≡ w → leb (length (encodeBatch t (rs ++ (r ∷ [])))) 4096 ≡ f
+      → Built t (nextRecords t (record-call r) rs) (nextBuilder (record-call r) b body) (nextBody (record-call r) b body)
+  unfolding nextRecords
+  record-in r k true true w f = rw (w, f) (taken-record r (builderOf t (rs ++ (r ∷ []))) k (rw (w, f) at (record-answer h r)))
+  record-in r k true false w f = rw (w, f) (refused-record r Fit (rw (w, f) at (record-answer h r)) (λ z. omega arith))
+  record-in r k false f w g = rw w (refused-record r Text (rw w at (record-answer h r)) (λ z. omega arith))
+
+  column-in : (c : Col) → HeldValue (c .val) → (w f p : Bool) → both (texted (c .val)) (wellFormed (c .name)) ≡ w
+      → leb (length (encodeBatch t rs) + length (encodeColumn c)) 4096 ≡ f → endsPresent rs ≡ p
+      → Built t (nextRecords t (column-call c) rs) (nextBuilder (column-call c) b body) (nextBody (column-call c) b body)
+  unfolding nextRecords
+  column-in c k true true true w f p = rw (w, f, p) (taken-column c (builderOf t (withColumn rs c)) k (rw (w, f, p) at (column-answer h c)))
+  column-in c k true true false w f p = rw (w, f, p) (refused-column c NoRecord (rw (w, f, p) at (column-answer h c)) (λ z. omega arith))
+  column-in c k true false p w f g = rw (w, f) (refused-column c Fit (rw (w, f) at (column-answer h c)) (λ z. omega arith))
+  column-in c k false f p w g i = rw w (refused-column c Text (rw w at (column-answer h c)) (λ z. omega arith))
+
+  pub call-built : (k : Call) → HeldCall k → Built t (nextRecords t k rs) (nextBuilder k b body) (nextBody k b body)
+  unfolding HeldCall
+  call-built (record-call r) k = record-in r k (wellFormed (tableOf r)) (leb (length (encodeBatch t (rs ++ (r ∷ [])))) 4096) refl refl
+  call-built (column-call c) k =
+      column-in c k (both (texted (c .val)) (wellFormed (c .name))) (leb (length (encodeBatch t rs) + length (encodeColumn c)) 4096) (endsPresent rs) refl refl refl
+
+-- "The bytes are exactly those of `MvccCommitBatch::encode` of the records added so far, zero behind"
+pub run-built : (ks : List Call) {t : ℕ} {rs : List Rec} {b : BatchBuilder} {body : List ℕ} → Built t rs b body → Each HeldCall ks
+    → Built t (runRecords t ks rs) (runBuilder ks b body) (runBody ks b body)
+unfolding runRecords runBuilder runBody Each
+run-built [] h g = h
+run-built (k ∷ ks) h g = run-built ks (call-built h k (g .0)) (g .1)
+
+pub run-bytes : (ks : List Call) (t : ℕ) (body : List ℕ) → length body ≡ 4096 → t < 256 ^ 8 → Each HeldCall ks
+    → runBody ks (builderOf t []) (startedBytes t body) ≡ encodeBody t (runRecords t ks [])
+run-bytes ks t body n h g = run-built ks (start-built t body n h) g .bytes

@@ -1,0 +1,23 @@
+-- `mvcc_build::add_integer` meets its contract. Assumes nothing.
+use mathlib.Core.Path.{refl}
+use mathlib.Core.List.{[]}
+use denote.Ref.{now}
+use Prim.Native.Nat.{_-_}
+use Rattle.mvcc_build.proofs.Laws.{column-way, integer-bytes}
+use Rattle.mvcc.specs.Batch.{integer}
+use Rattle.mvcc_build.specs.declared.Number.the-variants.{Eight}
+use mir.ValLaws.{toZ-ofZ}
+use mir.Syntax.{w64}
+use borrow.Author.Needs.{needs}
+use Rattle.mvcc_build.proofs.add_integer.Statement.{statement}
+use Rattle.mvcc_build.proofs.add_integer.Tie as tie
+
+returns : tie.Need-returns
+returns c =
+    let a = c .before .before .before .before .before .before .before .before .args in
+    column-way (a .b) (a .body .now) (a .name .now) 1 (Eight (c .before .before .before .before .unsigned-of .result)) [] (integer (a .value)) (integer-bytes (a .value) (rw (toZ-ofZ w64 (a .value) (c .before .before .before .before .before .before .before .before .fits .value)) at (c .before .before .before .before .unsigned-of .ensures))) refl (c .before .before .add-column .ensures .0) (c .before .before .add-column .ensures .1)
+
+pub add-integer-spec : {M : Type 1} → statement M
+add-integer-spec =
+    tie.close
+    (tie.spec (search needs) (search needs) (search needs) (search needs) returns)

@@ -1,0 +1,156 @@
+-- What each addition to a batch answers, and the body's later bytes, for every builder and body.
+use mathlib.Core.Bool.{Bool, true}
+use mathlib.Core.List.{List, [], _∷_, _++_}
+use Prim.Native.Nat.{ℕ, _+_, _/_, _%_}
+use lib.Dec.{leb, eqb}
+use lib.ListN.{length, replicate}
+use lib.IntN.{ℤ}
+use mir.Val.{ofZ}
+use mir.Syntax.{w64}
+use Rattle.le.specs.Choice.{pick, both}
+use Rattle.le.specs.Le.{leBytes, put, store}
+use Rattle.text.specs.Utf8.{wellFormed}
+use Rattle.mvcc.specs.Batch.{Val, null, integer, real, text, bool, vector, Col, Rec, tombstone, present, encodeText, encodeColumn, encodeRecord, encodeBody}
+use Rattle.mvcc.specs.Seen.{words}
+use Rattle.mvcc_build.specs.declared.Last.{Last}
+use Rattle.mvcc_build.specs.declared.Last.the-variants.{Closed, Open}
+use Rattle.mvcc_build.specs.declared.BatchBuilder.{BatchBuilder}
+use Rattle.mvcc_build.specs.declared.Added.{Added}
+use Rattle.mvcc_build.specs.declared.Added.the-variants.{Done, Area, Truncated, Text, Fit, NoRecord}
+use Rattle.mvcc_build.specs.declared.Number.{Number}
+use Rattle.mvcc_build.specs.declared.Number.the-variants.{Nothing, Byte, Count, Eight}
+
+-- document 01's numbers; 0 is no refusal
+abbrev pub addedNumber : Added → ℕ
+addedNumber (Done b) = 0
+addedNumber Area = 1
+addedNumber Truncated = 17
+addedNumber Text = 19
+addedNumber Fit = 20
+addedNumber NoRecord = 21
+
+-- ---- starting
+
+unfoldable pub started : List ℕ → Added
+started body = pick (eqb (length body) 4096) (Done (record { at = 18; records = 0; last = Closed })) Area
+
+unfoldable pub startedBytes : ℕ → List ℕ → List ℕ
+startedBytes t body = pick (eqb (length body) 4096) (encodeBody t []) body
+
+-- ---- what every addition has in common
+
+-- the refusals 1, 19 and 20 of an addition with the bytes bs, in order, then what is behind them; `texts`: its texts are UTF-8
+unfoldable pub judged : BatchBuilder → List ℕ → Bool → List ℕ → Added → Added
+judged b body texts bs more =
+    pick (eqb (length body) 4096) (pick texts (pick (leb (b .at + length bs) 4096) more Fit) Text) Area
+
+-- the later bytes: those added, with the count that goes with them; after a refusal the body is as it was
+unfoldable pub laid : (BatchBuilder → List ℕ → List ℕ) → BatchBuilder → List ℕ → List ℕ → Added → List ℕ
+laid count b body bs (Done next) = count next (put body (b .at) bs)
+laid count b body bs Area = body
+laid count b body bs Truncated = body
+laid count b body bs Text = body
+laid count b body bs Fit = body
+laid count b body bs NoRecord = body
+
+-- ---- records
+
+-- one record more, of n bytes, with `end` the last one now
+unfoldable pub recordIn : BatchBuilder → ℕ → Last → Added
+recordIn b n end = pick (eqb (b .records) 0xffff) Fit (Done (record { at = b .at + n; records = b .records + 1; last = end }))
+
+-- the record count, stored anew
+unfoldable pub recordCount : BatchBuilder → List ℕ → List ℕ
+recordCount next l = store l 16 (leBytes 2 (next .records))
+
+abbrev pub tableOf : Rec → List ℕ
+tableOf (tombstone t row) = t
+tableOf (present t row cs) = t
+
+-- the last record, written at `at`: a present one has its column count behind op, table and row id
+abbrev pub lastAt : ℕ → Rec → Last
+lastAt at (tombstone t row) = Closed
+lastAt at (present t row cs) = Open (at + (11 + length t)) (length cs)
+
+-- a record added: refused where the body's length is wrong (1), its table is not UTF-8 (19) or it does not fit (20)
+unfoldable pub recordAdded : BatchBuilder → List ℕ → Rec → Added
+recordAdded b body r = judged b body (wellFormed (tableOf r)) (encodeRecord r) (recordIn b (length (encodeRecord r)) (lastAt (b .at) r))
+
+unfoldable pub recordBytes : BatchBuilder → List ℕ → Rec → List ℕ
+recordBytes b body r = laid recordCount b body (encodeRecord r) (recordAdded b body r)
+
+-- op, table, row id and z zeros: a tombstone, or a present record that has no columns yet
+unfoldable pub headBytes : ℕ → List ℕ → ℤ → ℕ → List ℕ
+headBytes op t row z = op ∷ (encodeText 2 t ++ (leBytes 8 (ofZ w64 row) ++ replicate z 0))
+
+abbrev pub lastOf : ℕ → ℕ → Last
+lastOf op counted = pick (eqb op 0) Closed (Open counted 0)
+
+unfoldable pub headTold : BatchBuilder → List ℕ → ℕ → List ℕ → ℤ → ℕ → Added
+headTold b body op t row z =
+    judged b body (wellFormed t) (headBytes op t row z) (recordIn b (length (headBytes op t row z)) (lastOf op (b .at + (11 + length t))))
+
+-- ---- columns
+
+-- the last record takes a column of n bytes, if it is a present one
+unfoldable pub columnIn : BatchBuilder → ℕ → Last → Added
+columnIn b n Closed = NoRecord
+columnIn b n (Open counted columns) =
+    pick (eqb columns 0xffff) Fit (Done (record { at = b .at + n; records = b .records; last = Open counted (columns + 1) }))
+
+-- what a column with the bytes bs answers; `texts`: its texts are UTF-8
+unfoldable pub columnTold : BatchBuilder → List ℕ → Bool → List ℕ → Added
+columnTold b body texts bs = judged b body texts bs (columnIn b (length bs) (b .last))
+
+-- the column count of a present record, stored anew
+unfoldable pub recounted : Last → List ℕ → List ℕ
+recounted Closed l = l
+recounted (Open counted columns) l = store l counted (leBytes 2 columns)
+
+unfoldable pub columnCount : BatchBuilder → List ℕ → List ℕ
+columnCount next l = recounted (next .last) l
+
+abbrev pub column : List ℕ → Val → Col
+column n v = record { name = n; val = v }
+
+-- a text value's own UTF-8
+abbrev pub texted : Val → Bool
+texted null = true
+texted (integer z) = true
+texted (real n) = true
+texted (text t) = wellFormed t
+texted (bool x) = true
+texted (vector ws) = true
+
+-- a column added: refused where the body's length is wrong (1), its name or text is not UTF-8 (19), it does not fit (20)
+-- or no present record is last (21)
+unfoldable pub columnAdded : BatchBuilder → List ℕ → Col → Added
+columnAdded b body c = columnTold b body (both (texted (c .val)) (wellFormed (c .name))) (encodeColumn c)
+
+unfoldable pub columnBytes : BatchBuilder → List ℕ → Col → List ℕ
+columnBytes b body c = laid columnCount b body (encodeColumn c) (columnAdded b body c)
+
+-- a vector's elements, from their little-endian bytes
+unfoldable pub elements : List ℕ → List ℕ
+elements bs = words bs (length bs / 4) 0
+
+-- a vector column: refused, after 1, where its last element is cut (17)
+unfoldable pub vectorAdded : BatchBuilder → List ℕ → List ℕ → List ℕ → Added
+vectorAdded b body n bs =
+    pick (eqb (length body) 4096)
+    (pick (eqb (length bs % 4) 0) (columnAdded b body (column n (vector (elements bs)))) Truncated)
+    Area
+
+unfoldable pub vectorBytes : BatchBuilder → List ℕ → List ℕ → List ℕ → List ℕ
+vectorBytes b body n bs = laid columnCount b body (encodeColumn (column n (vector (elements bs)))) (vectorAdded b body n bs)
+
+-- a number in front of a value's bytes
+unfoldable pub numberBytes : Number → List ℕ
+numberBytes Nothing = []
+numberBytes (Byte b) = b ∷ []
+numberBytes (Count k) = leBytes 4 k
+numberBytes (Eight v) = leBytes 8 v
+
+-- a column by its name and its value's tag, number and bytes
+unfoldable pub tagged : List ℕ → ℕ → Number → List ℕ → List ℕ
+tagged n tag v bs = encodeText 2 n ++ (tag ∷ (numberBytes v ++ bs))

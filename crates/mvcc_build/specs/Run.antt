@@ -1,0 +1,62 @@
+-- A run of additions, as the caller makes them and as records: whoever is refused keeps the builder and the body.
+use mathlib.Core.Bool.{Bool, true, false}
+use mathlib.Core.List.{List, [], _∷_, _++_}
+use Prim.Native.Nat.{ℕ, _+_}
+use lib.Dec.{leb}
+use lib.ListN.{length}
+use Rattle.le.specs.Choice.{pick, both}
+use Rattle.text.specs.Utf8.{wellFormed}
+use Rattle.mvcc.specs.Batch.{Col, Rec, encodeColumn, encodeBatch}
+use Rattle.mvcc_build.specs.declared.BatchBuilder.{BatchBuilder}
+use Rattle.mvcc_build.specs.declared.Added.{Added}
+use Rattle.mvcc_build.specs.declared.Added.the-variants.{Done, Area, Truncated, Text, Fit, NoRecord}
+use Rattle.mvcc_build.specs.Build.{tableOf, recordAdded, recordBytes, texted, columnAdded, columnBytes}
+use Rattle.mvcc_build.specs.Built.{endsPresent, withColumn, Held, HeldValue}
+
+pub data Call : Type 0 where
+  record-call : Rec → Call
+  column-call : Col → Call
+
+-- what the machine's types say of a call
+unfoldable pub HeldCall : Call → Type 0
+HeldCall (record-call r) = Held r
+HeldCall (column-call c) = HeldValue (c .val)
+
+-- the builder that the caller goes on with
+abbrev pub onward : Added → BatchBuilder → BatchBuilder
+onward (Done next) b = next
+onward Area b = b
+onward Truncated b = b
+onward Text b = b
+onward Fit b = b
+onward NoRecord b = b
+
+unfoldable pub nextBuilder : Call → BatchBuilder → List ℕ → BatchBuilder
+nextBuilder (record-call r) b body = onward (recordAdded b body r) b
+nextBuilder (column-call c) b body = onward (columnAdded b body c) b
+
+unfoldable pub nextBody : Call → BatchBuilder → List ℕ → List ℕ
+nextBody (record-call r) b body = recordBytes b body r
+nextBody (column-call c) b body = columnBytes b body c
+
+-- the records of the batch after the call: it is refused where a text is not UTF-8, where the batch would pass 4,096 bytes,
+-- and a column where no present record is last
+unfoldable pub nextRecords : ℕ → Call → List Rec → List Rec
+nextRecords t (record-call r) rs =
+    pick (wellFormed (tableOf r)) (pick (leb (length (encodeBatch t (rs ++ (r ∷ [])))) 4096) (rs ++ (r ∷ [])) rs) rs
+nextRecords t (column-call c) rs =
+    pick (both (texted (c .val)) (wellFormed (c .name)))
+    (pick (leb (length (encodeBatch t rs) + length (encodeColumn c)) 4096) (pick (endsPresent rs) (withColumn rs c) rs) rs) rs
+
+-- a list of calls
+unfoldable pub runBuilder : List Call → BatchBuilder → List ℕ → BatchBuilder
+runBuilder [] b body = b
+runBuilder (k ∷ ks) b body = runBuilder ks (nextBuilder k b body) (nextBody k b body)
+
+unfoldable pub runBody : List Call → BatchBuilder → List ℕ → List ℕ
+runBody [] b body = body
+runBody (k ∷ ks) b body = runBody ks (nextBuilder k b body) (nextBody k b body)
+
+unfoldable pub runRecords : ℕ → List Call → List Rec → List Rec
+runRecords t [] rs = rs
+runRecords t (k ∷ ks) rs = runRecords t ks (nextRecords t k rs)

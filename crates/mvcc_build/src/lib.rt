@@ -1,0 +1,356 @@
+// A batch of the mvcc log, built in a lent body of 4,096 bytes: started, then records and columns added one by one.
+// Every public function is total, for made-up builders too. A refused addition leaves the body as it was,
+// and the caller's builder still tells the batch.
+ghost use mathlib.Core.Path.{_≡_};
+ghost use mathlib.Core.List.{[], _∷_, _++_};
+ghost use Prim.Native.Nat.{_+_, _≤_};
+ghost use lib.Dec.{leb};
+ghost use lib.Ieee.{binary64, toBits};
+ghost use lib.ListN.{length};
+ghost use mir.Val.{ofZ};
+ghost use mir.Syntax.{w64};
+ghost use Rattle.le.specs.Choice.{pick};
+ghost use Rattle.le.specs.Le.{put};
+ghost use Rattle.text.specs.Utf8.{wellFormed};
+ghost use Rattle.mvcc.specs.Batch.{null, integer, real, text, bool, tombstone, present, encodeText};
+ghost use Rattle.mvcc_build.specs.Build.{numberBytes, headBytes, lastOf, tagged, started, startedBytes, laid, recordCount, headTold, recordAdded, recordBytes, columnCount, columnTold, column, columnAdded, columnBytes, vectorAdded, vectorBytes};
+
+// The record that was added last.
+pub enum Last {
+    // None yet, or a tombstone: it takes no column.
+    Closed,
+    // A present one: where its column count stands, and how many columns it has.
+    Open { counted: usize, columns: u16 },
+}
+
+// A batch being built: the end of its bytes, and its records.
+pub struct BatchBuilder {
+    pub at: usize,
+    pub records: u16,
+    pub last: Last,
+}
+
+pub enum Added {
+    Done(BatchBuilder),
+    // The body has not 4,096 bytes.
+    Area,
+    // The last element of a vector is cut.
+    Truncated,
+    // A name or a text is not UTF-8.
+    Text,
+    // The batch would pass 4,096 bytes.
+    Fit,
+    // A column, and no present record is last.
+    NoRecord,
+}
+
+// The number in front of a value's bytes.
+enum Number {
+    Nothing,
+    Byte(u8),
+    // a length or a count, of 4 bytes
+    Count(usize),
+    Eight(u64),
+}
+
+// ---- parts of a record or column
+
+// Whether `fixed` bytes and a text and bytes of these lengths end within 4,096 from `at` on.
+fn fits(at: usize, fixed: usize, text: usize, bytes: usize) -> bool
+    requires { ⌜ fixed ≤ 4096 ⌝ }
+    ensures { λ r. ⌜ r ≡ leb (at + (fixed + text + bytes)) 4096 ⌝ }
+{
+    if 4096 < text {
+        return false;
+    }
+    if 4096 < bytes {
+        return false;
+    }
+    if 4096 < at {
+        return false;
+    }
+    at + (fixed + text + bytes) <= 4096
+}
+
+// The bits of a signed number.
+fn unsigned_of(z: i64) -> u64
+    ensures { λ r. ⌜ r ≡ ofZ w64 z ⌝ }
+{
+    if z < 0 {
+        0xffff_ffff_ffff_ffff - ((-1 - z) as u64)
+    } else {
+        z as u64
+    }
+}
+
+// A float's bits. The one NaN that there is to a function is written as the quiet one.
+fn bits_of(x: f64) -> u64
+    ensures { λ r. ⌜ r ≡ toBits binary64 x ⌝ }
+{
+    if x == x {
+        f64::to_bits(x)
+    } else {
+        0x7ff8_0000_0000_0000
+    }
+}
+
+// Stores a text with a length of two bytes.
+fn put_text(body: &mut [u8], at: usize, t: &[u8])
+    requires { ⌜ (length (now body) ≡ 4096) × (at + (2 + length (now t)) ≤ 4096) ⌝ }
+    ensures { λ _. ⌜ now (body .exit) ≡ put (now (body .entry)) at (encodeText 2 (now (t .entry))) ⌝ }
+{
+    le::write_u16(body, at, t.len() as u16);
+    le::write_bytes(body, at + 2, t);
+}
+
+fn width(n: Number) -> usize
+    ensures { λ r. ⌜ (r ≡ length (numberBytes n)) × (r ≤ 8) ⌝ }
+{
+    match n {
+        Number::Nothing => 0,
+        Number::Byte(_) => 1,
+        Number::Count(_) => 4,
+        Number::Eight(_) => 8,
+    }
+}
+
+fn put_number(body: &mut [u8], at: usize, n: Number)
+    requires { ⌜ (length (now body) ≡ 4096) × (at + length (numberBytes n) ≤ 4096) ⌝ }
+    ensures { λ _. ⌜ now (body .exit) ≡ put (now (body .entry)) at (numberBytes n) ⌝ }
+{
+    match n {
+        Number::Nothing => {}
+        Number::Byte(b) => {
+            body[at] = b;
+        }
+        Number::Count(k) => {
+            le::write_u32(body, at, (k % 4294967296) as u32);
+        }
+        Number::Eight(v) => {
+            le::write_u64(body, at, v);
+        }
+    }
+}
+
+// ---- starting a batch and adding records
+
+// Starts a batch: magic, commit time, no records, zeros behind.
+pub fn start(body: &mut [u8], commit_ts: u64) -> Added
+    ensures { λ r. ⌜ r ≡ started (now (body .entry)) ⌝ }
+    ensures { λ _. ⌜ now (body .exit) ≡ startedBytes «commit_ts» (now (body .entry)) ⌝ }
+{
+    if body.len() != 4096 {
+        return Added::Area;
+    }
+    le::write_u64(body, 0, 0x3130_3030_4343_564d);
+    le::write_u64(body, 8, commit_ts);
+    le::write_zeros(body, 16, 4080);
+    Added::Done(BatchBuilder {
+        at: 18,
+        records: 0,
+        last: Last::Closed,
+    })
+}
+
+// A record with this op has been added: a present one has its column count at `counted`.
+fn last_of(op: u8, counted: usize) -> Last
+    ensures { λ r. ⌜ r ≡ lastOf op counted ⌝ }
+{
+    if op == 0 {
+        return Last::Closed;
+    }
+    Last::Open {
+        counted,
+        columns: 0,
+    }
+}
+
+// Stores a record: op, table, row id and zeros, which are the column count of a present one.
+fn put_record(body: &mut [u8], at: usize, op: u8, table: &[u8], rowid: i64, zeros: usize)
+    requires { ⌜ (length (now body) ≡ 4096) × (at + (11 + zeros + length (now table)) ≤ 4096) ⌝ }
+    ensures { λ _. ⌜ now (body .exit) ≡ put (now (body .entry)) at (headBytes op (now (table .entry)) rowid zeros) ⌝ }
+{
+    let n = table.len();
+    body[at] = op;
+    put_text(body, at + 1, table);
+    le::write_u64(body, at + (3 + n), unsigned_of(rowid));
+    le::write_zeros(body, at + (11 + n), zeros);
+}
+
+// Adds a record, and counts it.
+fn add_record(
+    body: &mut [u8],
+    b: BatchBuilder,
+    op: u8,
+    table: &[u8],
+    rowid: i64,
+    zeros: usize,
+) -> Added
+    requires { ⌜ zeros ≤ 2 ⌝ }
+    ensures { λ r. ⌜ r ≡ headTold b (now (body .entry)) op (now (table .entry)) rowid zeros ⌝ }
+    ensures { λ r. ⌜ now (body .exit) ≡ laid recordCount b (now (body .entry)) (headBytes op (now (table .entry)) rowid zeros) r ⌝ }
+{
+    let at = b.at;
+    let records = b.records;
+    if body.len() != 4096 {
+        return Added::Area;
+    }
+    let text::Utf8::WellFormed = text::from_utf8(table) else {
+        return Added::Text;
+    };
+    if !fits(at, 11 + zeros, table.len(), 0) {
+        return Added::Fit;
+    }
+    if records == 0xffff {
+        return Added::Fit;
+    }
+    put_record(body, at, op, table, rowid, zeros);
+    le::write_u16(body, 16, records + 1);
+    let counted = at + (11 + table.len());
+    Added::Done(BatchBuilder {
+        at: counted + zeros,
+        records: records + 1,
+        last: last_of(op, counted),
+    })
+}
+
+// Adds a tombstone.
+pub fn add_tombstone(body: &mut [u8], b: BatchBuilder, table: &[u8], rowid: i64) -> Added
+    ensures { λ r. ⌜ r ≡ recordAdded b (now (body .entry)) (tombstone (now (table .entry)) rowid) ⌝ }
+    ensures { λ _. ⌜ now (body .exit) ≡ recordBytes b (now (body .entry)) (tombstone (now (table .entry)) rowid) ⌝ }
+{
+    add_record(body, b, 0, table, rowid, 0)
+}
+
+// Adds a present record with no columns yet.
+pub fn begin_present(body: &mut [u8], b: BatchBuilder, table: &[u8], rowid: i64) -> Added
+    ensures { λ r. ⌜ r ≡ recordAdded b (now (body .entry)) (present (now (table .entry)) rowid []) ⌝ }
+    ensures { λ _. ⌜ now (body .exit) ≡ recordBytes b (now (body .entry)) (present (now (table .entry)) rowid []) ⌝ }
+{
+    add_record(body, b, 1, table, rowid, 2)
+}
+
+// ---- adding columns
+
+// Stores a column: its name, and its value's tag, number and bytes.
+fn put_column(body: &mut [u8], at: usize, name: &[u8], tag: u8, number: Number, bytes: &[u8])
+    requires { ⌜ (length (now body) ≡ 4096) × (at + (3 + length (numberBytes number) + length (now name) + length (now bytes)) ≤ 4096) ⌝ }
+    ensures { λ _. ⌜ now (body .exit) ≡ put (now (body .entry)) at (tagged (now (name .entry)) tag number (now (bytes .entry))) ⌝ }
+{
+    let n = name.len();
+    put_text(body, at, name);
+    body[at + (2 + n)] = tag;
+    put_number(body, at + (3 + n), number);
+    le::write_bytes(body, at + (3 + n + width(number)), bytes);
+}
+
+// Adds a column to the last record, and counts it.
+fn add_column(
+    body: &mut [u8],
+    b: BatchBuilder,
+    name: &[u8],
+    tag: u8,
+    number: Number,
+    bytes: &[u8],
+) -> Added
+    ensures { λ r. ⌜ r ≡ columnTold b (now (body .entry)) (wellFormed (now (name .entry))) (tagged (now (name .entry)) tag number (now (bytes .entry))) ⌝ }
+    ensures { λ r. ⌜ now (body .exit) ≡ laid columnCount b (now (body .entry)) (tagged (now (name .entry)) tag number (now (bytes .entry))) r ⌝ }
+{
+    let at = b.at;
+    let last = b.last;
+    let k = width(number);
+    if body.len() != 4096 {
+        return Added::Area;
+    }
+    let text::Utf8::WellFormed = text::from_utf8(name) else {
+        return Added::Text;
+    };
+    if !fits(at, 3 + k, name.len(), bytes.len()) {
+        return Added::Fit;
+    }
+    let Last::Open { counted, columns } = last else {
+        return Added::NoRecord;
+    };
+    if columns == 0xffff {
+        return Added::Fit;
+    }
+    put_column(body, at, name, tag, number, bytes);
+    le::write_u16(body, counted, columns + 1);
+    Added::Done(BatchBuilder {
+        at: at + (3 + k + name.len() + bytes.len()),
+        records: b.records,
+        last: Last::Open {
+            counted,
+            columns: columns + 1,
+        },
+    })
+}
+
+pub fn add_null(body: &mut [u8], b: BatchBuilder, name: &[u8]) -> Added
+    ensures { λ r. ⌜ r ≡ columnAdded b (now (body .entry)) (column (now (name .entry)) null) ⌝ }
+    ensures { λ _. ⌜ now (body .exit) ≡ columnBytes b (now (body .entry)) (column (now (name .entry)) null) ⌝ }
+{
+    add_column(body, b, name, 0, Number::Nothing, b"")
+}
+
+pub fn add_integer(body: &mut [u8], b: BatchBuilder, name: &[u8], value: i64) -> Added
+    ensures { λ r. ⌜ r ≡ columnAdded b (now (body .entry)) (column (now (name .entry)) (integer value)) ⌝ }
+    ensures { λ _. ⌜ now (body .exit) ≡ columnBytes b (now (body .entry)) (column (now (name .entry)) (integer value)) ⌝ }
+{
+    add_column(body, b, name, 1, Number::Eight(unsigned_of(value)), b"")
+}
+
+// A real by its bits, NaNs too.
+pub fn add_real_bits(body: &mut [u8], b: BatchBuilder, name: &[u8], bits: u64) -> Added
+    ensures { λ r. ⌜ r ≡ columnAdded b (now (body .entry)) (column (now (name .entry)) (real bits)) ⌝ }
+    ensures { λ _. ⌜ now (body .exit) ≡ columnBytes b (now (body .entry)) (column (now (name .entry)) (real bits)) ⌝ }
+{
+    add_column(body, b, name, 2, Number::Eight(bits), b"")
+}
+
+pub fn add_real(body: &mut [u8], b: BatchBuilder, name: &[u8], value: f64) -> Added
+    ensures { λ r. ⌜ r ≡ columnAdded b (now (body .entry)) (column (now (name .entry)) (real (toBits binary64 value))) ⌝ }
+    ensures { λ _. ⌜ now (body .exit) ≡ columnBytes b (now (body .entry)) (column (now (name .entry)) (real (toBits binary64 value))) ⌝ }
+{
+    add_real_bits(body, b, name, bits_of(value))
+}
+
+pub fn add_text(body: &mut [u8], b: BatchBuilder, name: &[u8], value: &[u8]) -> Added
+    ensures { λ r. ⌜ r ≡ columnAdded b (now (body .entry)) (column (now (name .entry)) (text (now (value .entry)))) ⌝ }
+    ensures { λ _. ⌜ now (body .exit) ≡ columnBytes b (now (body .entry)) (column (now (name .entry)) (text (now (value .entry)))) ⌝ }
+{
+    if body.len() != 4096 {
+        return Added::Area;
+    }
+    let text::Utf8::WellFormed = text::from_utf8(value) else {
+        return Added::Text;
+    };
+    add_column(body, b, name, 3, Number::Count(value.len()), value)
+}
+
+fn byte_of(value: bool) -> u8
+    ensures { λ r. ⌜ r ≡ pick value 1 0 ⌝ }
+{
+    if value { 1 } else { 0 }
+}
+
+pub fn add_bool(body: &mut [u8], b: BatchBuilder, name: &[u8], value: bool) -> Added
+    ensures { λ r. ⌜ r ≡ columnAdded b (now (body .entry)) (column (now (name .entry)) (bool value)) ⌝ }
+    ensures { λ _. ⌜ now (body .exit) ≡ columnBytes b (now (body .entry)) (column (now (name .entry)) (bool value)) ⌝ }
+{
+    add_column(body, b, name, 4, Number::Byte(byte_of(value)), b"")
+}
+
+// A vector, from its elements' little-endian bytes, four each.
+pub fn add_vector(body: &mut [u8], b: BatchBuilder, name: &[u8], bytes: &[u8]) -> Added
+    ensures { λ r. ⌜ r ≡ vectorAdded b (now (body .entry)) (now (name .entry)) (now (bytes .entry)) ⌝ }
+    ensures { λ _. ⌜ now (body .exit) ≡ vectorBytes b (now (body .entry)) (now (name .entry)) (now (bytes .entry)) ⌝ }
+{
+    if body.len() != 4096 {
+        return Added::Area;
+    }
+    if bytes.len() % 4 != 0 {
+        return Added::Truncated;
+    }
+    add_column(body, b, name, 5, Number::Count(bytes.len() / 4), bytes)
+}

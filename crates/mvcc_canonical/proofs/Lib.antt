@@ -1,0 +1,5 @@
+-- The root of the laws of `mvcc_canonical`.
+pub mod Same
+pub mod Walk
+pub mod Whole
+pub mod Cases

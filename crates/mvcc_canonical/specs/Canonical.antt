@@ -1,0 +1,97 @@
+-- What writing a body's canonical form answers and leaves, and the walk that sets its bools.
+use mathlib.Core.Path.{_≡_}
+use mathlib.Core.Bool.{Bool}
+use mathlib.Core.List.{List, [], _∷_}
+use Prim.Native.Nat.{ℕ, zero, suc, _-_, _≤_}
+use lib.Dec.{leb, ltb, eqb}
+use lib.ListN.{length}
+use Rattle.le.specs.Choice.{pick}
+use Rattle.le.specs.Le.{store}
+use Rattle.mvcc.specs.Answer.{Answer, taken, refused, many, refusal}
+use Rattle.mvcc.specs.Decode.{columnAt, recordAt, batchOf}
+use Rattle.mvcc.specs.Seen.{decodes, canonical}
+use Rattle.mvcc.specs.declared.Value.{Value}
+use Rattle.mvcc.specs.declared.Value.the-variants as value
+use Rattle.mvcc.specs.declared.Column.{Column}
+use Rattle.mvcc.specs.declared.VersionPayload.{VersionPayload}
+use Rattle.mvcc.specs.declared.VersionPayload.the-variants as payload
+use Rattle.mvcc.specs.declared.MvccLogRecord.{MvccLogRecord}
+use Rattle.mvcc.specs.declared.BatchDecoded.{BatchDecoded}
+use Rattle.mvcc.specs.declared.BatchDecoded.the-variants as batch
+use Rattle.mvcc_canonical.specs.declared.Canonical.{Canonical}
+use Rattle.mvcc_canonical.specs.declared.Canonical.the-variants.{Done, Area, Short, Magic, Refused}
+
+-- document 01's numbers; 0 is no refusal
+abbrev pub canonicalNumber : Canonical → ℕ
+canonicalNumber Done = 0
+canonicalNumber Area = 1
+canonicalNumber Short = 2
+canonicalNumber Magic = 3
+canonicalNumber (Refused k) = refusal k
+
+abbrev pub toldOf : BatchDecoded → Canonical
+toldOf (batch.Batch b) = Done
+toldOf batch.Short = Short
+toldOf batch.Magic = Magic
+toldOf (batch.Refused k) = Refused k
+
+-- the body s, into out: refused where a length is wrong (1), and as decoding refuses it (2, 3, 17, 18, 19)
+unfoldable pub canonicalized : List ℕ → List ℕ → Canonical
+canonicalized s out = pick (eqb (length out) 4096) (pick (leb (length s) 4096) (toldOf (batchOf s)) Area) Area
+
+-- the later bytes of out: a refusal leaves them as they were
+unfoldable pub canonicalBytes : List ℕ → List ℕ → List ℕ
+canonicalBytes s out = pick (eqb (length out) 4096) (pick (leb (length s) 4096) (pick (decodes s) (canonical s) out) out) out
+
+-- ---- the walk
+
+-- where reading ended; 0 where it was refused
+abbrev pub endOf : {A : Type 0} → Answer A → ℕ
+endOf (taken a end) = end
+endOf (refused k) = 0
+
+abbrev pub fixNext : {A : Type 0} → Answer A → (A → ℕ → List ℕ → List ℕ) → (ℕ → List ℕ → List ℕ) → List ℕ → List ℕ
+fixNext (taken a next) step rest out = rest next (step a next out)
+fixNext (refused k) step rest out = out
+
+-- k things, one after the other: each, with the cursor past it, does its step on out
+unfoldable pub fixAll : {A : Type 0} → (ℕ → Answer A) → (A → ℕ → List ℕ → List ℕ) → ℕ → ℕ → List ℕ → List ℕ
+fixAll f step zero at out = out
+fixAll f step (suc k) at out = fixNext (f at) step (fixAll f step k) out
+
+-- a bool that ends at `end` becomes 0 or 1
+unfoldable pub fixValue : Value → ℕ → List ℕ → List ℕ
+fixValue value.Null end out = out
+fixValue (value.Integer z) end out = out
+fixValue (value.Real x) end out = out
+fixValue (value.Nan n) end out = out
+fixValue (value.Text p) end out = out
+fixValue (value.Bool b) end out = pick (ltb 0 end) (store out (end - 1) (pick b 1 0 ∷ [])) out
+fixValue (value.Vector start n) end out = out
+
+unfoldable pub columnStep : Column → ℕ → List ℕ → List ℕ
+columnStep c end out = fixValue (c .value) end out
+
+unfoldable pub fixPayload : List ℕ → VersionPayload → List ℕ → List ℕ
+fixPayload s payload.Tombstone out = out
+fixPayload s (payload.Present count first) out = fixAll (columnAt s) columnStep count first out
+
+unfoldable pub recordStep : List ℕ → MvccLogRecord → ℕ → List ℕ → List ℕ
+recordStep s r end out = fixPayload s (r .payload) out
+
+unfoldable pub fixRecord : List ℕ → ℕ → List ℕ → List ℕ
+fixRecord s at out = fixNext (recordAt s at) (recordStep s) (λ next l. l) out
+
+-- a record stands at `at` in a body of at most 4,096 bytes
+pub record Stands (s : List ℕ) (at : ℕ) : Type 0 where
+  pub small : length s ≤ 4096
+  pub item : MvccLogRecord
+  pub next : ℕ
+  pub is : recordAt s at ≡ taken item next
+
+-- n records stand from `at` on
+pub record Walk (s : List ℕ) (n at : ℕ) : Type 0 where
+  pub small : length s ≤ 4096
+  pub list : List MvccLogRecord
+  pub end : ℕ
+  pub is : many (recordAt s) n at ≡ taken list end

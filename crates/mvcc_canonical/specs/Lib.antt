@@ -1,0 +1,2 @@
+-- The root of the definitions of `mvcc_canonical`.
+pub mod Canonical

@@ -1,0 +1,120 @@
+// The canonical form of a batch's body: what `MvccCommitBatch::encode` writes for what the body says.
+// It has the body's own bytes up to where decoding ended, with every bool 0 or 1, and zeros behind them.
+ghost use mathlib.Core.Path.{_≡_};
+ghost use Prim.Native.Nat.{_≤_};
+ghost use lib.ListN.{length};
+ghost use Rattle.le.specs.Choice.{pick};
+ghost use Rattle.mvcc.specs.Answer.{many};
+ghost use Rattle.mvcc.specs.Decode.{columnAt, recordAt};
+ghost use Rattle.mvcc_canonical.specs.Canonical.{endOf, fixAll, fixValue, columnStep, recordStep, fixRecord, Stands, Walk, toldOf, canonicalized, canonicalBytes};
+
+pub enum Canonical {
+    Done,
+    // `out` has not 4,096 bytes, or the body has more.
+    Area,
+    // The body does not decode.
+    Short,
+    Magic,
+    Refused(mvcc::Refusal),
+}
+
+fn byte_of(b: bool) -> u8
+    ensures { λ r. ⌜ r ≡ pick b 1 0 ⌝ }
+{
+    if b { 1 } else { 0 }
+}
+
+// A bool whose byte ends at `end` becomes 0 or 1; any other value stays as it is.
+fn fix_value(out: &mut [u8], value: mvcc::Value, end: usize)
+    ensures { λ _. ⌜ now (out .exit) ≡ fixValue value end (now (out .entry)) ⌝ }
+{
+    let mvcc::Value::Bool(b) = value else {
+        return;
+    };
+    if 0 < end {
+        if end <= out.len() {
+            out[end - 1] = byte_of(b);
+        }
+    }
+}
+
+// The bools of n columns from `first` on; answers the cursor past them.
+fn fix_columns(body: &[u8], out: &mut [u8], n: usize, first: usize) -> usize
+    ensures { λ r. ⌜ r ≡ endOf (many (columnAt (now (body .entry))) n first) ⌝ }
+    ensures { λ _. ⌜ now (out .exit) ≡ fixAll (columnAt (now (body .entry))) columnStep n first (now (out .entry)) ⌝ }
+{
+    let mut at = first;
+    let mut left = n;
+    while 0 < left {
+        let mvcc::ColumnField::Taken(c, next) = mvcc::decode_column(body, at) else {
+            return 0;
+        };
+        let v = c.value;
+        fix_value(out, v, next);
+        at = next;
+        left -= 1;
+    }
+    at
+}
+
+// The bools of the record at `at`; answers the cursor past it.
+fn fix_record(body: &[u8], out: &mut [u8], at: usize) -> usize
+    requires { ⌜ Stands (now body) at ⌝ }
+    ensures { λ r. ⌜ r ≡ endOf (recordAt (now (body .entry)) at) ⌝ }
+    ensures { λ _. ⌜ now (out .exit) ≡ fixRecord (now (body .entry)) at (now (out .entry)) ⌝ }
+{
+    let rest = at + (11 + (le::read_u16(body, at + 1) as usize));
+    if body[at] == 0 {
+        return rest;
+    }
+    let count = le::read_u16(body, rest) as usize;
+    fix_columns(body, out, count, rest + 2)
+}
+
+// The bools of all n records.
+fn fix_records(body: &[u8], out: &mut [u8], n: usize)
+    requires { ⌜ Walk (now body) n 18 ⌝ }
+    ensures { λ _. ⌜ now (out .exit) ≡ fixAll (recordAt (now (body .entry))) (recordStep (now (body .entry))) n 18 (now (out .entry)) ⌝ }
+{
+    let mut at: usize = 18;
+    let mut left = n;
+    while 0 < left {
+        at = fix_record(body, out, at);
+        left -= 1;
+    }
+}
+
+// What a body that was decoded comes to.
+fn told_of(d: mvcc::BatchDecoded) -> Canonical
+    ensures { λ r. ⌜ r ≡ toldOf d ⌝ }
+{
+    match d {
+        mvcc::BatchDecoded::Batch(_) => Canonical::Done,
+        mvcc::BatchDecoded::Short => Canonical::Short,
+        mvcc::BatchDecoded::Magic => Canonical::Magic,
+        mvcc::BatchDecoded::Refused(k) => Canonical::Refused(k),
+    }
+}
+
+// Writes the canonical form of a decodable body into `out`, which has 4,096 bytes.
+pub fn canonicalize(body: &[u8], out: &mut [u8]) -> Canonical
+    ensures { λ r. ⌜ r ≡ canonicalized (now (body .entry)) (now (out .entry)) ⌝ }
+    ensures { λ _. ⌜ now (out .exit) ≡ canonicalBytes (now (body .entry)) (now (out .entry)) ⌝ }
+{
+    if out.len() != 4096 {
+        return Canonical::Area;
+    }
+    if 4096 < body.len() {
+        return Canonical::Area;
+    }
+    let d = mvcc::MvccCommitBatch::decode(body);
+    let mvcc::BatchDecoded::Batch(b) = d else {
+        return told_of(d);
+    };
+    let end = b.end;
+    let n = b.records;
+    le::write_bytes(out, 0, le::part(body, 0, end));
+    le::write_zeros(out, end, 4096 - end);
+    fix_records(body, out, n);
+    Canonical::Done
+}
