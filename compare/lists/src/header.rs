@@ -4,18 +4,19 @@
 //! endian), a fill byte, and a prefix of 0 to 64 bytes. The buffer is the
 //! prefix, cut to the length, and then the fill byte up to the length.
 
-use engine::error::SQLRiteError;
 use engine::sql::pager::header::{DbHeader, MAGIC, decode_header, encode_header};
 
 use crate::cases::Cases;
 use crate::hex;
 use crate::list::List;
 use crate::random::Random;
+use crate::refusal;
 
 pub fn list() -> List {
     List {
         name: "header_replay",
         longest: 3 + 64,
+        room: 120_000,
         cases: cases(),
         preamble: Vec::new(),
         answer,
@@ -25,7 +26,7 @@ pub fn list() -> List {
 fn answer(case: &[u8]) -> String {
     match decode_header(&buffer(case)) {
         Ok(header) => described(header),
-        Err(error) => format!("refused {}", number(&error)),
+        Err(error) => refusal::answer(&error, &REFUSALS),
     }
 }
 
@@ -53,19 +54,13 @@ fn described(header: DbHeader) -> String {
     )
 }
 
-/// Document 01's number, by the text of the check that refused.
-fn number(error: &SQLRiteError) -> u32 {
-    let text = error.to_string();
-    [
-        ("header buffer length", 2),
-        ("bad magic bytes", 3),
-        ("unsupported SQLRite format version", 4),
-        ("unsupported page size", 5),
-    ]
-    .into_iter()
-    .find_map(|(part, number)| text.contains(part).then_some(number))
-    .expect("decode_header makes four checks")
-}
+/// By the text of the check that refused.
+const REFUSALS: [(&str, u32); 4] = [
+    ("header buffer length", 2),
+    ("bad magic bytes", 3),
+    ("unsupported SQLRite format version", 4),
+    ("unsupported page size", 5),
+];
 
 /// The 32 bytes that count, by their fields.
 #[derive(Clone, Copy)]

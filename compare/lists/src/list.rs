@@ -5,14 +5,17 @@ use std::path::PathBuf;
 
 use crate::hex;
 
-/// A replay takes in all its cases at once: they must stay small.
-const MOST_STDIN: usize = 120_000;
+/// The most that all answers of a list may take, in bytes.
+const MOST_STDOUT: usize = 1_500_000;
 
 pub struct List {
     /// The test program's name, which is its folder's.
     pub name: &'static str,
     /// The longest that a case may be, in bytes.
     pub longest: usize,
+    /// The most that all cases may take, in bytes: a replay takes them in at
+    /// once.
+    pub room: usize,
     pub cases: Vec<Vec<u8>>,
     /// Answers that no case asks for; they come before the others.
     pub preamble: Vec<String>,
@@ -55,14 +58,16 @@ impl List {
     fn stdin(&self) -> String {
         assert!(self.cases.iter().all(|case| case.len() <= self.longest));
         let text = lines(self.cases.iter().map(|case| hex::digits(case)));
-        assert!(text.len() <= MOST_STDIN);
+        assert!(text.len() <= self.room, "{}: {}", self.name, text.len());
         text
     }
 
-    /// The preamble, then one answer a line.
+    /// The preamble, then the answers, each of one line or more.
     fn stdout(&self) -> String {
         let answers = self.cases.iter().map(|case| (self.answer)(case));
-        lines(self.preamble.iter().cloned().chain(answers))
+        let text = lines(self.preamble.iter().cloned().chain(answers));
+        assert!(text.len() <= MOST_STDOUT, "{}: {}", self.name, text.len());
+        text
     }
 }
 

@@ -4,12 +4,16 @@
 //! `stdout`, what the Rust answers to them. Both are made here from nothing
 //! but this source, the same at every run.
 
+mod batch;
 mod cases;
 mod checksum;
+mod frame;
 mod header;
 mod hex;
 mod list;
+mod log;
 mod random;
+mod refusal;
 mod utf8;
 
 use std::env;
@@ -18,16 +22,23 @@ use std::process::ExitCode;
 use list::List;
 
 fn main() -> ExitCode {
-    let act: fn(&List) -> Result<(), String> = match env::args().nth(1).as_deref() {
+    let mut words = env::args().skip(1);
+    let act: fn(&List) -> Result<(), String> = match words.next().as_deref() {
         Some("write") => List::write,
         Some("check") => List::check,
-        _ => {
-            eprintln!("usage: lists write | check");
-            return ExitCode::FAILURE;
-        }
+        _ => return usage(),
     };
+    let names: Vec<String> = words.collect();
+    let mut lists = lists();
+    if !names
+        .iter()
+        .all(|name| lists.iter().any(|list| list.name == name))
+    {
+        return usage();
+    }
+    lists.retain(|list| names.is_empty() || names.iter().any(|name| list.name == name));
     let mut code = ExitCode::SUCCESS;
-    for list in lists() {
+    for list in lists {
         println!("{}: {} cases", list.name, list.cases.len());
         if let Err(message) = act(&list) {
             eprintln!("{message}");
@@ -37,8 +48,19 @@ fn main() -> ExitCode {
     code
 }
 
-fn lists() -> [List; 3] {
-    [header::list(), checksum::list(), utf8::list()]
+fn usage() -> ExitCode {
+    eprintln!("usage: lists (write | check) [LIST ..]");
+    ExitCode::FAILURE
+}
+
+fn lists() -> Vec<List> {
+    vec![
+        header::list(),
+        checksum::list(),
+        utf8::list(),
+        batch::list(),
+        log::list(),
+    ]
 }
 
 #[cfg(test)]

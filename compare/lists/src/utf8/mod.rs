@@ -5,8 +5,8 @@
 
 mod at_random;
 mod long;
-mod samples;
-mod table;
+pub mod samples;
+pub mod table;
 
 use engine::error::SQLRiteError;
 use engine::mvcc::MvccCommitBatch;
@@ -19,6 +19,7 @@ pub fn list() -> List {
     List {
         name: "utf8_replay",
         longest: 300,
+        room: 120_000,
         cases: cases(),
         preamble: bitmaps(),
         answer,
@@ -89,34 +90,18 @@ fn cases() -> Vec<Vec<u8>> {
 #[cfg(test)]
 mod tests {
     use super::*;
-    use table::TABLE_3_7;
-
-    /// The Unicode Standard's table, row by row, without the Rust's help.
-    fn by_table(bytes: &[u8]) -> bool {
-        let fits = |row: &&&[(u8, u8)]| {
-            row.len() <= bytes.len()
-                && row
-                    .iter()
-                    .zip(bytes)
-                    .all(|((low, high), byte)| (low..=high).contains(&byte))
-        };
-        bytes.is_empty()
-            || TABLE_3_7
-                .iter()
-                .find(fits)
-                .is_some_and(|row| by_table(&bytes[row.len()..]))
-    }
+    use table::is_well_formed;
 
     #[test]
     fn the_standard_says_the_same() {
         for first in 0..=255 {
-            assert_eq!(is_text(&[first]), by_table(&[first]));
+            assert_eq!(is_text(&[first]), is_well_formed(&[first]));
             for second in 0..=255 {
-                assert_eq!(is_text(&[first, second]), by_table(&[first, second]));
+                assert_eq!(is_text(&[first, second]), is_well_formed(&[first, second]));
             }
         }
         for case in cases() {
-            assert_eq!(is_text(&case), by_table(&case));
+            assert_eq!(is_text(&case), is_well_formed(&case));
         }
     }
 

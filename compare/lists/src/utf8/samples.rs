@@ -170,7 +170,7 @@ pub fn scripts(cases: &mut Cases) {
     }
 }
 
-const SCRIPTS: &[&str] = &[
+pub const SCRIPTS: &[&str] = &[
     "The quick brown fox jumps over the lazy dog.",
     "Façade, naïveté, œuvre, señor, Straße, Łódź, Ærøskøbing",
     "e\u{301} and é, a\u{30a} and å",

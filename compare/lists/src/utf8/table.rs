@@ -16,6 +16,26 @@ pub const TABLE_3_7: [&[(u8, u8)]; 9] = [
     &[(0xf4, 0xf4), (0x80, 0x8f), (0x80, 0xbf), (0x80, 0xbf)],
 ];
 
+/// Whether bytes are sequences of the table, row by row, without the Rust's
+/// help.
+#[cfg(test)]
+pub fn is_well_formed(mut bytes: &[u8]) -> bool {
+    let fits = |row: &[(u8, u8)], bytes: &[u8]| {
+        row.len() <= bytes.len()
+            && row
+                .iter()
+                .zip(bytes)
+                .all(|((low, high), byte)| (low..=high).contains(&byte))
+    };
+    while !bytes.is_empty() {
+        let Some(row) = TABLE_3_7.iter().find(|row| fits(row, bytes)) else {
+            return false;
+        };
+        bytes = &bytes[row.len()..];
+    }
+    true
+}
+
 fn lowest(row: &[(u8, u8)]) -> Vec<u8> {
     row.iter().map(|(low, _)| *low).collect()
 }

@@ -1,0 +1,93 @@
+//! Times `MvccCommitBatch::decode` and `encode` on three bodies, and with
+//! the feature `port` the port's functions on the same ones.
+
+mod bodies;
+#[cfg(feature = "port")]
+mod port;
+mod rust;
+mod side;
+mod timing;
+
+use engine::mvcc::MvccCommitBatch;
+use engine::sql::pager::page::PAGE_SIZE;
+
+use side::Side;
+use timing::{Timed, timed};
+
+/// The Rust first: the others' ratios are to its times.
+fn sides() -> Vec<Side> {
+    vec![
+        rust::SIDE,
+        #[cfg(feature = "port")]
+        port::SIDE,
+    ]
+}
+
+fn main() {
+    for (name, batch) in bodies::all() {
+        let body = batch.encode().expect("a batch that fits");
+        println!("{name}");
+        assert_agreed(&body);
+        print(&bench(&batch, &body));
+    }
+}
+
+/// What is as fast as you like must also be right.
+fn assert_agreed(body: &[u8; PAGE_SIZE]) {
+    for side in sides() {
+        let mut out = [0xee; PAGE_SIZE];
+        (side.canonical)(body, &mut out);
+        assert!(out == *body, "{} writes another body", side.name);
+    }
+}
+
+const DECODE: &str = "decode";
+const ENCODE: &str = "encode";
+const BOTH: &str = "decode and encode";
+
+/// What was timed, on which side, and a call's median in nanoseconds.
+struct Row {
+    what: &'static str,
+    side: &'static str,
+    median: f64,
+}
+
+fn bench(batch: &MvccCommitBatch, body: &[u8; PAGE_SIZE]) -> Vec<Row> {
+    let mut calls: Vec<(&str, &str, Timed)> = Vec::new();
+    for Side { name, decode, .. } in sides() {
+        calls.push((DECODE, name, timed(move || decode(body))));
+    }
+    calls.push((ENCODE, rust::SIDE.name, timed(|| rust::encode(batch))));
+    for side in sides() {
+        let mut out = [0; PAGE_SIZE];
+        let call = timed(move || (side.canonical)(body, &mut out));
+        calls.push((BOTH, side.name, call));
+    }
+    let medians = timing::medians(calls.iter_mut().map(|(_, _, timed)| timed));
+    calls
+        .iter()
+        .zip(medians)
+        .map(|(&(what, side, _), median)| Row { what, side, median })
+        .collect()
+}
+
+/// The times, and ratios to the Rust's time for the same. The port's
+/// encoding starts from a body, so it is also held to what the Rust takes to
+/// encode a batch that is decoded already.
+fn print(rows: &[Row]) {
+    let rusts = |what: &str| {
+        rows.iter()
+            .find(|row| row.what == what && row.side == rust::SIDE.name)
+            .map_or(f64::NAN, |row| row.median)
+    };
+    for Row { what, side, median } in rows {
+        print!("  {what:18} {side:5} {median:10.1} ns");
+        if *side != rust::SIDE.name {
+            print!(", {:.2} of the Rust's", median / rusts(what));
+            if *what == BOTH {
+                print!(", {:.2} of its encode alone", median / rusts(ENCODE));
+            }
+        }
+        println!();
+    }
+}

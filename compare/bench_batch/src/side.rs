@@ -1,0 +1,13 @@
+//! The functions that are timed.
+
+/// One side of the comparison. To add one: a module with such a table, and
+/// its entry in `sides`. The answers are only there to be used, so that no
+/// compiler leaves the work out.
+pub struct Side {
+    pub name: &'static str,
+    /// Decodes a body.
+    pub decode: fn(&[u8]) -> u64,
+    /// Writes the body that `encode` writes for the batch of a body: decodes
+    /// and encodes.
+    pub canonical: fn(&[u8], &mut [u8]) -> u64,
+}
