@@ -41,7 +41,7 @@ fn answer(case: &[u8]) {
     let count = le::read_u32(case, 4);
     let salt = le::read_u32(case, 8);
     let mut body = [0u8; PAGE_SIZE];
-    make_body(&mut body, kind, le::read_u32(case, 13));
+    replay::draw_body(&mut body, kind, le::read_u32(case, 13));
     let mut log = [0x5au8; LOG_SIZE];
     match frame::write_frame(&mut log, AT, page_num, count, salt, &body) {
         Stored::Done => check(&log, page_num, count, salt),
@@ -52,49 +52,6 @@ fn answer(case: &[u8]) {
 // The answer that no list has.
 fn wrong() {
     io::write_all(1, b"wrong\n");
-}
-
-// Makes a body of a kind out of zeros.
-fn make_body(body: &mut [u8], kind: u8, seed: u32) {
-    match kind {
-        0 => replay::fill(body, (seed % 256) as u8),
-        4 => {
-            let byte = [(seed / 4096 % 256) as u8];
-            le::write_bytes(body, (seed % 4096) as usize, &byte);
-        }
-        5 => {
-            draw(body, kind, seed);
-            let n = (seed % 4097) as usize;
-            le::write_zeros(body, n, PAGE_SIZE - n);
-        }
-        _ => draw(body, kind, seed),
-    }
-}
-
-// Draws every byte from the numbers behind the seed.
-fn draw(body: &mut [u8], kind: u8, seed: u32) {
-    let mut x = seed;
-    let mut i = 0;
-    while i < body.len() {
-        x = next(x);
-        body[i] = shape(kind, (x / 16777216) as u8);
-        i += 1;
-    }
-}
-
-// The number behind x.
-fn next(x: u32) -> u32 {
-    ((x as u64 * 1664525 + 1013904223) % 4294967296) as u32
-}
-
-// The body's byte for a number's top byte.
-fn shape(kind: u8, top: u8) -> u8 {
-    match kind {
-        2 => { if top < 16 { top } else { 255 } }
-        3 => { if top < 128 { 0 } else { 255 } }
-        5 => 97 + top % 26,
-        _ => top,
-    }
 }
 
 // Answers the checksum, where the log gives the frame back.

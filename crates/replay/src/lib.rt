@@ -98,6 +98,49 @@ pub fn fill(out: &mut [u8], b: u8)
     }
 }
 
+// Makes the body of a kind and a seed out of a page's zeros (compare/README.md, checksum_replay).
+pub fn draw_body(body: &mut [u8], kind: u8, seed: u32) {
+    match kind {
+        0 => fill(body, (seed % 256) as u8),
+        4 => {
+            let byte = [(seed / 4096 % 256) as u8];
+            le::write_bytes(body, (seed % 4096) as usize, &byte);
+        }
+        5 => {
+            draw(body, kind, seed);
+            let n = (seed % 4097) as usize;
+            le::write_zeros(body, n, 4096 - n);
+        }
+        _ => draw(body, kind, seed),
+    }
+}
+
+// Draws every byte from the numbers behind the seed.
+fn draw(body: &mut [u8], kind: u8, seed: u32) {
+    let mut x = seed;
+    let mut i = 0;
+    while i < body.len() {
+        x = next(x);
+        body[i] = shape(kind, (x / 16777216) as u8);
+        i += 1;
+    }
+}
+
+// The number behind x.
+fn next(x: u32) -> u32 {
+    ((x as u64 * 1664525 + 1013904223) % 4294967296) as u32
+}
+
+// The body's byte for a number's top byte.
+fn shape(kind: u8, top: u8) -> u8 {
+    match kind {
+        2 => { if top < 16 { top } else { 255 } }
+        3 => { if top < 128 { 0 } else { 255 } }
+        5 => 97 + top % 26,
+        _ => top,
+    }
+}
+
 // Adds a text to a line at `at`, and answers where the next one goes.
 pub fn add_text(line: &mut [u8], at: usize, text: &[u8]) -> usize
     ensures { λ r. ⌜ (r ≡ endOf (now (line .entry)) at (length (now (text .entry)))) × (now (line .exit) ≡ store (now (line .entry)) at (now (text .entry))) ⌝ }

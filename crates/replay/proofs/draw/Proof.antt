@@ -2,8 +2,8 @@ use mathlib.Core.Path.{_≡_}
 use borrow.Author.Needs.{needs}
 use Prim.Native.Nat.{_-_}
 use lib.ListN.{length, length-set}
-use Rattle.checksum_replay.proofs.draw.Statement.{statement}
-use Rattle.checksum_replay.proofs.draw.Tie as tie
+use Rattle.replay.proofs.draw.Statement.{statement}
+use Rattle.replay.proofs.draw.Tie as tie
 
 abbrev Inv-loop : tie.InvT-loop
 Inv-loop body₀ kind seed x₀ i₀ body x i = length body ≡ length body₀

@@ -1,0 +1,21 @@
+// Lists the log on standard input in document 01's lines.
+use log_listing::LISTED_SIZE;
+use log_listing::LISTING_SIZE;
+use log_listing::Listed;
+
+// One byte more than is listed, so that a longer log is noticed.
+const LOG_SIZE: usize = LISTED_SIZE + 1;
+
+fn main() {
+    let mut space = [0u8; LOG_SIZE];
+    let n = io::read_full(0, &mut space);
+    let mut out = [0u8; LISTING_SIZE];
+    match log_listing::list_log(le::part(&space, 0, n), &mut out) {
+        Listed::Bytes(end) => print(le::part(&out, 0, end)),
+        Listed::Area => print(b""),
+    }
+}
+
+fn print(text: &[u8]) {
+    io::write_all(1, text);
+}
