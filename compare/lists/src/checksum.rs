@@ -2,6 +2,9 @@
 //!
 //! A case is a frame with a drawn body, in 17 bytes.
 
+#[cfg(test)]
+use std::collections::HashMap;
+
 use engine::sql::pager::page::PAGE_SIZE;
 
 use crate::cases::Cases;
@@ -32,6 +35,7 @@ fn cases() -> Vec<Vec<u8>> {
     single_bytes(&mut cases);
     texts(&mut cases);
     at_random(&mut cases);
+    runs_of_ones(&mut cases);
     cases.into_vec()
 }
 
@@ -100,12 +104,96 @@ fn at_random(cases: &mut Cases) {
     }
 }
 
+/// Bodies of zeros, of 0xff, mostly of 0xff, of 0 or 0xff and of any bytes,
+/// behind every heading whose sum is one long run of ones.
+fn runs_of_ones(cases: &mut Cases) {
+    let mut random = Random::new(7);
+    for ones in 7..=20 {
+        for place in 0..=20 - ones {
+            let sum = (1 << (ones + place)) - (1 << place);
+            let Some(heading) = heading_of(sum) else {
+                continue;
+            };
+            for (kind, seed) in [
+                (0, 0),
+                (0, 0xff),
+                (1, random.u32()),
+                (2, random.u32()),
+                (3, random.u32()),
+            ] {
+                cases.add(Drawn::new(heading, kind, seed).to_bytes());
+            }
+        }
+    }
+}
+
+/// A heading with that sum, if there is one: each byte counts twice as much
+/// as the next.
+fn heading_of(sum: u32) -> Option<Heading> {
+    let mut left = sum;
+    let mut bytes = [0; Heading::LENGTH];
+    for (at, byte) in bytes.iter_mut().enumerate() {
+        let weight = 1 << (Heading::LENGTH - 1 - at);
+        *byte = (left / weight).min(255) as u8;
+        left -= u32::from(*byte) * weight;
+    }
+    (left == 0).then(|| Heading::from_bytes(&bytes))
+}
+
 /// Document 01's rule, in numbers without a width.
 #[cfg(test)]
 pub fn by_document(heading: &[u8], body: &[u8]) -> u64 {
-    heading.iter().chain(body).fold(0, |sum, byte| {
-        let rotated = 2 * sum % (1u64 << 32) + sum / (1 << 31);
-        (rotated + u64::from(*byte)) % (1 << 32)
+    carried(carried(0, heading), body)
+}
+
+/// The sum carried from a start over bytes, by the same rule.
+#[cfg(test)]
+pub fn carried(start: u64, bytes: &[u8]) -> u64 {
+    bytes
+        .iter()
+        .fold(start, |sum, byte| step(sum, *byte) % (1 << 32))
+}
+
+/// A step before it wraps.
+#[cfg(test)]
+fn step(sum: u64, byte: u8) -> u64 {
+    2 * sum % (1 << 32) + sum / (1 << 31) + u64::from(byte)
+}
+
+/// That sums over the bytes meet all that sums in blocks of 8 and of 16 bytes
+/// can: blocks whose rotated sum and weight carry out of the 32 bits or do
+/// not, and among the first such with a step that wraps, and without.
+#[cfg(test)]
+pub fn assert_blocks_met(sums: &[(u64, Vec<u8>)]) {
+    for size in [8, 16] {
+        let blocks = sums
+            .iter()
+            .flat_map(|(start, bytes)| blocks(size, *start, bytes));
+        let mut met = HashMap::new();
+        blocks.for_each(|block| *met.entry(block).or_insert(0) += 1);
+        for block in [(false, false), (true, false), (true, true)] {
+            assert!(met[&block] > 100, "{size}: {met:?}");
+        }
+        // A block that does not carry out has no step that wraps.
+        assert!(!met.contains_key(&(false, true)));
+    }
+}
+
+/// Of each whole block of a size, whether it carries out and whether one of
+/// its steps wraps.
+#[cfg(test)]
+fn blocks(size: usize, start: u64, bytes: &[u8]) -> impl Iterator<Item = (bool, bool)> {
+    let mut sum = start;
+    bytes.chunks_exact(size).map(move |block| {
+        let weight = block.iter().fold(0, |t, byte| 2 * t + u64::from(*byte));
+        let rotated = u64::from((sum as u32).rotate_left(size as u32));
+        let mut wraps = false;
+        for byte in block {
+            let next = step(sum, *byte);
+            wraps |= next >= 1 << 32;
+            sum = next % (1 << 32);
+        }
+        (rotated + weight >= 1 << 32, wraps)
     })
 }
 
@@ -120,6 +208,27 @@ mod tests {
             let sum = by_document(&case[..Heading::LENGTH], &body);
             assert_eq!(answer(&case), format!("{sum:08x}"));
         }
+    }
+
+    #[test]
+    fn the_headings_have_their_sums() {
+        for sum in [0, 1, 0x7f00, 0xff00, 0xffff, 0x7ffff, 0xfe000, 255 * 4_095] {
+            let heading = heading_of(sum).unwrap();
+            assert_eq!(carried(0, &heading.to_bytes()), u64::from(sum));
+        }
+        assert!(heading_of(255 * 4_095 + 1).is_none());
+    }
+
+    #[test]
+    fn the_bodies_meet_every_way_of_a_block() {
+        let sums: Vec<_> = cases()
+            .iter()
+            .map(|case| {
+                let heading = carried(0, &case[..Heading::LENGTH]);
+                (heading, Drawn::from_bytes(case).body().to_vec())
+            })
+            .collect();
+        assert_blocks_met(&sums);
     }
 
     #[test]

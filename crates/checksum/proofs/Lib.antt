@@ -1,2 +1,4 @@
 -- The root of the laws of `checksum`.
 pub mod Sums
+pub mod Blocks
+pub mod Words

@@ -1,2 +1,3 @@
 -- The root of the definitions of `checksum`.
 pub mod Checksum
+pub mod Blocks
