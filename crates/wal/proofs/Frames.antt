@@ -7,6 +7,7 @@ use native.Mathlib.Omega.{arith}
 use borrow.Author.Tests.{ne-eqb}
 use lib.Dec.{eqb}
 use lib.ListN.{length, take, getD}
+use lib.Seq.{take-length, take-append-le}
 use Rattle.le.specs.Choice.{pick, both}
 use Rattle.le.proofs.Compare.{no-test}
 use Rattle.frame.specs.Frame.{encodeFrame, headerOf, intact}
@@ -219,6 +220,16 @@ pub sealed-behind : (fs gs : List (List ℕ)) (h : List ℕ) (hs : List (List �
 unfolding sealed
 sealed-behind [] gs h hs e = refl
 sealed-behind (f ∷ fs) gs h hs e = rw (sealed-behind fs gs h hs e, e) (from-more f fs h hs)
+
+-- what was sealed stays sealed, in front, whatever comes behind
+sealed-by : (fs gs s : List (List ℕ)) → sealed gs ≡ s → sealed fs ≡ take (length (sealed fs)) (sealed (fs ++ gs))
+sealed-by fs gs [] e = rw (sealed-open fs gs e) (sym (take-length (sealed fs)))
+sealed-by fs gs (h ∷ hs) e =
+    let t : take (length (sealed fs)) (fs ++ sealed gs) ≡ take (length (sealed fs)) fs = take-append-le (length (sealed fs)) fs (sealed gs) (sealed-most fs) in
+    rw (sealed-behind fs gs h hs e, t) (sealed-front fs)
+
+pub sealed-more : (fs gs : List (List ℕ)) → sealed fs ≡ take (length (sealed fs)) (sealed (fs ++ gs))
+sealed-more fs gs = sealed-by fs gs (sealed gs) refl
 
 -- ---- what is looked up in them
 

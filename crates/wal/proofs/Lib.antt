@@ -9,6 +9,8 @@ pub mod Laid
 pub mod Opening
 pub mod Replay
 pub mod Reading
+pub mod Kept
 pub mod Writing
+pub mod Reached
 pub mod Lengths
 pub mod Sample

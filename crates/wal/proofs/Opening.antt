@@ -4,14 +4,14 @@ use mathlib.Core.Bool.{Bool, true, false}
 use mathlib.Core.List.{List, [], _∷_, _++_}
 use Prim.Native.Nat.{ℕ, _+_, _-_, _*_, _/_, _%_, _^_, _≤_, _<_}
 use native.Mathlib.Omega.{arith}
-use borrow.Author.Tests.{le-leb, leb-true}
+use borrow.Author.Tests.{le-leb, leb-true, eq-eqb}
 use lib.Dec.{leb, eqb}
 use lib.ListN.{length, take, length-append}
 use lib.Seq.{length-take-le}
 use Rattle.le.specs.Choice.{pick}
 use Rattle.wal.specs.Header.{headerIn, decodeWalHeader}
-use Rattle.wal.specs.Recovery.{chunks, countOf, sealed, lastCount, Recovered, recovered, sealedFrames, commitPoint, lastCommit, frameCount, walOf, walArea, openedBy, openLog}
-use Rattle.wal.specs.Write.{emptyWal, withFrame}
+use Rattle.wal.specs.Recovery.{chunks, countOf, sealed, lastCount, Recovered, recovered, sealedFrames, goodEnd, commitPoint, lastCommit, frameCount, walOf, walArea, openedBy, openLog}
+use Rattle.wal.specs.Write.{emptyWal, longer, withFrame}
 use Rattle.wal.specs.declared.WalHeader.{WalHeader}
 use Rattle.wal.specs.declared.WalHeaderDecoded.{WalHeaderDecoded}
 use Rattle.wal.specs.declared.WalHeaderDecoded.the-variants as decoded
@@ -38,16 +38,20 @@ module _ (n : ℕ) (r : Recovered) (f : List ℕ) where
   frames-one : length (r .frames ++ (f ∷ [])) ≡ length (r .frames) + 1
   frames-one = simp length-append
 
+  count-one : length (r .frames) + 1 < 2 ^ 64 → (length (r .frames) + 0 + 1) % 2 ^ 64 ≡ length (r .frames) + 1 + 0
+  count-one h = omega arith
+
+  end-one : 32 + 4112 * length (r .frames) ≡ n → 32 + 4112 * (length (r .frames) + 1) ≡ n + 4112
+  end-one k = omega arith
+
+  at-end : 32 + 4112 * length (r .frames) ≡ n → eqb n (32 + 4112 * length (r .frames)) ≡ true
+  at-end k = eq-eqb _ _ (sym k)
+
   with-frame : (b : Bool) → eqb (countOf f) 0 ≡ b → 32 + 4112 * length (r .frames) ≡ n → r .stopped ≡ false → length (r .frames) + 1 < 2 ^ 64
       → walOf (n + 4112) (extended r f) ≡ withFrame (walOf n r) (countOf f)
-  unfolding walOf withFrame
-  with-frame true e k s h =
-      let m : (length (r .frames) + 0 + 1) % 2 ^ 64 ≡ length (r .frames) + 1 + 0 = omega arith in
-      rw (extended-sealed true e, frames-one, e, s, m)
-  with-frame false e k s h =
-      let m : (length (r .frames) + 0 + 1) % 2 ^ 64 ≡ length (r .frames) + 1 + 0 = omega arith in
-      let p : 32 + 4112 * (length (r .frames) + 1) ≡ n + 4112 = omega arith in
-      rw (extended-sealed false e, frames-one, e, s, m, p, lastCount-snoc (r .frames) f)
+  unfolding walOf longer
+  with-frame true e k s h = rw (extended-sealed true e, frames-one, e, s, count-one h, end-one k, at-end k)
+  with-frame false e k s h = rw (extended-sealed false e, frames-one, e, s, count-one h, end-one k, at-end k, lastCount-snoc (r .frames) f)
 
   -- a good frame read or appended at the log's length, behind frames only
   pub wal-append : 32 + 4112 * length (r .frames) ≡ n → r .stopped ≡ false → length (r .frames) + 1 < 2 ^ 64
@@ -120,6 +124,10 @@ module _ (l : List ℕ) (w : Wal) (k : w ≡ walOf (length l) (recovered l)) whe
   unfolding walOf
   known-len = ap (λ (x : Wal). x .len) k
 
+  pub known-good : w .«good_end» ≡ goodEnd (recovered l)
+  unfolding walOf
+  known-good = ap (λ (x : Wal). x .«good_end») k
+
   pub known-commit : w .«last_commit_offset» ≡ commitPoint (recovered l)
   unfolding walOf
   known-commit = ap (λ (x : Wal). x .«last_commit_offset») k
@@ -148,6 +156,7 @@ pub cut-known : (l : List ℕ) → walOf (commitPoint (recovered l)) (recovered 
     ≡ record {
       header = recovered l .header;
       len = commitPoint (recovered l);
+      «good_end» = commitPoint (recovered l);
       «last_commit_offset» = commitPoint (recovered l);
       «last_commit_page_count» = lastCommit (recovered l);
       «frame_count» = length (sealedFrames (recovered l));

@@ -100,6 +100,7 @@ module _ (l : List ℕ) (w : Wal) (at : ℕ) (r : Reading l w at) where
       → record {
         header = w .header;
         len = length l;
+        «good_end» = w .«good_end»;
         «last_commit_offset» = w .«last_commit_offset»;
         «last_commit_page_count» = w .«last_commit_page_count»;
         «frame_count» = w .«frame_count» + 1;
@@ -133,6 +134,7 @@ module _ (l : List ℕ) (w : Wal) (at : ℕ) (r : Reading l w at) where
       → record {
         header = w .header;
         len = length l;
+        «good_end» = w .«good_end»;
         «last_commit_offset» = w .«last_commit_offset»;
         «last_commit_page_count» = w .«last_commit_page_count»;
         «frame_count» = w .«frame_count»;

@@ -77,6 +77,7 @@ pub sample-opens : openLog sample
     ≡ opened.Opened (record {
       header = createdHeader 0;
       len = 8256;
+      «good_end» = 8256;
       «last_commit_offset» = 8256;
       «last_commit_page_count» = commit.Count 2;
       «frame_count» = 2;

@@ -57,8 +57,11 @@ abbrev pub isBatch : List ℕ → Bool
 isBatch f = eqb (pageOf f) batchPage
 
 -- "for page 4294967295 (a batch), the body decodes"
+abbrev pub readableAs : ℕ → List ℕ → Bool
+readableAs page body = pick (eqb page batchPage) (decodes body) true
+
 abbrev pub readable : List ℕ → Bool
-readable f = pick (isBatch f) (decodes (bodyOf f)) true
+readable f = readableAs (pageOf f) (bodyOf f)
 
 -- "A frame is good if wholly inside the length, salt and checksum agree and, for page 4294967295 (a batch), the body decodes"
 unfoldable pub good : ℕ → List ℕ → Bool
@@ -125,6 +128,10 @@ recovered l =
 abbrev pub sealedFrames : Recovered → List (List ℕ)
 sealedFrames r = sealed (r .frames)
 
+-- where the good frames end
+abbrev pub goodEnd : Recovered → ℕ
+goodEnd r = chunkAt (length (r .frames))
+
 -- "The commit point is the end of the last seal, else 32"
 abbrev pub commitPoint : Recovered → ℕ
 commitPoint r = chunkAt (length (sealedFrames r))
@@ -145,6 +152,7 @@ walOf n r =
     record {
       header = r .header;
       len = n;
+      «good_end» = goodEnd r;
       «last_commit_offset» = commitPoint r;
       «last_commit_page_count» = lastCommit r;
       «frame_count» = frameCount r;

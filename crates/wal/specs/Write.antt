@@ -1,5 +1,5 @@
 -- What creating, truncating, appending and setting the clock answer and leave. In a refusal's number 0 is none.
-use mathlib.Core.Bool.{Bool}
+use mathlib.Core.Bool.{Bool, true, not}
 use mathlib.Core.List.{List}
 use Prim.Native.Nat.{ℕ, _+_, _%_, _^_}
 use lib.Dec.{leb, eqb}
@@ -7,9 +7,9 @@ use lib.ListN.{length}
 use Rattle.le.specs.Choice.{pick, both}
 use Rattle.le.specs.Le.{put}
 use Rattle.page.specs.Page.{pageSize}
-use Rattle.frame.specs.Frame.{frameSize, encodeFrame}
+use Rattle.frame.specs.Frame.{frameSize, encodeFrame, frameAt, bodyOf}
 use Rattle.wal.specs.Header.{headerSize, walVersion, encodeWalHeader}
-use Rattle.wal.specs.Recovery.{walArea}
+use Rattle.wal.specs.Recovery.{readableAs, walArea}
 use Rattle.wal.specs.declared.WalHeader.{WalHeader}
 use Rattle.wal.specs.declared.LastCommit.the-variants as commit
 use Rattle.wal.specs.declared.Wal.{Wal}
@@ -30,6 +30,7 @@ emptyWal h =
     record {
       header = h;
       len = headerSize;
+      «good_end» = headerSize;
       «last_commit_offset» = headerSize;
       «last_commit_page_count» = commit.Nothing;
       «frame_count» = 0;
@@ -77,36 +78,70 @@ truncateRefusal truncated.Area = 1
 
 -- ---- one frame more
 
--- the log one frame longer; "A nonzero commit count seals"
-unfoldable pub withFrame : Wal → ℕ → Wal
-withFrame w count =
+-- the log one frame longer; where that joins the good frames these end behind it, and "A nonzero commit count seals":
+-- "The commit point is the end of the last seal"
+unfoldable pub longer : Bool → Wal → ℕ → Wal
+longer joins w count =
     let plain = eqb count 0 in
     let end = w .len + frameSize in
     record {
       header = w .header;
       len = end;
-      «last_commit_offset» = pick plain (w .«last_commit_offset») end;
+      «good_end» = pick joins end (w .«good_end»);
+      «last_commit_offset» = pick (both joins (not plain)) end (w .«last_commit_offset»);
       «last_commit_page_count» = pick plain (w .«last_commit_page_count») (commit.Count count);
       «frame_count» = (w .«frame_count» + 1) % 2 ^ 64;
     }
 
--- a page, the log's area, and a length within it
+-- "Reading stops at the first frame that isn't": a good frame joins the good ones only where the length stood right at their end
+abbrev pub joins : Wal → Bool → Bool
+joins w isGood = both isGood (eqb (w .len) (w .«good_end»))
+
+-- the log with a good frame more
+abbrev pub withFrame : Wal → ℕ → Wal
+withFrame w count = longer (joins w true) w count
+
+-- the log's area, and a length within it
+abbrev pub lentFor : List ℕ → Wal → Bool
+lentFor l w = both (eqb (length l) walArea) (leb (w .len) walArea)
+
+-- and a page
 abbrev pub appendable : List ℕ → Wal → List ℕ → Bool
-appendable l w body = both (eqb (length body) pageSize) (both (eqb (length l) walArea) (leb (w .len) walArea))
+appendable l w body = both (eqb (length body) pageSize) (lentFor l w)
 
 -- 15: "length + 4,112 × frames to add is above 4,210,720"
 abbrev pub hasRoom : Wal → Bool
 hasRoom w = leb (w .len + frameSize) walArea
 
--- refusals in the order of their numbers
-unfoldable pub appendAnswer : List ℕ → Wal → List ℕ → ℕ → FrameAppended
-appendAnswer l w body count =
-    pick (appendable l w body) (pick (hasRoom w) (appended.Appended (withFrame w count)) appended.LogFull) appended.Area
+-- refusals in the order of their numbers; a frame that is written is good unless it is "a batch" whose body does not decode
+unfoldable pub appendAnswer : List ℕ → Wal → ℕ → List ℕ → ℕ → FrameAppended
+appendAnswer l w page body count =
+    pick (appendable l w body)
+    (pick (hasRoom w)
+    (appended.Appended (longer (joins w (readableAs page body)) w count))
+    appended.LogFull)
+    appended.Area
 
 -- "An added frame lands at the log's length, even where a torn tail leaves that off the frame places"
 unfoldable pub appendAfter : List ℕ → Wal → ℕ → List ℕ → ℕ → List ℕ
 appendAfter l w page body count =
     pick (both (appendable l w body) (hasRoom w)) (put l (w .len) (encodeFrame page count (w .header .salt) body)) l
+
+-- the same of the page that already lies behind the heading's place at the log's length
+abbrev pub lyingPage : List ℕ → Wal → List ℕ
+lyingPage l w = bodyOf (frameAt (w .len) l)
+
+unfoldable pub inPlaceAnswer : List ℕ → Wal → ℕ → ℕ → FrameAppended
+inPlaceAnswer l w page count =
+    pick (lentFor l w)
+    (pick (hasRoom w)
+    (appended.Appended (longer (joins w (readableAs page (lyingPage l w))) w count))
+    appended.LogFull)
+    appended.Area
+
+unfoldable pub inPlaceAfter : List ℕ → Wal → ℕ → ℕ → List ℕ
+inPlaceAfter l w page count =
+    pick (both (lentFor l w) (hasRoom w)) (put l (w .len) (encodeFrame page count (w .header .salt) (lyingPage l w))) l
 
 abbrev pub appendRefusal : FrameAppended → ℕ
 appendRefusal (appended.Appended w) = 0
@@ -123,6 +158,7 @@ withClock w value =
       header =
           record { version = h .version; salt = h .salt; «checkpoint_seq» = h .«checkpoint_seq»; «clock_high_water» = value };
       len = w .len;
+      «good_end» = w .«good_end»;
       «last_commit_offset» = w .«last_commit_offset»;
       «last_commit_page_count» = w .«last_commit_page_count»;
       «frame_count» = w .«frame_count»;

@@ -3,13 +3,15 @@
 ghost use mathlib.Core.Path.{_≡_};
 ghost use Prim.Native.Nat.{_+_, _-_, _/_, _^_, _<_};
 ghost use lib.ListN.{length, drop};
+ghost use lib.Dec.{eqb};
+ghost use Rattle.le.specs.Choice.{pick, both};
 ghost use Rattle.le.specs.Answers.{storedOf};
 ghost use Rattle.le.specs.Le.{store};
 ghost use Rattle.frame.specs.Frame.{frameAt, bodyOf};
 ghost use Rattle.wal.specs.Header.{encodeWalHeader, headerIn, decodeWalHeader};
-ghost use Rattle.wal.specs.Recovery.{readable, chunks, pageIn, recovered, walOf, openLog};
+ghost use Rattle.wal.specs.Recovery.{readableAs, readable, chunks, pageIn, recovered, walOf, openLog};
 ghost use Rattle.wal.specs.Read.{frameIn, readPage, batchFrom, nextBatch};
-ghost use Rattle.wal.specs.Write.{emptyWal, createAnswer, createAfter, truncateAnswer, truncateAfter, withFrame, appendAnswer, appendAfter, clockAnswer};
+ghost use Rattle.wal.specs.Write.{emptyWal, createAnswer, createAfter, truncateAnswer, truncateAfter, longer, joins, appendAnswer, appendAfter, inPlaceAnswer, inPlaceAfter, clockAnswer};
 use frame::FRAME_SIZE;
 use frame::FrameHeader;
 use le::Stored;
@@ -100,10 +102,12 @@ pub struct Wal {
     pub header: WalHeader,
     // The log's length in its area.
     pub len: usize,
-    // The commit point: the end of the last seal.
+    // Where the good frames end: an added frame joins them only where the length stood right there.
+    pub good_end: usize,
+    // The commit point: the end of the last seal among the good frames.
     pub last_commit_offset: usize,
     pub last_commit_page_count: LastCommit,
-    // Good frames, sealed or not, and a last batch frame that did not decode.
+    // Good frames, sealed or not, a last batch frame that did not decode, and every frame added since.
     pub frame_count: usize,
 }
 
@@ -117,44 +121,61 @@ pub enum WalOpened {
     PageSize,
 }
 
+fn both(a: bool, b: bool) -> bool
+    ensures { λ r. ⌜ r ≡ both a b ⌝ }
+{
+    if a { b } else { false }
+}
+
+fn choose(first: bool, a: usize, b: usize) -> usize
+    ensures { λ r. ⌜ r ≡ pick first a b ⌝ }
+{
+    if first { a } else { b }
+}
+
+// The last seal's count, after a frame's.
+fn counted(last: LastCommit, commit_page_count: u32) -> LastCommit
+    ensures { λ r. ⌜ r ≡ pick (eqb «commit_page_count» 0) last (LastCommit.Count «commit_page_count») ⌝ }
+{
+    if commit_page_count == 0 {
+        return last;
+    }
+    LastCommit::Count(commit_page_count)
+}
+
 impl Wal {
     // A log of its header alone.
-    fn empty(header: WalHeader) -> Wal
+    pub fn empty(header: WalHeader) -> Wal
         ensures { λ r. ⌜ r ≡ emptyWal header ⌝ }
     {
         Wal {
             header,
             len: WAL_HEADER_SIZE,
+            good_end: WAL_HEADER_SIZE,
             last_commit_offset: WAL_HEADER_SIZE,
             last_commit_page_count: LastCommit::Nothing,
             frame_count: 0,
         }
     }
 
-    // The log one frame longer; a nonzero count seals.
-    fn with_frame(self, commit_page_count: u32) -> Wal
+    // The log one frame longer. A good frame joins the good ones only where the length stood right at their end,
+    // and then a nonzero count seals.
+    fn with_frame(self, good: bool, commit_page_count: u32) -> Wal
         requires { ⌜ self .len + 4112 < 2 ^ 64 ⌝ }
-        ensures { λ r. ⌜ r ≡ withFrame self «commit_page_count» ⌝ }
+        ensures { λ r. ⌜ r ≡ longer (joins self good) self «commit_page_count» ⌝ }
     {
         let header = self.header;
+        let last_commit_page_count = self.last_commit_page_count;
         let end = self.len + FRAME_SIZE;
-        let frame_count = std::num::wrapping_add_usize(self.frame_count, 1);
-        if commit_page_count == 0 {
-            let last_commit_page_count = self.last_commit_page_count;
-            return Wal {
-                header,
-                len: end,
-                last_commit_offset: self.last_commit_offset,
-                last_commit_page_count,
-                frame_count,
-            };
-        }
+        let joins = both(good, self.len == self.good_end);
+        let seals = both(joins, commit_page_count != 0);
         Wal {
             header,
             len: end,
-            last_commit_offset: end,
-            last_commit_page_count: LastCommit::Count(commit_page_count),
-            frame_count,
+            good_end: choose(joins, end, self.good_end),
+            last_commit_offset: choose(seals, end, self.last_commit_offset),
+            last_commit_page_count: counted(last_commit_page_count, commit_page_count),
+            frame_count: std::num::wrapping_add_usize(self.frame_count, 1),
         }
     }
 
@@ -175,15 +196,22 @@ impl Wal {
     }
 }
 
+// Whether a body is a page's, or a batch's that decodes.
+fn is_readable_as(page_num: u32, body: &[u8]) -> bool
+    ensures { λ r. ⌜ r ≡ readableAs «page_num» (now (body .entry)) ⌝ }
+{
+    if page_num != MVCC_FRAME_MARKER {
+        return true;
+    }
+    mvcc::decodes(body)
+}
+
 // Whether the frame at `at` is a page's, or a batch's whose body decodes.
 pub fn is_readable(file: &[u8], at: usize) -> bool
     ensures { λ r. ⌜ r ≡ readable (frameAt at (now (file .entry))) ⌝ }
 {
     let header = frame::read_frame_header(file, at);
-    if header.page_num != MVCC_FRAME_MARKER {
-        return true;
-    }
-    mvcc::decodes(frame::frame_body(file, at))
+    is_readable_as(header.page_num, frame::frame_body(file, at))
 }
 
 // Reads frames up to the first that is not good.
@@ -201,7 +229,7 @@ fn replay_frames(file: &[u8], header: WalHeader) -> Wal
             return wal;
         }
         let found = frame::read_frame_header(file, at);
-        wal = wal.with_frame(found.commit_page_count);
+        wal = wal.with_frame(true, found.commit_page_count);
         at += FRAME_SIZE;
     }
     wal.len = file.len();
@@ -253,7 +281,7 @@ fn last_body(file: &[u8], page_num: u32) -> &[u8]
 }
 
 // A page's own bytes inside the log, from its last frame up to the commit point; no byte if there is none.
-// In a log as it was opened, the frames up to there are the sealed ones.
+// The frames up to there are sealed good ones, also in a log that was appended to behind a torn tail.
 pub fn read_page(file: &[u8], wal: Wal, page_num: u32) -> &[u8]
     ensures { λ r. ⌜ now r ≡ readPage (now (file .entry)) (wal .«last_commit_offset») «page_num» ⌝ }
 {
@@ -270,7 +298,7 @@ pub enum BatchFound {
 }
 
 // The first batch at an index or behind it.
-fn first_batch(file: &[u8], index: usize) -> BatchFound
+pub fn first_batch(file: &[u8], index: usize) -> BatchFound
     ensures { λ r. ⌜ r ≡ batchFrom index (drop index (chunks (now (file .entry)))) ⌝ }
 {
     let count = chunk_count(file.len());
@@ -355,7 +383,7 @@ pub fn append_frame(
     content: &[u8],
     commit_page_count: u32,
 ) -> FrameAppended
-    ensures { λ r. ⌜ (r ≡ appendAnswer (now (log .entry)) wal (now (content .entry)) «commit_page_count») × (now (log .exit) ≡ appendAfter (now (log .entry)) wal «page_num» (now (content .entry)) «commit_page_count») ⌝ }
+    ensures { λ r. ⌜ (r ≡ appendAnswer (now (log .entry)) wal «page_num» (now (content .entry)) «commit_page_count») × (now (log .exit) ≡ appendAfter (now (log .entry)) wal «page_num» (now (content .entry)) «commit_page_count») ⌝ }
 {
     if content.len() != PAGE_SIZE {
         return FrameAppended::Area;
@@ -378,7 +406,32 @@ pub fn append_frame(
         header.salt,
         content,
     );
-    FrameAppended::Appended(wal.with_frame(commit_page_count))
+    let good = is_readable_as(page_num, content);
+    FrameAppended::Appended(wal.with_frame(good, commit_page_count))
+}
+
+// Makes the page that lies behind the heading's place at the log's length a frame; a nonzero count seals.
+pub fn append_in_place(
+    log: &mut [u8],
+    wal: Wal,
+    page_num: u32,
+    commit_page_count: u32,
+) -> FrameAppended
+    ensures { λ r. ⌜ (r ≡ inPlaceAnswer (now (log .entry)) wal «page_num» «commit_page_count») × (now (log .exit) ≡ inPlaceAfter (now (log .entry)) wal «page_num» «commit_page_count») ⌝ }
+{
+    if log.len() != WAL_AREA {
+        return FrameAppended::Area;
+    }
+    if WAL_AREA < wal.len {
+        return FrameAppended::Area;
+    }
+    if WAL_AREA - wal.len < FRAME_SIZE {
+        return FrameAppended::LogFull;
+    }
+    let good = is_readable_as(page_num, frame::frame_body(log, wal.len));
+    let header = wal.header;
+    frame::write_frame_header(log, wal.len, page_num, commit_page_count, header.salt);
+    FrameAppended::Appended(wal.with_frame(good, commit_page_count))
 }
 
 // What setting the clock answers.
@@ -400,6 +453,7 @@ pub fn set_clock_high_water(wal: Wal, value: u64) -> ClockSet
     ClockSet::Set(Wal {
         header,
         len: wal.len,
+        good_end: wal.good_end,
         last_commit_offset: wal.last_commit_offset,
         last_commit_page_count,
         frame_count: wal.frame_count,

@@ -34,7 +34,7 @@ returns-4 c =
 
 returns-5 : tie.Need-returns-5
 returns-5 c =
-    let e = c .before .before .before in
+    let e = c .before .before .before .before in
     let k = e .before .before .before in
     let f = k .before .before in
     let b = f .before .before in
@@ -42,7 +42,7 @@ returns-5 c =
     let a = d .before .before .before .args in
     let room : a .wal .len + 4112 ≤ 4210720 = omega (arith, k .if4 .left, f .if3 .left) in
     frame-appended (now (a .log)) (a .wal) (a .page-num) (now (a .content)) (a .commit-page-count) (d .if1 .left) (b .if2 .left) room
-    (e .write-frame .ensures .1) (c .with-frame .ensures)
+    (e .write-frame .ensures .1) (rw (c .before .is-readable-as .ensures) at (c .with-frame .ensures))
 
 pub append-frame-spec : {M : Type 1} → statement M
-append-frame-spec = tie.close (tie.spec returns returns-2 returns-3 returns-4 (search needs) (search needs) (search needs) returns-5)
+append-frame-spec = tie.close (tie.spec returns returns-2 returns-3 returns-4 (search needs) (search needs) (search needs) (search needs) returns-5)

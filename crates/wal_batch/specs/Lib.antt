@@ -1,0 +1,2 @@
+-- The root of the definitions of `wal_batch`.
+pub mod Batch
