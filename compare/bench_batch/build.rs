@@ -1,10 +1,10 @@
 //! With the feature `port`, links the static library that PORT_ARCHIVE names.
+//! It is the build script of the other crates with that feature too.
 
 use std::env;
 use std::path::Path;
 
 fn main() {
-    println!("cargo::rerun-if-changed=build.rs");
     println!("cargo::rerun-if-env-changed=PORT_ARCHIVE");
     if env::var_os("CARGO_FEATURE_PORT").is_none() {
         return;

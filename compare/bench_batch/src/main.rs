@@ -3,6 +3,8 @@
 
 mod bodies;
 #[cfg(feature = "port")]
+mod builder;
+#[cfg(feature = "port")]
 mod port;
 mod rust;
 mod side;
@@ -27,22 +29,28 @@ fn main() {
     for (name, batch) in bodies::all() {
         let body = batch.encode().expect("a batch that fits");
         println!("{name}");
-        assert_agreed(&body);
+        assert_agreed(&batch, &body);
         print(&bench(&batch, &body));
     }
 }
 
 /// What is as fast as you like must also be right.
-fn assert_agreed(body: &[u8; PAGE_SIZE]) {
+fn assert_agreed(batch: &MvccCommitBatch, body: &[u8; PAGE_SIZE]) {
     for side in sides() {
         let mut out = [0xee; PAGE_SIZE];
         (side.canonical)(body, &mut out);
         assert!(out == *body, "{} writes another body", side.name);
     }
+    for side in sides().iter().skip(1) {
+        let mut out = [0xee; PAGE_SIZE];
+        (side.encode)(batch, &mut out);
+        assert!(out == *body, "{} builds another body", side.name);
+    }
 }
 
 const DECODE: &str = "decode";
 const ENCODE: &str = "encode";
+const CHECKED: &str = "check and encode";
 const BOTH: &str = "decode and encode";
 
 /// What was timed, on which side, and a call's median in nanoseconds.
@@ -57,7 +65,12 @@ fn bench(batch: &MvccCommitBatch, body: &[u8; PAGE_SIZE]) -> Vec<Row> {
     for Side { name, decode, .. } in sides() {
         calls.push((DECODE, name, timed(move || decode(body))));
     }
-    calls.push((ENCODE, rust::SIDE.name, timed(|| rust::encode(batch))));
+    for Side { name, encode, .. } in sides() {
+        let mut out = [0; PAGE_SIZE];
+        calls.push((ENCODE, name, timed(move || encode(batch, &mut out))));
+    }
+    let checked = timed(|| rust::checked_encode(batch));
+    calls.push((CHECKED, rust::SIDE.name, checked));
     for side in sides() {
         let mut out = [0; PAGE_SIZE];
         let call = timed(move || (side.canonical)(body, &mut out));
@@ -71,9 +84,10 @@ fn bench(batch: &MvccCommitBatch, body: &[u8; PAGE_SIZE]) -> Vec<Row> {
         .collect()
 }
 
-/// The times, and ratios to the Rust's time for the same. The port's
-/// encoding starts from a body, so it is also held to what the Rust takes to
-/// encode a batch that is decoded already.
+/// The times, and ratios to the Rust's time for the same. The port's encoding
+/// is given bytes and checks that they are texts, so it is also held to what
+/// the Rust takes for both; what starts from a body also to what the Rust
+/// takes to encode a batch that is decoded already.
 fn print(rows: &[Row]) {
     let rusts = |what: &str| {
         rows.iter()
@@ -84,8 +98,11 @@ fn print(rows: &[Row]) {
         print!("  {what:18} {side:5} {median:10.1} ns");
         if *side != rust::SIDE.name {
             print!(", {:.2} of the Rust's", median / rusts(what));
+            if *what == ENCODE {
+                print!(", {:.2} of its {CHECKED}", median / rusts(CHECKED));
+            }
             if *what == BOTH {
-                print!(", {:.2} of its encode alone", median / rusts(ENCODE));
+                print!(", {:.2} of its {ENCODE}", median / rusts(ENCODE));
             }
         }
         println!();

@@ -1,12 +1,14 @@
 //! The port's side: the functions that its static library exports. A slice
 //! goes over as its address and its length.
 
+use crate::builder::build;
 use crate::side::Side;
 
 pub const SIDE: Side = Side {
     name: "port",
     // Safety: both read the slices lent to them, and write `out` alone.
     decode: |body| unsafe { port_decode(body.as_ptr(), body.len()) },
+    encode: build,
     canonical: |body, out| unsafe {
         port_encode_canonical(body.as_ptr(), body.len(), out.as_mut_ptr(), out.len())
     },

@@ -3,6 +3,9 @@
 //! A list is two files in its program's folder: `stdin`, the cases, and
 //! `stdout`, what the Rust answers to them. Both are made here from nothing
 //! but this source, the same at every run.
+//!
+//! With the feature `port`, also compares any number of logs, drawn from a
+//! seed, with the port's own listing.
 
 mod batch;
 mod cases;
@@ -12,8 +15,11 @@ mod header;
 mod hex;
 mod list;
 mod log;
+#[cfg(feature = "port")]
+mod port;
 mod random;
 mod refusal;
+mod sum;
 mod utf8;
 
 use std::env;
@@ -22,21 +28,27 @@ use std::process::ExitCode;
 use list::List;
 
 fn main() -> ExitCode {
-    let mut words = env::args().skip(1);
-    let act: fn(&List) -> Result<(), String> = match words.next().as_deref() {
-        Some("write") => List::write,
-        Some("check") => List::check,
-        _ => return usage(),
-    };
-    let names: Vec<String> = words.collect();
+    let words: Vec<String> = env::args().skip(1).collect();
+    let words: Vec<&str> = words.iter().map(String::as_str).collect();
+    match &words[..] {
+        ["write", names @ ..] => each(List::write, names),
+        ["check", names @ ..] => each(List::check, names),
+        #[cfg(feature = "port")]
+        ["logs", seed, count] => logs(seed, count),
+        _ => usage(),
+    }
+}
+
+/// Acts on the lists that are named; on all if none is.
+fn each(act: fn(&List) -> Result<(), String>, names: &[&str]) -> ExitCode {
     let mut lists = lists();
     if !names
         .iter()
-        .all(|name| lists.iter().any(|list| list.name == name))
+        .all(|name| lists.iter().any(|list| list.name == *name))
     {
         return usage();
     }
-    lists.retain(|list| names.is_empty() || names.iter().any(|name| list.name == name));
+    lists.retain(|list| names.is_empty() || names.contains(&list.name));
     let mut code = ExitCode::SUCCESS;
     for list in lists {
         println!("{}: {} cases", list.name, list.cases.len());
@@ -48,8 +60,28 @@ fn main() -> ExitCode {
     code
 }
 
+/// Compares so many logs from a seed.
+#[cfg(feature = "port")]
+fn logs(seed: &str, count: &str) -> ExitCode {
+    let (Ok(seed), Ok(count)) = (seed.parse(), count.parse()) else {
+        return usage();
+    };
+    match log::at_scale::compare(seed, count, port::listed) {
+        Ok(found) => {
+            println!("{count} logs from seed {seed}: no difference");
+            print!("{found}");
+            ExitCode::SUCCESS
+        }
+        Err(difference) => {
+            eprintln!("{difference}");
+            ExitCode::FAILURE
+        }
+    }
+}
+
 fn usage() -> ExitCode {
     eprintln!("usage: lists (write | check) [LIST ..]");
+    eprintln!("       lists logs SEED COUNT (with the feature port)");
     ExitCode::FAILURE
 }
 
@@ -57,6 +89,7 @@ fn lists() -> Vec<List> {
     vec![
         header::list(),
         checksum::list(),
+        sum::list(),
         utf8::list(),
         batch::list(),
         log::list(),

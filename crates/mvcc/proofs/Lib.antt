@@ -8,3 +8,4 @@ pub mod Sound
 pub mod Whole
 pub mod Encode
 pub mod Canonical
+pub mod Heading

@@ -13,7 +13,7 @@ ghost use Rattle.mvcc.specs.Vector.{bitsAt, elementAt};
 pub const MVCC_FRAME_MARKER: u32 = 0xffff_ffff;
 
 // The leading bytes of a body, `MVCC0001`, as one number.
-const MVCC_BODY_MAGIC: u64 = 0x3130_3030_4343_564d;
+pub const MVCC_BODY_MAGIC: u64 = 0x3130_3030_4343_564d;
 
 // Where a text stands in the body.
 pub struct TextPlace {

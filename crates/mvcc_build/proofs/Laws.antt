@@ -25,14 +25,12 @@ use Rattle.text.proofs.Answers.{well-is, ill-is}
 use Rattle.mvcc.proofs.Trip.{length-encodeText}
 use Rattle.mvcc.proofs.Sound.{words-length}
 use Rattle.mvcc.specs.Seen.{words}
-use Rattle.mvcc_build.specs.Build.{judged, laid, recordIn, recordCount, headBytes, lastOf, headTold, recordAdded, recordBytes, columnIn, columnTold, columnCount, recounted, column, texted, columnAdded, columnBytes, elements, vectorAdded, vectorBytes, numberBytes, tagged, started, startedBytes}
+use Rattle.mvcc_build.specs.Build.{judged, laid, recordIn, recordCount, headBytes, lastOf, headTold, recordAdded, recordBytes, columnIn, columnTold, columnCount, recounted, column, texted, columnAdded, columnBytes, elements, vectorAdded, vectorBytes, tagged, started, startedBytes}
 use Rattle.mvcc_build.specs.declared.Last.{Last}
 use Rattle.mvcc_build.specs.declared.Last.the-variants.{Closed, Open}
 use Rattle.mvcc_build.specs.declared.BatchBuilder.{BatchBuilder}
 use Rattle.mvcc_build.specs.declared.Added.{Added}
 use Rattle.mvcc_build.specs.declared.Added.the-variants.{Done, Area, Truncated, Text, Fit, NoRecord}
-use Rattle.mvcc_build.specs.declared.Number.{Number}
-use Rattle.mvcc_build.specs.declared.Number.the-variants.{Nothing, Byte, Count, Eight}
 
 -- ---- tests
 
@@ -97,11 +95,16 @@ unfolding headBytes
 length-head op t row z =
     simp (length-append, length-encodeText, length-leBytes, length-replicate {A = ℕ}) (omega arith)
 
-pub length-tagged : (t : List ℕ) (tag : ℕ) (v : Number) (bs : List ℕ) → length (tagged t tag v bs) ≡ 3 + length (numberBytes v) + length t + length bs
+pub length-tagged : (t : List ℕ) (tag k v : ℕ) (bs : List ℕ) → length (tagged t tag k v bs) ≡ 3 + k + length t + length bs
 unfolding tagged
-length-tagged t tag v bs = simp (length-append, length-encodeText) (omega arith)
+length-tagged t tag k v bs = simp (length-append, length-encodeText, length-leBytes) (omega arith)
 
 -- ---- stores
+
+-- a number's lowest byte, then the others behind it
+pub number-more : (l : List ℕ) (at k v : ℕ) → at < length l → put (set l at (v % 256)) (at + 1) (leBytes k (v / 256)) ≡ put l at (leBytes (suc k) v)
+unfolding leBytes
+number-more l at k v h = rw (set-put l at (v % 256) h) (put-next 1 l at (v % 256 ∷ []) (leBytes k (v / 256)) refl (omega arith))
 
 module _ (l : List ℕ) (at : ℕ) (full : length l ≡ 4096) where
   pub text-stored : (t : List ℕ) {m r : List ℕ} → at + (2 + length t) ≤ 4096 → m ≡ store l at (leBytes 2 (length t)) → r ≡ store m (at + 2) t
@@ -115,27 +118,6 @@ module _ (l : List ℕ) (at : ℕ) (full : length l ≡ 4096) where
   -- a store that was judged to fit
   pub one-stored : (bs : List ℕ) {r : List ℕ} → at + length bs ≤ 4096 → r ≡ store l at bs → r ≡ put l at bs
   one-stored bs h e = e ∙ store-put l at bs (rw full h)
-
-  module _ (v : Number) (h : at + length (numberBytes v) ≤ 4096) where
-    pub number-none : v ≡ Nothing → l ≡ put l at (numberBytes v)
-    unfolding numberBytes
-    number-none e = rw (e, put-none)
-
-    pub number-room : {x : ℕ} → v ≡ Byte x → at < length l
-    unfolding numberBytes
-    number-room e = rw full (omega (arith, rw e at h))
-
-    pub number-byte : {x : ℕ} → v ≡ Byte x → set l at x ≡ put l at (numberBytes v)
-    unfolding numberBytes
-    number-byte {x} e = let i : at < length l = number-room e in rw (e, set-put l at x i)
-
-    pub number-count : {k : ℕ} {m : List ℕ} → v ≡ Count k → m ≡ store l at (leBytes 4 (k % 4294967296)) → m ≡ put l at (numberBytes v)
-    unfolding numberBytes
-    number-count {k} e f = rw e (one-stored (leBytes 4 k) (rw e at h) (f ∙ ap (store l at) (leBytes-mod 4 k)))
-
-    pub number-eight : {x : ℕ} {m : List ℕ} → v ≡ Eight x → m ≡ store l at (leBytes 8 x) → m ≡ put l at (numberBytes v)
-    unfolding numberBytes
-    number-eight {x} e f = rw e (one-stored (leBytes 8 x) (rw e at h) f)
 
   -- the body keeps its length
   pub kept : (bs : List ℕ) {r : List ℕ} → at + length bs ≤ 4096 → r ≡ put l at bs → length r ≡ length l
@@ -161,14 +143,15 @@ module _ (l : List ℕ) (at : ℕ) (full : length l ≡ 4096) where
       store-next (11 + length t) z l at ((op ∷ T) ++ R) Z (rw length-append (omega arith)) w (rw full (omega arith)) p3 e4 in
       p4 ∙ ap (put l at) (append-assoc (op ∷ T) R Z)
 
-  pub column-stored : (t : List ℕ) (tag : ℕ) (v : Number) (bs : List ℕ) {l1 l3 l4 : List ℕ}
-      → at + (3 + length (numberBytes v) + length t + length bs) ≤ 4096
-      → l1 ≡ put l at (encodeText 2 t) → l3 ≡ put (set l1 (at + (2 + length t)) tag) (at + (3 + length t)) (numberBytes v)
-      → l4 ≡ store l3 (at + (3 + length t + length (numberBytes v))) bs → l4 ≡ put l at (tagged t tag v bs)
+  pub column-stored : (t : List ℕ) (tag k v : ℕ) (bs : List ℕ) {l1 l3 l4 : List ℕ}
+      → at + (3 + k + length t + length bs) ≤ 4096
+      → l1 ≡ put l at (encodeText 2 t) → l3 ≡ put (set l1 (at + (2 + length t)) tag) (at + (3 + length t)) (leBytes k v)
+      → l4 ≡ store l3 (at + (3 + length t + k)) bs → l4 ≡ put l at (tagged t tag k v bs)
   unfolding tagged
-  column-stored t tag v bs {l1} {l3} {l4} h e1 e3 e4 =
+  column-stored t tag k v bs {l1} {l3} {l4} h e1 e3 e4 =
       let T = encodeText 2 t in
-      let N = numberBytes v in
+      let N = leBytes k v in
+      let m : length N ≡ k = length-leBytes k v in
       let n : length T ≡ 2 + length t = length-encodeText 2 t in
       let n3 : length (T ++ (tag ∷ [])) ≡ 3 + length t = rw length-append (omega arith) in
       let p2 : set l1 (at + (2 + length t)) tag ≡ put l at (T ++ (tag ∷ [])) =
@@ -176,7 +159,7 @@ module _ (l : List ℕ) (at : ℕ) (full : length l ≡ 4096) where
       let p3 : l3 ≡ put l at ((T ++ (tag ∷ [])) ++ N) =
       e3 ∙ rw p2 (put-next (3 + length t) l at (T ++ (tag ∷ [])) N n3 (rw full (omega arith))) in
       let p4 : l4 ≡ put l at (((T ++ (tag ∷ [])) ++ N) ++ bs) =
-      store-next (3 + length t + length N) (length bs) l at ((T ++ (tag ∷ [])) ++ N) bs (rw length-append (omega arith)) refl (rw full (omega arith)) p3 e4 in
+      store-next (3 + length t + k) (length bs) l at ((T ++ (tag ∷ [])) ++ N) bs (rw length-append (omega arith)) refl (rw full (omega arith)) p3 e4 in
       p4 ∙ ap (put l at) (simp append-assoc)
 
 -- ---- what an addition answers
@@ -261,9 +244,9 @@ module _ (b : BatchBuilder) (body : List ℕ) (op : ℕ) (t : List ℕ) (row : �
           way-more recordCount b body t H (recordIn b (length H) end) full e f size g h
           (rw (ne-eqb _ _ k, i, o)) (rw p at q)
 
-module _ (b : BatchBuilder) (body t : List ℕ) (tag : ℕ) (v : Number) (bs : List ℕ) where
+module _ (b : BatchBuilder) (body t : List ℕ) (tag k v : ℕ) (bs : List ℕ) where
   abbrev C : List ℕ
-  C = tagged t tag v bs
+  C = tagged t tag k v bs
 
   abbrev Cols : Added → List ℕ → Type 0
   Cols r l = (r ≡ columnTold b body (wellFormed t) C) × (l ≡ laid columnCount b body C r)
@@ -277,9 +260,9 @@ module _ (b : BatchBuilder) (body t : List ℕ) (tag : ℕ) (v : Number) (bs : L
     unfolding columnTold
     col-text f = way-text columnCount b body t C (columnIn b (length C) (b .last)) full e f
 
-    module _ (f : u ≡ WellFormed) {k : ℕ} (d : k ≡ length (numberBytes v)) {r : Bool} (g : r ≡ leb (b .at + (3 + k + length t + length bs)) 4096) where
+    module _ (f : u ≡ WellFormed) {r : Bool} (g : r ≡ leb (b .at + (3 + k + length t + length bs)) 4096) where
       sized : length C ≡ 3 + k + length t + length bs
-      sized = rw d (length-tagged t tag v bs)
+      sized = length-tagged t tag k v bs
 
       pub col-fit : r ≡ false → Cols Fit body
       unfolding columnTold
@@ -327,13 +310,13 @@ module _ (b : BatchBuilder) (body t : List ℕ) (row : ℤ) {r : Added} {l : Lis
       (e, rw (present-head, e) at q)
 
 -- a column of any kind, by the tag, number and bytes of its value
-module _ (b : BatchBuilder) (body n : List ℕ) (tag : ℕ) (v : Number) (bs : List ℕ) (x : Val) (e : tag ∷ (numberBytes v ++ bs) ≡ encodeValue x) where
-  same-column : tagged n tag v bs ≡ encodeColumn (column n x)
+module _ (b : BatchBuilder) (body n : List ℕ) (tag k v : ℕ) (bs : List ℕ) (x : Val) (e : tag ∷ (leBytes k v ++ bs) ≡ encodeValue x) where
+  same-column : tagged n tag k v bs ≡ encodeColumn (column n x)
   unfolding tagged encodeColumn
   same-column = rw e
 
-  pub column-way : {r : Added} {l : List ℕ} → texted x ≡ true → r ≡ columnTold b body (wellFormed n) (tagged n tag v bs)
-      → l ≡ laid columnCount b body (tagged n tag v bs) r
+  pub column-way : {r : Added} {l : List ℕ} → texted x ≡ true → r ≡ columnTold b body (wellFormed n) (tagged n tag k v bs)
+      → l ≡ laid columnCount b body (tagged n tag k v bs) r
       → (r ≡ columnAdded b body (column n x)) × (l ≡ columnBytes b body (column n x))
   unfolding columnAdded columnBytes
   column-way {r} t p q =
@@ -357,25 +340,26 @@ module _ (b : BatchBuilder) (body : List ℕ) (c : Col) where
 
 -- ---- the bytes of each kind of value
 
-pub null-bytes : 0 ∷ (numberBytes Nothing ++ []) ≡ encodeValue null
-unfolding numberBytes encodeValue
+pub null-bytes : 0 ∷ (leBytes 0 0 ++ []) ≡ encodeValue null
+unfolding leBytes encodeValue
 null-bytes = refl
 
-pub integer-bytes : (z : ℤ) {u : ℕ} → u ≡ ofZ w64 z → 1 ∷ (numberBytes (Eight u) ++ []) ≡ encodeValue (integer z)
-unfolding numberBytes encodeValue
+pub integer-bytes : (z : ℤ) {u : ℕ} → u ≡ ofZ w64 z → 1 ∷ (leBytes 8 u ++ []) ≡ encodeValue (integer z)
+unfolding encodeValue
 integer-bytes z e = rw (append-nil, e)
 
-pub real-bytes : (n : ℕ) → 2 ∷ (numberBytes (Eight n) ++ []) ≡ encodeValue (real n)
-unfolding numberBytes encodeValue
+pub real-bytes : (n : ℕ) → 2 ∷ (leBytes 8 n ++ []) ≡ encodeValue (real n)
+unfolding encodeValue
 real-bytes n = rw append-nil
 
-pub text-bytes : (t : List ℕ) → 3 ∷ (numberBytes (Count (length t)) ++ t) ≡ encodeValue (text t)
-unfolding numberBytes encodeValue encodeText
+pub text-bytes : (t : List ℕ) → 3 ∷ (leBytes 4 (length t) ++ t) ≡ encodeValue (text t)
+unfolding encodeValue encodeText
 text-bytes t = refl
 
-pub bool-bytes : (x : Bool) {n : ℕ} → n ≡ pick x 1 0 → 4 ∷ (numberBytes (Byte n) ++ []) ≡ encodeValue (bool x)
-unfolding numberBytes encodeValue
-bool-bytes x e = rw e
+pub bool-bytes : (x : Bool) {n : ℕ} → n ≡ pick x 1 0 → 4 ∷ (leBytes 1 n ++ []) ≡ encodeValue (bool x)
+unfolding leBytes encodeValue
+bool-bytes true e = rw e
+bool-bytes false e = rw e
 
 -- ---- vectors
 
@@ -387,8 +371,8 @@ words-bytes s b (suc n) at h =
     let e : suc n * 4 ≡ 4 + n * 4 = omega arith in
     rw (leBytes-field 4 at s b (omega arith), words-bytes s b n (at + 4) (omega arith), e, take-add 4 (n * 4) (drop at s), drop-drop)
 
-pub vector-bytes : (bs : List ℕ) → Bytes bs → length bs % 4 ≡ 0 → 5 ∷ (numberBytes (Count (length bs / 4)) ++ bs) ≡ encodeValue (vector (elements bs))
-unfolding numberBytes encodeValue elements
+pub vector-bytes : (bs : List ℕ) → Bytes bs → length bs % 4 ≡ 0 → 5 ∷ (leBytes 4 (length bs / 4) ++ bs) ≡ encodeValue (vector (elements bs))
+unfolding encodeValue elements
 vector-bytes bs b h =
     let e : length bs / 4 * 4 ≡ length bs = omega arith in
     rw (words-length bs b (length bs / 4) 0, words-bytes bs b (length bs / 4) 0 (omega arith), e, take-length)

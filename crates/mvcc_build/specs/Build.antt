@@ -17,8 +17,6 @@ use Rattle.mvcc_build.specs.declared.Last.the-variants.{Closed, Open}
 use Rattle.mvcc_build.specs.declared.BatchBuilder.{BatchBuilder}
 use Rattle.mvcc_build.specs.declared.Added.{Added}
 use Rattle.mvcc_build.specs.declared.Added.the-variants.{Done, Area, Truncated, Text, Fit, NoRecord}
-use Rattle.mvcc_build.specs.declared.Number.{Number}
-use Rattle.mvcc_build.specs.declared.Number.the-variants.{Nothing, Byte, Count, Eight}
 
 -- document 01's numbers; 0 is no refusal
 abbrev pub addedNumber : Added → ℕ
@@ -144,13 +142,6 @@ vectorAdded b body n bs =
 unfoldable pub vectorBytes : BatchBuilder → List ℕ → List ℕ → List ℕ → List ℕ
 vectorBytes b body n bs = laid columnCount b body (encodeColumn (column n (vector (elements bs)))) (vectorAdded b body n bs)
 
--- a number in front of a value's bytes
-unfoldable pub numberBytes : Number → List ℕ
-numberBytes Nothing = []
-numberBytes (Byte b) = b ∷ []
-numberBytes (Count k) = leBytes 4 k
-numberBytes (Eight v) = leBytes 8 v
-
--- a column by its name and its value's tag, number and bytes
-unfoldable pub tagged : List ℕ → ℕ → Number → List ℕ → List ℕ
-tagged n tag v bs = encodeText 2 n ++ (tag ∷ (numberBytes v ++ bs))
+-- a column by its name and its value's tag, number of k bytes, and bytes
+unfoldable pub tagged : List ℕ → ℕ → ℕ → ℕ → List ℕ → List ℕ
+tagged n tag k v bs = encodeText 2 n ++ (tag ∷ (leBytes k v ++ bs))

@@ -10,10 +10,10 @@ ghost use lib.ListN.{length};
 ghost use mir.Val.{ofZ};
 ghost use mir.Syntax.{w64};
 ghost use Rattle.le.specs.Choice.{pick};
-ghost use Rattle.le.specs.Le.{put};
+ghost use Rattle.le.specs.Le.{leBytes, put};
 ghost use Rattle.text.specs.Utf8.{wellFormed};
 ghost use Rattle.mvcc.specs.Batch.{null, integer, real, text, bool, tombstone, present, encodeText};
-ghost use Rattle.mvcc_build.specs.Build.{numberBytes, headBytes, lastOf, tagged, started, startedBytes, laid, recordCount, headTold, recordAdded, recordBytes, columnCount, columnTold, column, columnAdded, columnBytes, vectorAdded, vectorBytes};
+ghost use Rattle.mvcc_build.specs.Build.{headBytes, lastOf, tagged, started, startedBytes, laid, recordCount, headTold, recordAdded, recordBytes, columnCount, columnTold, column, columnAdded, columnBytes, vectorAdded, vectorBytes};
 
 // The record that was added last.
 pub enum Last {
@@ -42,15 +42,6 @@ pub enum Added {
     Fit,
     // A column, and no present record is last.
     NoRecord,
-}
-
-// The number in front of a value's bytes.
-enum Number {
-    Nothing,
-    Byte(u8),
-    // a length or a count, of 4 bytes
-    Count(usize),
-    Eight(u64),
 }
 
 // ---- parts of a record or column
@@ -103,32 +94,17 @@ fn put_text(body: &mut [u8], at: usize, t: &[u8])
     le::write_bytes(body, at + 2, t);
 }
 
-fn width(n: Number) -> usize
-    ensures { λ r. ⌜ (r ≡ length (numberBytes n)) × (r ≤ 8) ⌝ }
+// Stores the k lowest bytes of a number.
+fn put_number(body: &mut [u8], at: usize, k: usize, v: u64)
+    requires { ⌜ (length (now body) ≡ 4096) × (at + k ≤ 4096) ⌝ }
+    ensures { λ _. ⌜ now (body .exit) ≡ put (now (body .entry)) at (leBytes k v) ⌝ }
 {
-    match n {
-        Number::Nothing => 0,
-        Number::Byte(_) => 1,
-        Number::Count(_) => 4,
-        Number::Eight(_) => 8,
-    }
-}
-
-fn put_number(body: &mut [u8], at: usize, n: Number)
-    requires { ⌜ (length (now body) ≡ 4096) × (at + length (numberBytes n) ≤ 4096) ⌝ }
-    ensures { λ _. ⌜ now (body .exit) ≡ put (now (body .entry)) at (numberBytes n) ⌝ }
-{
-    match n {
-        Number::Nothing => {}
-        Number::Byte(b) => {
-            body[at] = b;
-        }
-        Number::Count(k) => {
-            le::write_u32(body, at, (k % 4294967296) as u32);
-        }
-        Number::Eight(v) => {
-            le::write_u64(body, at, v);
-        }
+    let mut left = v;
+    let mut i: usize = 0;
+    while i < k {
+        body[at + i] = (left % 256) as u8;
+        left = left / 256;
+        i += 1;
     }
 }
 
@@ -232,16 +208,16 @@ pub fn begin_present(body: &mut [u8], b: BatchBuilder, table: &[u8], rowid: i64)
 
 // ---- adding columns
 
-// Stores a column: its name, and its value's tag, number and bytes.
-fn put_column(body: &mut [u8], at: usize, name: &[u8], tag: u8, number: Number, bytes: &[u8])
-    requires { ⌜ (length (now body) ≡ 4096) × (at + (3 + length (numberBytes number) + length (now name) + length (now bytes)) ≤ 4096) ⌝ }
-    ensures { λ _. ⌜ now (body .exit) ≡ put (now (body .entry)) at (tagged (now (name .entry)) tag number (now (bytes .entry))) ⌝ }
+// Stores a column: its name, and its value's tag, number of k bytes, and bytes.
+fn put_column(body: &mut [u8], at: usize, name: &[u8], tag: u8, k: usize, v: u64, bytes: &[u8])
+    requires { ⌜ (length (now body) ≡ 4096) × (at + (3 + k + length (now name) + length (now bytes)) ≤ 4096) ⌝ }
+    ensures { λ _. ⌜ now (body .exit) ≡ put (now (body .entry)) at (tagged (now (name .entry)) tag k v (now (bytes .entry))) ⌝ }
 {
     let n = name.len();
     put_text(body, at, name);
     body[at + (2 + n)] = tag;
-    put_number(body, at + (3 + n), number);
-    le::write_bytes(body, at + (3 + n + width(number)), bytes);
+    put_number(body, at + (3 + n), k, v);
+    le::write_bytes(body, at + (3 + n + k), bytes);
 }
 
 // Adds a column to the last record, and counts it.
@@ -250,15 +226,16 @@ fn add_column(
     b: BatchBuilder,
     name: &[u8],
     tag: u8,
-    number: Number,
+    k: usize,
+    v: u64,
     bytes: &[u8],
 ) -> Added
-    ensures { λ r. ⌜ r ≡ columnTold b (now (body .entry)) (wellFormed (now (name .entry))) (tagged (now (name .entry)) tag number (now (bytes .entry))) ⌝ }
-    ensures { λ r. ⌜ now (body .exit) ≡ laid columnCount b (now (body .entry)) (tagged (now (name .entry)) tag number (now (bytes .entry))) r ⌝ }
+    requires { ⌜ k ≤ 8 ⌝ }
+    ensures { λ r. ⌜ r ≡ columnTold b (now (body .entry)) (wellFormed (now (name .entry))) (tagged (now (name .entry)) tag k v (now (bytes .entry))) ⌝ }
+    ensures { λ r. ⌜ now (body .exit) ≡ laid columnCount b (now (body .entry)) (tagged (now (name .entry)) tag k v (now (bytes .entry))) r ⌝ }
 {
     let at = b.at;
     let last = b.last;
-    let k = width(number);
     if body.len() != 4096 {
         return Added::Area;
     }
@@ -274,7 +251,7 @@ fn add_column(
     if columns == 0xffff {
         return Added::Fit;
     }
-    put_column(body, at, name, tag, number, bytes);
+    put_column(body, at, name, tag, k, v, bytes);
     le::write_u16(body, counted, columns + 1);
     Added::Done(BatchBuilder {
         at: at + (3 + k + name.len() + bytes.len()),
@@ -290,14 +267,14 @@ pub fn add_null(body: &mut [u8], b: BatchBuilder, name: &[u8]) -> Added
     ensures { λ r. ⌜ r ≡ columnAdded b (now (body .entry)) (column (now (name .entry)) null) ⌝ }
     ensures { λ _. ⌜ now (body .exit) ≡ columnBytes b (now (body .entry)) (column (now (name .entry)) null) ⌝ }
 {
-    add_column(body, b, name, 0, Number::Nothing, b"")
+    add_column(body, b, name, 0, 0, 0, b"")
 }
 
 pub fn add_integer(body: &mut [u8], b: BatchBuilder, name: &[u8], value: i64) -> Added
     ensures { λ r. ⌜ r ≡ columnAdded b (now (body .entry)) (column (now (name .entry)) (integer value)) ⌝ }
     ensures { λ _. ⌜ now (body .exit) ≡ columnBytes b (now (body .entry)) (column (now (name .entry)) (integer value)) ⌝ }
 {
-    add_column(body, b, name, 1, Number::Eight(unsigned_of(value)), b"")
+    add_column(body, b, name, 1, 8, unsigned_of(value), b"")
 }
 
 // A real by its bits, NaNs too.
@@ -305,7 +282,7 @@ pub fn add_real_bits(body: &mut [u8], b: BatchBuilder, name: &[u8], bits: u64) -
     ensures { λ r. ⌜ r ≡ columnAdded b (now (body .entry)) (column (now (name .entry)) (real bits)) ⌝ }
     ensures { λ _. ⌜ now (body .exit) ≡ columnBytes b (now (body .entry)) (column (now (name .entry)) (real bits)) ⌝ }
 {
-    add_column(body, b, name, 2, Number::Eight(bits), b"")
+    add_column(body, b, name, 2, 8, bits, b"")
 }
 
 pub fn add_real(body: &mut [u8], b: BatchBuilder, name: &[u8], value: f64) -> Added
@@ -325,10 +302,10 @@ pub fn add_text(body: &mut [u8], b: BatchBuilder, name: &[u8], value: &[u8]) -> 
     let text::Utf8::WellFormed = text::from_utf8(value) else {
         return Added::Text;
     };
-    add_column(body, b, name, 3, Number::Count(value.len()), value)
+    add_column(body, b, name, 3, 4, value.len() as u64, value)
 }
 
-fn byte_of(value: bool) -> u8
+fn byte_of(value: bool) -> u64
     ensures { λ r. ⌜ r ≡ pick value 1 0 ⌝ }
 {
     if value { 1 } else { 0 }
@@ -338,7 +315,7 @@ pub fn add_bool(body: &mut [u8], b: BatchBuilder, name: &[u8], value: bool) -> A
     ensures { λ r. ⌜ r ≡ columnAdded b (now (body .entry)) (column (now (name .entry)) (bool value)) ⌝ }
     ensures { λ _. ⌜ now (body .exit) ≡ columnBytes b (now (body .entry)) (column (now (name .entry)) (bool value)) ⌝ }
 {
-    add_column(body, b, name, 4, Number::Byte(byte_of(value)), b"")
+    add_column(body, b, name, 4, 1, byte_of(value), b"")
 }
 
 // A vector, from its elements' little-endian bytes, four each.
@@ -352,5 +329,5 @@ pub fn add_vector(body: &mut [u8], b: BatchBuilder, name: &[u8], bytes: &[u8]) -
     if bytes.len() % 4 != 0 {
         return Added::Truncated;
     }
-    add_column(body, b, name, 5, Number::Count(bytes.len() / 4), bytes)
+    add_column(body, b, name, 5, 4, (bytes.len() / 4) as u64, bytes)
 }

@@ -175,10 +175,30 @@ fn tail(s: &[u8], start: usize) -> Utf8
     Utf8::WellFormed
 }
 
+// Whether s has fewer than eight bytes, all ASCII, as most names of tables and columns are.
+fn is_short_ascii(s: &[u8]) -> bool
+    ensures { λ r. ⌜ (r ≡ true → Ascii (now (s .entry)) 0 (length (now (s .entry)))) ⌝ }
+{
+    if 8 <= s.len() {
+        return false;
+    }
+    let mut i: usize = 0;
+    while i < s.len() {
+        if 0x80 <= s[i] {
+            return false;
+        }
+        i += 1;
+    }
+    true
+}
+
 // Whether s is well-formed UTF-8. Where fewer than eight bytes are left, the last eight are looked at once more.
 pub fn from_utf8(s: &[u8]) -> Utf8
     ensures { λ r. ⌜ r ≡ utf8Of (now (s .entry)) ⌝ }
 {
+    if is_short_ascii(s) {
+        return Utf8::WellFormed;
+    }
     let at = walk(s);
     if 8 <= s.len() {
         if s.len() - at < 8 {

@@ -13,21 +13,28 @@ const NAMES: [&str; 10] = ["", "", "a", "id", "t1", "é", "名", "😀", "x y", 
 pub fn batches(cases: &mut Cases) {
     let mut random = Random::new(6);
     for round in 0..400 {
-        let mut bytes = batch(&mut random).as_ref().to_vec();
-        // The heading's faults are few and found elsewhere.
-        let at = 16 + random.below(bytes.len() - 16);
-        let byte = random.pick(&[0, 1, 2, 3, 4, 5, 6, 8, 0x7f, 0x80, 0xc3, 0xff]);
-        match round % 6 {
-            0 => bytes[at] = byte,
-            1 => drop(bytes.remove(at)),
-            2 => bytes.insert(at, byte),
-            _ => {}
-        }
+        let mut bytes = bytes(&mut random, round % 6);
         if random.below(3) == 0 {
             bytes = whole(bytes);
         }
         cases.add(case(bytes));
     }
+}
+
+/// A batch, by its bytes. In the ways 0 to 2 one of them is replaced, removed
+/// or put in.
+pub fn bytes(random: &mut Random, way: usize) -> Vec<u8> {
+    let mut bytes = batch(random).as_ref().to_vec();
+    // The heading's faults are few and found elsewhere.
+    let at = 16 + random.below(bytes.len() - 16);
+    let byte = random.pick(&[0, 1, 2, 3, 4, 5, 6, 8, 0x7f, 0x80, 0xc3, 0xff]);
+    match way {
+        0 => bytes[at] = byte,
+        1 => drop(bytes.remove(at)),
+        2 => bytes.insert(at, byte),
+        _ => {}
+    }
+    bytes
 }
 
 fn batch(random: &mut Random) -> Body {

@@ -3,7 +3,7 @@
 //! A case describes a body of 0 to 4,096 bytes: its length (2 bytes, little
 //! endian), and its bytes without the zeros at its end.
 
-mod at_random;
+pub mod at_random;
 pub mod body;
 #[cfg(test)]
 pub mod by_document;

@@ -29,7 +29,7 @@ fn good(random: &mut Random, frames: usize) -> Recipe {
     (0..frames).fold(header.log(), |log, _| frame(random, log))
 }
 
-fn frame(random: &mut Random, log: Recipe) -> Recipe {
+pub fn frame(random: &mut Random, log: Recipe) -> Recipe {
     let page = random.below(5) as u32;
     let count = 1 + random.below(6) as u32;
     let count = random.pick(&[0, 0, count]);
@@ -48,7 +48,7 @@ fn frame(random: &mut Random, log: Recipe) -> Recipe {
 }
 
 /// One log in three stays as it is.
-fn faulty(random: &mut Random, log: Recipe) -> Recipe {
+pub fn faulty(random: &mut Random, log: Recipe) -> Recipe {
     let length = log.log().len();
     let any = random.below(length);
     let frame = place(random.below(1 + length / 4_112));

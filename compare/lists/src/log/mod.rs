@@ -4,6 +4,8 @@
 //! what the program `loglist` prints.
 
 mod at_random;
+#[cfg(any(test, feature = "port"))]
+pub mod at_scale;
 mod batches;
 #[cfg(test)]
 mod by_document;

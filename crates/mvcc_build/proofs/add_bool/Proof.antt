@@ -5,7 +5,6 @@ use denote.Ref.{now}
 use Prim.Native.Nat.{_-_}
 use Rattle.mvcc_build.proofs.Laws.{column-way, bool-bytes}
 use Rattle.mvcc.specs.Batch.{bool}
-use Rattle.mvcc_build.specs.declared.Number.the-variants.{Byte}
 use borrow.Author.Needs.{needs}
 use Rattle.mvcc_build.proofs.add_bool.Statement.{statement}
 use Rattle.mvcc_build.proofs.add_bool.Tie as tie
@@ -13,7 +12,7 @@ use Rattle.mvcc_build.proofs.add_bool.Tie as tie
 returns : tie.Need-returns
 returns c =
     let a = c .before .before .before .before .before .before .before .before .args in
-    column-way (a .b) (a .body .now) (a .name .now) 4 (Byte (c .before .before .before .before .byte-of .result)) [] (bool (a .value)) (bool-bytes (a .value) (c .before .before .before .before .byte-of .ensures)) refl (c .before .before .add-column .ensures .0) (c .before .before .add-column .ensures .1)
+    column-way (a .b) (a .body .now) (a .name .now) 4 1 (c .before .before .before .before .byte-of .result) [] (bool (a .value)) (bool-bytes (a .value) (c .before .before .before .before .byte-of .ensures)) refl (c .before .before .add-column .ensures .0) (c .before .before .add-column .ensures .1)
 
 pub add-bool-spec : {M : Type 1} → statement M
 add-bool-spec =

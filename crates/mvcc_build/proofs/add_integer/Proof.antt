@@ -5,7 +5,6 @@ use denote.Ref.{now}
 use Prim.Native.Nat.{_-_}
 use Rattle.mvcc_build.proofs.Laws.{column-way, integer-bytes}
 use Rattle.mvcc.specs.Batch.{integer}
-use Rattle.mvcc_build.specs.declared.Number.the-variants.{Eight}
 use mir.ValLaws.{toZ-ofZ}
 use mir.Syntax.{w64}
 use borrow.Author.Needs.{needs}
@@ -15,7 +14,7 @@ use Rattle.mvcc_build.proofs.add_integer.Tie as tie
 returns : tie.Need-returns
 returns c =
     let a = c .before .before .before .before .before .before .before .before .args in
-    column-way (a .b) (a .body .now) (a .name .now) 1 (Eight (c .before .before .before .before .unsigned-of .result)) [] (integer (a .value)) (integer-bytes (a .value) (rw (toZ-ofZ w64 (a .value) (c .before .before .before .before .before .before .before .before .fits .value)) at (c .before .before .before .before .unsigned-of .ensures))) refl (c .before .before .add-column .ensures .0) (c .before .before .add-column .ensures .1)
+    column-way (a .b) (a .body .now) (a .name .now) 1 8 (c .before .before .before .before .unsigned-of .result) [] (integer (a .value)) (integer-bytes (a .value) (rw (toZ-ofZ w64 (a .value) (c .before .before .before .before .before .before .before .before .fits .value)) at (c .before .before .before .before .unsigned-of .ensures))) refl (c .before .before .add-column .ensures .0) (c .before .before .add-column .ensures .1)
 
 pub add-integer-spec : {M : Type 1} → statement M
 add-integer-spec =

@@ -5,7 +5,6 @@ use denote.Ref.{now}
 use Prim.Native.Nat.{_-_}
 use Rattle.mvcc_build.proofs.Laws.{column-way, null-bytes}
 use Rattle.mvcc.specs.Batch.{null}
-use Rattle.mvcc_build.specs.declared.Number.the-variants.{Nothing}
 use borrow.Author.Needs.{needs}
 use Rattle.mvcc_build.proofs.add_null.Statement.{statement}
 use Rattle.mvcc_build.proofs.add_null.Tie as tie
@@ -13,7 +12,7 @@ use Rattle.mvcc_build.proofs.add_null.Tie as tie
 returns : tie.Need-returns
 returns c =
     let a = c .before .before .before .before .before .before .before .args in
-    column-way (a .b) (a .body .now) (a .name .now) 0 Nothing [] null null-bytes refl (c .before .before .add-column .ensures .0) (c .before .before .add-column .ensures .1)
+    column-way (a .b) (a .body .now) (a .name .now) 0 0 0 [] null null-bytes refl (c .before .before .add-column .ensures .0) (c .before .before .add-column .ensures .1)
 
 pub add-null-spec : {M : Type 1} → statement M
 add-null-spec =

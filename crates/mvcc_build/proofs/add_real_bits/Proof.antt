@@ -5,7 +5,6 @@ use denote.Ref.{now}
 use Prim.Native.Nat.{_-_}
 use Rattle.mvcc_build.proofs.Laws.{column-way, real-bytes}
 use Rattle.mvcc.specs.Batch.{real}
-use Rattle.mvcc_build.specs.declared.Number.the-variants.{Eight}
 use borrow.Author.Needs.{needs}
 use Rattle.mvcc_build.proofs.add_real_bits.Statement.{statement}
 use Rattle.mvcc_build.proofs.add_real_bits.Tie as tie
@@ -13,7 +12,7 @@ use Rattle.mvcc_build.proofs.add_real_bits.Tie as tie
 returns : tie.Need-returns
 returns c =
     let a = c .before .before .before .before .before .before .before .args in
-    column-way (a .b) (a .body .now) (a .name .now) 2 (Eight (a .bits)) [] (real (a .bits)) (real-bytes (a .bits)) refl (c .before .before .add-column .ensures .0) (c .before .before .add-column .ensures .1)
+    column-way (a .b) (a .body .now) (a .name .now) 2 8 (a .bits) [] (real (a .bits)) (real-bytes (a .bits)) refl (c .before .before .add-column .ensures .0) (c .before .before .add-column .ensures .1)
 
 pub add-real-bits-spec : {M : Type 1} → statement M
 add-real-bits-spec =

@@ -4,7 +4,6 @@ use Prim.Native.Nat.{_-_}
 use lib.ListN.{length}
 use Rattle.mvcc_build.proofs.Laws.{column-area, column-text, no-text, is-text, column-way, text-bytes}
 use Rattle.mvcc.specs.Batch.{text}
-use Rattle.mvcc_build.specs.declared.Number.the-variants.{Count}
 use Rattle.mvcc_build.specs.Build.{column}
 use borrow.Author.Needs.{needs}
 use Rattle.mvcc_build.proofs.add_text.Statement.{statement}
@@ -20,7 +19,7 @@ returns-2 c =
 returns-3 : tie.Need-returns-3
 returns-3 c =
     let a = c .before .before .before .before .before .before .before .before .before .before .before .args in
-    column-way (a .b) (a .body .now) (a .name .now) 3 (Count (length (a .value .now))) (a .value .now) (text (a .value .now)) (text-bytes (a .value .now)) (is-text (a .value .now) (c .before .before .before .before .before .before .from-utf8 .ensures) (c .before .before .before .before .enum-told .given .1)) (c .before .before .add-column .ensures .0) (c .before .before .add-column .ensures .1)
+    column-way (a .b) (a .body .now) (a .name .now) 3 4 (length (a .value .now)) (a .value .now) (text (a .value .now)) (text-bytes (a .value .now)) (is-text (a .value .now) (c .before .before .before .before .before .before .from-utf8 .ensures) (c .before .before .before .before .enum-told .given .1)) (c .before .before .add-column .ensures .0) (c .before .before .add-column .ensures .1)
 
 pub add-text-spec : {M : Type 1} → statement M
 add-text-spec =

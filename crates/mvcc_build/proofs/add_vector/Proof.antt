@@ -5,7 +5,6 @@ use Prim.Native.Nat.{_-_, _/_}
 use lib.ListN.{length}
 use Rattle.mvcc_build.proofs.Laws.{vector-area, vector-cut, vector-way, column-way, vector-bytes}
 use Rattle.mvcc.specs.Batch.{vector}
-use Rattle.mvcc_build.specs.declared.Number.the-variants.{Count}
 use Rattle.mvcc_build.specs.Build.{elements}
 use borrow.Author.Needs.{needs}
 use Rattle.mvcc_build.proofs.add_vector.Statement.{statement}
@@ -22,7 +21,7 @@ returns-3 : tie.Need-returns-3
 returns-3 c =
     let a = c .before .before .before .before .before .before .before .before .before .args in
     vector-way (a .b) (a .body .now) (a .name .now) (a .bytes .now) (c .before .before .before .before .before .if1 .left) (c .before .before .before .before .if2 .left)
-    (column-way (a .b) (a .body .now) (a .name .now) 5 (Count (length (a .bytes .now) / 4)) (a .bytes .now) (vector (elements (a .bytes .now))) (vector-bytes (a .bytes .now) (λ i. c .before .before .before .before .before .before .shared-slice-known2 .given i .fits) (c .before .before .before .before .if2 .left)) refl (c .before .before .add-column .ensures .0) (c .before .before .add-column .ensures .1))
+    (column-way (a .b) (a .body .now) (a .name .now) 5 4 (length (a .bytes .now) / 4) (a .bytes .now) (vector (elements (a .bytes .now))) (vector-bytes (a .bytes .now) (λ i. c .before .before .before .before .before .before .shared-slice-known2 .given i .fits) (c .before .before .before .before .if2 .left)) refl (c .before .before .add-column .ensures .0) (c .before .before .add-column .ensures .1))
 
 pub add-vector-spec : {M : Type 1} → statement M
 add-vector-spec = tie.close (tie.spec returns returns-2 (search needs) (search needs) returns-3)

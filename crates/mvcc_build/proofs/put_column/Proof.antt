@@ -2,7 +2,6 @@
 use Rattle.mvcc_build.specs.Build.{tagged}
 use Rattle.mvcc_build.proofs.Laws.{column-stored, kept, length-tagged}
 use native.Mathlib.Omega.{arith}
-use denote.Ref.{now}
 use Prim.Native.Nat.{_-_}
 use lib.ListN.{length-set}
 use borrow.Author.Needs.{needs}
@@ -14,15 +13,19 @@ put-number-requires c κs = (simp length-set (omega arith), omega arith)
 
 returns : tie.Need-returns
 returns c =
-    let a = c .before .before .before .before .before .before .before .before .before .before .before .before .before .before .before .before .args in
-    column-stored (a .body .now) (a .at) (c .before .before .before .before .before .before .before .before .before .before .before .before .before .before .before .before .pre .0) (a .name .now) (a .tag) (a .number) (a .bytes .now) (c .before .before .before .before .before .before .before .before .before .before .before .before .before .before .before .before .pre .1) (c .before .before .before .before .before .before .before .before .before .before .before .put-text .ensures) (c .before .before .before .before .before .before .before .put-number .ensures) (rw (c .before .before .before .width .ensures .0) at (c .before .before .write-bytes .ensures .1))
+    let p = c .before .before .before .before .before .before in
+    let t = p .before .before .before .before in
+    let o = t .before .before .before .before .before in
+    let a = o .args in
+    column-stored (a .body .now) (a .at) (o .pre .0) (a .name .now) (a .tag) (a .k) (a .v) (a .bytes .now) (o .pre .1) (t .put-text .ensures) (p .put-number .ensures) (c .before .before .write-bytes .ensures .1)
 
 same-length : tie.Need-same-length
 same-length c =
-    let a = c .before .before .before .before .before .before .before .before .before .before .before .before .before .before .before .before .args in
-    kept (a .body .now) (a .at) (c .before .before .before .before .before .before .before .before .before .before .before .before .before .before .before .before .pre .0) (tagged (a .name .now) (a .tag) (a .number) (a .bytes .now)) (rw length-tagged (c .before .before .before .before .before .before .before .before .before .before .before .before .before .before .before .before .pre .1)) (returns c)
+    let o = c .before .before .before .before .before .before .before .before .before .before .before .before .before .before .before in
+    let a = o .args in
+    kept (a .body .now) (a .at) (o .pre .0) (tagged (a .name .now) (a .tag) (a .k) (a .v) (a .bytes .now)) (rw length-tagged (o .pre .1)) (returns c)
 
 pub put-column-spec : {M : Type 1} → statement M
 put-column-spec =
     tie.close
-    (tie.spec (search needs) (search needs) (search needs) (search needs) (search needs) (search needs) put-number-requires (search needs) (search needs) (search needs) (search needs) (search needs) same-length returns)
+    (tie.spec (search needs) (search needs) (search needs) (search needs) (search needs) (search needs) put-number-requires (search needs) (search needs) (search needs) (search needs) same-length returns)

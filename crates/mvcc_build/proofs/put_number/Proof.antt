@@ -1,32 +1,48 @@
 -- `mvcc_build::put_number` meets its contract. Assumes nothing.
-use Rattle.mvcc_build.proofs.Laws.{number-room, number-none, number-byte, number-count, number-eight}
+use native.Mathlib.Omega.{arith}
+use mathlib.Core.Path.{_≡_, refl, sym, _∙_}
 use denote.Ref.{now}
-use Prim.Native.Nat.{_-_}
+use Prim.Native.Nat.{suc, _+_, _-_, _≤_}
+use lib.ListN.{length, length-set}
+use Rattle.le.specs.Le.{leBytes, put}
+use Rattle.le.proofs.Stores.{put-none}
+use Rattle.mvcc_build.proofs.Laws.{number-more}
 use borrow.Author.Needs.{needs}
 use Rattle.mvcc_build.proofs.put_number.Statement.{statement}
 use Rattle.mvcc_build.proofs.put_number.Tie as tie
 
-slice-write-body : tie.Need-slice-write-body
-slice-write-body c =
-    number-room (c .before .before .before .before .args .body .now) (c .before .before .before .before .args .at) (c .before .before .before .before .pre .0) (c .before .before .before .before .args .n) (c .before .before .before .before .pre .1) (c .before .n .given .1)
+-- what is left of the number, put behind what is stored, makes the whole
+abbrev Inv-loop : tie.InvT-loop
+Inv-loop body₀ at k v left₀ i₀ body left i =
+    (i ≤ k) × (length body ≡ length body₀) × (put body (at + i) (leBytes (k - i) left) ≡ put body₀ at (leBytes k v))
 
-returns : tie.Need-returns
+abbrev μ-loop : tie.MeasureT-loop
+μ-loop body₀ at k v left₀ i₀ body left i = k - i
+
+loop-holds : tie.Need-loop-holds Inv-loop μ-loop
+loop-holds c =
+    let e : c .args .at + 0 ≡ c .args .at = omega arith in
+    let f : c .args .k - 0 ≡ c .args .k = omega arith in
+    (omega arith, refl, rw (e, f))
+
+loop-again : tie.Need-loop-again Inv-loop μ-loop
+loop-again c =
+    let a = c .before .before .args in
+    let l = c .before .loop in
+    let e : a .at + l .i + 1 ≡ a .at + (l .i + 1) = omega arith in
+    let f : suc (a .k - (l .i + 1)) ≡ a .k - l .i = omega arith in
+    let m = rw (e, f) at (number-more (l .body) (a .at + l .i) (a .k - (l .i + 1)) (l .left) (omega arith)) in
+    (omega arith, simp length-set (l .inv .1), m ∙ l .inv .2)
+
+returns : tie.Need-returns Inv-loop μ-loop
+unfolding leBytes
 returns c =
-    number-none (c .before .before .before .args .body .now) (c .before .before .before .args .at) (c .before .before .before .pre .0) (c .before .before .before .args .n) (c .before .before .before .pre .1) (c .enum-told .given .1)
-
-returns-2 : tie.Need-returns-2
-returns-2 c =
-    number-byte (c .before .before .before .before .args .body .now) (c .before .before .before .before .args .at) (c .before .before .before .before .pre .0) (c .before .before .before .before .args .n) (c .before .before .before .before .pre .1) (c .before .n .given .1)
-
-returns-3 : tie.Need-returns-3
-returns-3 c =
-    number-count (c .before .before .before .before .before .before .before .before .args .body .now) (c .before .before .before .before .before .before .before .before .args .at) (c .before .before .before .before .before .before .before .before .pre .0) (c .before .before .before .before .before .before .before .before .args .n) (c .before .before .before .before .before .before .before .before .pre .1) (c .before .before .before .before .before .n2 .given .1) (c .before .before .write-u32 .ensures .1)
-
-returns-4 : tie.Need-returns-4
-returns-4 c =
-    number-eight (c .before .before .before .before .before .before .before .before .args .body .now) (c .before .before .before .before .before .before .before .before .args .at) (c .before .before .before .before .before .before .before .before .pre .0) (c .before .before .before .before .before .before .before .before .args .n) (c .before .before .before .before .before .before .before .before .pre .1) (c .before .before .before .before .before .n3 .given .1) (c .before .before .write-u64 .ensures .1)
+    let a = c .before .before .args in
+    let l = c .before .loop in
+    let e : a .k - l .i ≡ 0 = omega arith in
+    sym (put-none (l .body) (a .at + l .i)) ∙ rw e at (l .inv .2)
 
 pub put-number-spec : {M : Type 1} → statement M
 put-number-spec =
     tie.close
-    (tie.spec (search needs) (search needs) slice-write-body (search needs) (search needs) (search needs) (search needs) (search needs) returns (search needs) returns-2 (search needs) returns-3 (search needs) returns-4)
+    (tie.spec Inv-loop μ-loop loop-holds (search needs) (search needs) (search needs) (search needs) (search needs) loop-again (search needs) returns)

@@ -1,0 +1,2 @@
+-- The root of the laws of `bench_mvcc`.
+pub mod Exported

@@ -1,0 +1,20 @@
+use denote.Ref.{now}
+use Rattle.mvcc.specs.Batch.{bool}
+use Rattle.mvcc_build.specs.Build.{column, columnAdded, columnBytes}
+use Rattle.bench_mvcc.proofs.Exported.{exported}
+use borrow.Author.Needs.{needs}
+use Rattle.bench_mvcc.proofs.port_add_bool.Statement.{statement}
+use Rattle.bench_mvcc.proofs.port_add_bool.Tie as tie
+
+returns : tie.Need-returns
+returns c =
+    let d = c .before .before .before in
+    let a = d .before .before .before .before .before .args in
+    exported
+    (λ s. columnAdded s (now (a .body)) (column (now (a .name)) (bool (a .value))))
+    (λ s. columnBytes s (now (a .body)) (column (now (a .name)) (bool (a .value))))
+    (d .before .builder-in .ensures) (d .add-bool .ensures) (c .told .ensures)
+
+pub port-add-bool-spec : {M : Type 1} → statement M
+port-add-bool-spec =
+    tie.close (tie.spec (search needs) (search needs) (search needs) (search needs) returns)

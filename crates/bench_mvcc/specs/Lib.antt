@@ -1,0 +1,2 @@
+-- The root of the definitions of `bench_mvcc`.
+pub mod Building
