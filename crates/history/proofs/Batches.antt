@@ -1,0 +1,195 @@
+-- Appending a batch. Assumes nothing.
+use mathlib.Core.Path.{_≡_, refl, sym, ap, _∙_}
+use mathlib.Core.Bool.{Bool, true, false}
+use mathlib.Core.List.{List, [], _∷_, _++_, append-assoc}
+use Prim.Native.Nat.{ℕ, _+_, _^_, max, _≤_, _<_}
+use native.Mathlib.Omega.{arith}
+use borrow.Author.Tests.{leb-true}
+use lib.Dec.{leb, eqb}
+use lib.ListN.{length}
+use Rattle.le.specs.Choice.{pick, both}
+use Rattle.le.specs.Le.{put}
+use Rattle.le.proofs.Compare.{both-true}
+use Rattle.frame.specs.Frame.{encodeFrame, bodyOf}
+use Rattle.frame.proofs.Stores.{length-encodeFrame}
+use Rattle.frame.proofs.RoundTrip.{body-back}
+use Rattle.mvcc.specs.Seen.{refusalOf, decodes, canonical}
+use Rattle.mvcc.proofs.Canonical.{canonical-decodes, canonical-commitTs, canonical-records, canonical-length}
+use Rattle.wal.specs.Recovery.{pageOf, good}
+use Rattle.wal.specs.Recovery as wal
+use Rattle.wal.specs.Write.{withFrame, hasRoom}
+use Rattle.wal.specs.declared.WalHeader.{WalHeader}
+use Rattle.wal.proofs.Frames.{page-encoded, count-encoded, good-batch}
+use Rattle.pager_state.specs.World.{World, world, busy, readOnly, logFine, withWal}
+use Rattle.pager_state.specs.Batches.{decodedAs, appendAnswer, appendRefusal, batchFrame, appendBatch, appendAfter}
+use Rattle.pager_state.specs.Stores.{diskOf, Act, Put, Batched, stored}
+use Rattle.pager_state.specs.declared.FileKind.the-variants as file
+use Rattle.pager_state.specs.declared.Job.the-variants as job
+use Rattle.pager_state.specs.declared.BatchAnswer.the-variants as append
+use Rattle.history.specs.Book.{Book, batchIn, bookWait, tells}
+use Rattle.history.specs.Calls.{Append}
+use Rattle.history.specs.Run.{refusedBy, storesOf, worldAfter, keptAfter}
+use Rattle.history.specs.Demand3.{AllBytes}
+use Rattle.history.proofs.Frames.{last-other, place-other, batches-append, batches-batch}
+use Rattle.history.proofs.Disk.{OnDisk, DiskOk}
+use Rattle.history.proofs.Opening.{re-book}
+use Rattle.history.proofs.Rest.{Resting, Some, Inv, held-disk}
+use Rattle.history.proofs.Append.{longer, whole-store, whole-on, cut-ok}
+use Rattle.history.proofs.CommitFrame.{framed-len, framed-header}
+use Rattle.history.proofs.Running.{cut-none, cut-cons}
+use Rattle.history.proofs.Taken.{Taken, taken-by, took, passed, idle-of, at-rest, rest-inv}
+
+-- ---- a batch
+
+decoded-zero : (r : ℕ) → appendRefusal (decodedAs r) ≡ 0 → eqb r 0 ≡ true
+decoded-zero r e = took appendRefusal (eqb r 0) append.Appended (pick (eqb r 17) append.Truncated (pick (eqb r 18) append.Tag append.Text)) e (worse (eqb r 17) (eqb r 18)) .0
+  where
+    worse : (s t : Bool) → appendRefusal (pick s append.Truncated (pick t append.Tag append.Text)) ≡ 0 → ⊥
+    worse true t q = omega arith
+    worse false true q = omega arith
+    worse false false q = omega arith
+
+module _ (w : World) (g : List ℕ) (b : Book) (z : List ℕ) (i : Inv w g b z) (body : List ℕ) (bs : AllBytes body) (ok : refusedBy (Append body) w g ≡ 0) where
+  record Appending : Type 0 where
+    areas : both (logFine (w .pager .wal .len) (w .log)) (leb (length body) 4096) ≡ true
+    notShort : eqb (refusalOf body) 2 ≡ false
+    notMagic : eqb (refusalOf body) 3 ≡ false
+    rests : busy (w .pager) ≡ false
+    writes : readOnly (w .pager) ≡ false
+    room : hasRoom (w .pager .wal) ≡ true
+    good : eqb (refusalOf body) 0 ≡ true
+
+  appending-ok : Appending
+  unfolding refusedBy appendBatch appendAnswer
+  appending-ok =
+      let a = took appendRefusal (both (logFine (w .pager .wal .len) (w .log)) (leb (length body) 4096)) _ append.Area ok (λ e. omega arith) in
+      let c = passed appendRefusal (eqb (refusalOf body) 2) append.Short _ (a .1) (λ e. omega arith) in
+      let d = passed appendRefusal (eqb (refusalOf body) 3) append.Magic _ (c .1) (λ e. omega arith) in
+      let f = passed appendRefusal (busy (w .pager)) append.Busy _ (d .1) (λ e. omega arith) in
+      let h = passed appendRefusal (readOnly (w .pager)) append.ReadOnly _ (f .1) (λ e. omega arith) in
+      let m = took appendRefusal (hasRoom (w .pager .wal)) (decodedAs (refusalOf body)) append.LogFull (h .1) (λ e. omega arith) in
+      record {
+        areas = a .0;
+        notShort = c .0;
+        notMagic = d .0;
+        rests = f .0;
+        writes = h .0;
+        room = m .0;
+        good = decoded-zero (refusalOf body) (m .1);
+      }
+
+  answer-is : appendAnswer (w .pager) (w .log) body ≡ append.Appended
+  unfolding appendAnswer
+  answer-is =
+      let a = appending-ok in
+      rw (a .areas, a .notShort, a .notMagic, a .rests, a .writes, a .room, a .good)
+
+  idle : w .pager .job ≡ job.Idle
+  idle = idle-of (w .pager .job) (appending-ok .rests)
+
+  k : Some (Resting w g b) z
+  k = at-rest w g b z i idle
+
+  does : decodes body ≡ true
+  unfolding decodes
+  does = appending-ok .good
+
+  short : length body ≤ 4096
+  short = leb-true (length body) 4096 (both-true (logFine (w .pager .wal .len) (w .log)) (leb (length body) 4096) (appending-ok .areas) .1)
+
+  room : w .pager .wal .len + 4112 ≤ 4210720
+  room = leb-true (w .pager .wal .len + 4112) 4210720 (appending-ok .room)
+
+  abbrev f : List ℕ
+  f = encodeFrame 4294967295 0 (w .pager .wal .header .salt) (canonical body)
+
+  f-long : length f ≡ 4112
+  f-long = length-encodeFrame 4294967295 0 (w .pager .wal .header .salt) (canonical body) (canonical-length body bs does short)
+
+  salt-fits : w .pager .wal .header .salt < 2 ^ 32
+  salt-fits = rw (k .it .held .salt) (k .it .held .on .log .written .salt)
+
+  f-good : good (k .l .salt) f ≡ true
+  f-good =
+      ap (λ (s : ℕ). good s f) (sym (k .it .held .salt))
+      ∙ good-batch 0 (w .pager .wal .header .salt) (canonical body) salt-fits ∙ canonical-decodes body bs does
+
+  f-page : pageOf f ≡ 4294967295
+  f-page = page-encoded 4294967295 0 (w .pager .wal .header .salt) (canonical body) (omega arith)
+
+  f-count : wal.countOf f ≡ 0
+  f-count = count-encoded 4294967295 0 (w .pager .wal .header .salt) (canonical body) (omega arith)
+
+  f-batch : batchIn (bodyOf f) ≡ batchIn body
+  unfolding batchIn
+  f-batch =
+      rw (body-back 4294967295 0 (w .pager .wal .header .salt) (canonical body), canonical-commitTs body bs does, canonical-records body bs does)
+
+  abbrev v : World
+  v = world (withWal (w .pager) (withFrame (w .pager .wal) 0)) (w .table) (put (w .log) (w .pager .wal .len) f) (w .main)
+
+  abbrev act : Act
+  act = Put Batched file.Log (w .pager .wal .len) f false
+
+  stored-is : stored act (diskOf w) ≡ longer (k .it .held .on) f f-long f-good room f
+  stored-is = whole-store (k .it .held .on) f f-long f-good room Batched false
+
+  disk-is : diskOf v ≡ stored act (diskOf w)
+  disk-is =
+      let e : withFrame (w .pager .wal) 0 .len ≡ max (w .pager .wal .len) (w .pager .wal .len + length f) = framed-len (w .pager .wal) 0 ∙ omega (arith, f-long) in
+      let q : diskOf v ≡ longer (k .it .held .on) f f-long f-good room f =
+      λ j. record { main = diskOf w .main; log = record { area = put (w .log) (w .pager .wal .len) f; len = e j } } in
+      q ∙ sym stored-is
+
+  on-after : OnDisk (diskOf v) b (k .l) (k .S) (k .P ++ (f ∷ [])) [] (k .mh)
+  on-after = rw (disk-is, stored-is) (whole-on (k .it .held .on) f f-long f-good room f-count)
+
+  again : k .S ++ (k .P ++ (f ∷ [])) ≡ k .S ++ k .P ++ (f ∷ [])
+  again = sym (append-assoc (k .S) (k .P) (f ∷ []))
+
+  other : (n : ℕ) → n < 1024 → pageOf f ≡ n → ⊥
+  other n h e = omega (arith, f-page)
+
+  resting : Resting v g (bookWait (batchIn body) b) (k .l) (k .S) (k .P ++ (f ∷ [])) (k .mh)
+  resting =
+      let q = k .it .held in
+      record {
+        held =
+            record {
+              on = re-book on-after (bookWait (batchIn body) b) refl refl refl;
+              tableLong = q .tableLong;
+              stagingLong = q .stagingLong;
+              salt = ap (λ (x : WalHeader). x .salt) (framed-header (w .pager .wal) 0) ∙ q .salt;
+              clock = rw (framed-header (w .pager .wal) 0) (q .clock);
+              header = q .header;
+              clean = q .clean;
+              slots = q .slots;
+              staged = q .staged;
+              waiting = batches-append (k .P) (f ∷ []) ∙ rw (batches-batch f f-page, f-batch, q .waiting);
+            };
+        table = λ n h. rw (again, place-other n (k .S ++ k .P) f (other n h)) (k .it .table n h);
+        loose = λ n h. last-other n (k .P) f (other n h) ∙ k .it .loose n h;
+      }
+
+  world-is : worldAfter (Append body) w g ≡ v
+  unfolding worldAfter appendBatch appendAfter batchFrame
+  world-is = rw answer-is
+
+  stores-is : storesOf (Append body) w g ≡ act ∷ []
+  unfolding storesOf batchFrame
+  stores-is = refl
+
+  after-ok : Inv v g (bookWait (batchIn body) b) z
+  after-ok =
+      rest-inv v g (bookWait (batchIn body) b) z idle (record { l = k .l; S = k .S; P = k .P ++ (f ∷ []); mh = k .mh; it = resting; kept = k .kept })
+
+  after-disk : DiskOk (stored act (diskOf w)) (bookWait (batchIn body) b) z
+  after-disk = rw disk-is at (held-disk (resting .held) (k .kept))
+
+  pub append-ok : Taken (Append body) w g b z
+  unfolding tells keptAfter
+  append-ok =
+      taken-by (Append body) w g b z world-is stores-is after-ok
+      (cut-cons body act [] (diskOf w) b z (omega (arith, f-long), omega (arith, f-long))
+      (λ j hj. cut-ok (k .it .held .on) f f-long f-good room Batched false j (omega (arith, f-long)) z (k .kept)) after-disk
+      (cut-none body (stored act (diskOf w)) (bookWait (batchIn body) b) z after-disk))

@@ -1,0 +1,74 @@
+-- Dropping what is staged. Assumes nothing.
+use mathlib.Core.Path.{_≡_, refl, sym, subst}
+use mathlib.Core.Bool.{false}
+use mathlib.Core.List.{List, []}
+use Prim.Native.Nat.{ℕ}
+use native.Mathlib.Omega.{arith}
+use Rattle.pager_state.specs.World.{World, busy, withStaged, noneStaged}
+use Rattle.pager_state.specs.Staging.{clearStaged, clearRefusal}
+use Rattle.pager_state.specs.Stores.{diskOf}
+use Rattle.pager_state.specs.Steps.{onStore}
+use Rattle.pager_state.specs.declared.Job.the-variants as job
+use Rattle.pager_state.specs.declared.Pager.{Pager}
+use Rattle.pager_state.specs.declared.StagedCleared.{StagedCleared}
+use Rattle.pager_state.specs.declared.ClearAnswer.the-variants as clear
+use Rattle.history.specs.Book.{Book, bookClear, tells}
+use Rattle.history.specs.Calls.{Clear}
+use Rattle.history.specs.Run.{refusedBy, storesOf, worldAfter, keptAfter}
+use Rattle.history.proofs.Opening.{re-book}
+use Rattle.history.proofs.Rest.{Resting, Some, Inv, held-disk}
+use Rattle.history.proofs.CommitSeal.{none-slots, none-staged}
+use Rattle.history.proofs.Running.{cut-none}
+use Rattle.history.proofs.Taken.{Taken, passed, idle-of, at-rest, rest-inv}
+
+-- ---- dropping what is staged
+
+module _ (w : World) (g : List ℕ) (b : Book) (z : List ℕ) (i : Inv w g b z) (ok : refusedBy Clear w g ≡ 0) where
+  rests : busy (w .pager) ≡ false
+  unfolding refusedBy clearStaged
+  rests =
+      passed (λ (x : StagedCleared). clearRefusal (x .answer)) (busy (w .pager)) (record { answer = clear.Busy; pager = w .pager })
+      (record { answer = clear.Cleared; pager = withStaged (w .pager) (noneStaged (w .pager .staged)) }) ok (λ e. omega arith) .0
+
+  idle : w .pager .job ≡ job.Idle
+  idle = idle-of (w .pager .job) rests
+
+  k : Some (Resting w g b) z
+  k = at-rest w g b z i idle
+
+  abbrev v : World
+  v = onStore w (withStaged (w .pager) (noneStaged (w .pager .staged)))
+
+  pager-is : clearStaged (w .pager) .pager ≡ withStaged (w .pager) (noneStaged (w .pager .staged))
+  unfolding clearStaged
+  pager-is = rw rests
+
+  resting : Resting v g (bookClear b) (k .l) (k .S) (k .P) (k .mh)
+  resting =
+      let q = k .it .held in
+      record {
+        held =
+            record {
+              on = re-book (q .on) (bookClear b) refl refl refl;
+              tableLong = q .tableLong;
+              stagingLong = q .stagingLong;
+              salt = q .salt;
+              clock = q .clock;
+              header = q .header;
+              clean = q .clean;
+              slots = none-slots (w .pager .staged) (q .slots);
+              staged = λ m. rw (none-staged (w .pager .staged) m);
+              waiting = q .waiting;
+            };
+        table = k .it .table;
+        loose = k .it .loose;
+      }
+
+  pub clear-ok : Taken Clear w g b z
+  unfolding storesOf worldAfter tells keptAfter
+  clear-ok =
+      record {
+        after = subst (λ (p : Pager). Inv (onStore w p) g (bookClear b) z) (sym pager-is)
+            (rest-inv v g (bookClear b) z idle (record { l = k .l; S = k .S; P = k .P; mh = k .mh; it = resting; kept = k .kept }));
+        cut = cut-none [] (diskOf w) (bookClear b) z (held-disk (resting .held) (k .kept));
+      }

@@ -1,0 +1,97 @@
+-- Raising the clock. Assumes nothing.
+use mathlib.Core.Path.{_≡_, refl, sym, ap, _∙_, subst}
+use mathlib.Core.Bool.{Bool, true, false}
+use mathlib.Core.List.{List, []}
+use Prim.Native.Nat.{ℕ, _^_, _<_}
+use native.Mathlib.Omega.{arith}
+use lib.Dec.{leb}
+use Rattle.le.specs.Choice.{pick}
+use Rattle.wal.specs.Write.{withClock}
+use Rattle.wal.specs.declared.Wal.{Wal}
+use Rattle.pager_state.specs.World.{World, busy, withWal}
+use Rattle.pager_state.specs.Queries.{raised, observedBy, observeClock, observeRefusal}
+use Rattle.pager_state.specs.Stores.{diskOf}
+use Rattle.pager_state.specs.Steps.{onStore}
+use Rattle.pager_state.specs.declared.Job.the-variants as job
+use Rattle.pager_state.specs.declared.Opening.{Opening}
+use Rattle.pager_state.specs.declared.Pager.{Pager}
+use Rattle.pager_state.specs.declared.ClockObserved.{ClockObserved}
+use Rattle.pager_state.specs.declared.ObserveAnswer.the-variants as observe
+use Rattle.history.specs.Book.{Book, tells}
+use Rattle.history.specs.Calls.{Observe}
+use Rattle.history.specs.Run.{refusedBy, storesOf, worldAfter, keptAfter}
+use Rattle.history.proofs.Rest.{Resting, Some, Inv, held-disk}
+use Rattle.history.proofs.Running.{cut-none}
+use Rattle.history.proofs.Taken.{Taken, passed, idle-of, at-rest, rest-inv}
+
+-- ---- the clock
+
+pub record Raised (v u : Wal) : Type 0 where
+  pub len : u .len ≡ v .len
+  pub salt : u .header .salt ≡ v .header .salt
+  pub clock : u .header .«clock_high_water» < 2 ^ 64
+
+raised-by : (v : Wal) (c : ℕ) → v .header .«clock_high_water» < 2 ^ 64 → c < 2 ^ 64 → (t : Bool) → Raised v (pick t v (withClock v c))
+unfolding withClock
+raised-by v c h k true = record { len = refl; salt = refl; clock = h }
+raised-by v c h k false = record { len = refl; salt = refl; clock = k }
+
+module _ (w : World) (g : List ℕ) (b : Book) (z : List ℕ) (i : Inv w g b z) (c : ℕ) (small : c < 2 ^ 64) (ok : refusedBy (Observe c) w g ≡ 0) where
+  rests : busy (w .pager) ≡ false
+  unfolding refusedBy observeClock
+  rests =
+      passed (λ (x : ClockObserved). observeRefusal (x .answer)) (busy (w .pager)) (record { answer = observe.Busy; pager = w .pager })
+      (record { answer = observe.Observed; pager = withWal (w .pager) (observedBy (w .pager .opening) (w .pager .wal) c) }) ok (λ e. omega arith) .0
+
+  idle : w .pager .job ≡ job.Idle
+  idle = idle-of (w .pager .job) rests
+
+  k : Some (Resting w g b) z
+  k = at-rest w g b z i idle
+
+  abbrev u : Wal
+  u = raised (w .pager .wal) c
+
+  raised-ok : Raised (w .pager .wal) u
+  unfolding raised
+  raised-ok = raised-by (w .pager .wal) c (k .it .held .clock) small (leb c (w .pager .wal .header .«clock_high_water»))
+
+  abbrev v : World
+  v = onStore w (withWal (w .pager) u)
+
+  pager-is : observeClock (w .pager) c .pager ≡ withWal (w .pager) u
+  unfolding observeClock
+  pager-is = rw rests (ap (λ (o : Opening). withWal (w .pager) (observedBy o (w .pager .wal) c)) (k .it .held .clean))
+
+  disk-is : diskOf v ≡ diskOf w
+  disk-is = λ j. record { main = diskOf w .main; log = record { area = w .log; len = raised-ok .len j } }
+
+  resting : Resting v g b (k .l) (k .S) (k .P) (k .mh)
+  resting =
+      let q = k .it .held in
+      record {
+        held =
+            record {
+              on = rw disk-is (q .on);
+              tableLong = q .tableLong;
+              stagingLong = q .stagingLong;
+              salt = raised-ok .salt ∙ q .salt;
+              clock = raised-ok .clock;
+              header = q .header;
+              clean = q .clean;
+              slots = q .slots;
+              staged = q .staged;
+              waiting = q .waiting;
+            };
+        table = k .it .table;
+        loose = k .it .loose;
+      }
+
+  pub observe-ok : Taken (Observe c) w g b z
+  unfolding storesOf worldAfter tells keptAfter
+  observe-ok =
+      record {
+        after = subst (λ (p : Pager). Inv (onStore w p) g b z) (sym pager-is)
+            (rest-inv v g b z idle (record { l = k .l; S = k .S; P = k .P; mh = k .mh; it = resting; kept = k .kept }));
+        cut = cut-none [] (diskOf w) b z (held-disk (k .it .held) (k .kept));
+      }

@@ -1,0 +1,284 @@
+-- A commit's step that stores the seal: what the book enters is what the files then hold. Assumes nothing.
+use mathlib.Core.Path.{_≡_, refl, sym, ap, _∙_}
+use mathlib.Core.Bool.{Bool, true, false}
+use mathlib.Core.List.{List, [], _∷_, _++_, append-assoc, append-nil}
+use mathlib.Core.Logic.{_⊎_, inl, inr}
+use mathlib.Core.Option.{none, some}
+use Prim.Native.Nat.{ℕ, _+_, _*_, _^_, max, _≤_, _<_}
+use native.Mathlib.Omega.{arith}
+use borrow.Author.Tests.{le-leb, lt-ltb, le-ltb, ne-eqb}
+use lib.Dec.{leb}
+use lib.ListN.{length, take, drop, length-set}
+use lib.Seq.{take-all, drop-at}
+use Rattle.le.specs.Choice.{pick}
+use Rattle.le.proofs.Tests.{le-or-lt}
+use Rattle.header.specs.Header.{encodeHeader}
+use Rattle.header.specs.declared.DbHeader.{DbHeader}
+use Rattle.header.specs.declared.HeaderDecoded.the-variants as main
+use Rattle.header.proofs.Encoding.{length-encodeHeader}
+use Rattle.header.proofs.RoundTrip.{decode-encode}
+use Rattle.frame.specs.Frame.{encodeFrame, bodyOf}
+use Rattle.frame.proofs.Stores.{length-encodeFrame}
+use Rattle.frame.proofs.RoundTrip.{body-back}
+use Rattle.wal.specs.Header.{encodeWalHeader}
+use Rattle.wal.specs.Recovery.{chunkAt, pageOf, pageIn, good, batchesIn}
+use Rattle.wal.specs.Recovery as wal
+use Rattle.wal.specs.Write.{withFrame}
+use Rattle.wal.specs.declared.WalHeader.{WalHeader}
+use Rattle.wal.proofs.Encoding.{length-encodeWalHeader}
+use Rattle.wal.proofs.Frames.{page-encoded, count-encoded, good-page}
+use Rattle.wal.proofs.Laid.{joined}
+use Rattle.pager_state.specs.World.{World, countOf, noneStaged}
+use Rattle.pager_state.specs.Overlay.{isStaged, stagedBytes, slotOf}
+use Rattle.pager_state.specs.Pages.{pagesFrom, differs}
+use Rattle.pager_state.specs.Stores.{Disk, content, diskOf, Act, Sealed, stored, putFile}
+use Rattle.pager_state.specs.Fold.{foldTodo, foldAdvance}
+use Rattle.pager_state.specs.Commit.{saltOf, sealAct, sealedPager, sealedWorld, framesTodo, framesAdvance, commitTodo, commitAdvance}
+use Rattle.pager_state.specs.Steps.{todo, advance}
+use Rattle.pager_state.specs.declared.Staged.{Staged}
+use Rattle.pager_state.specs.declared.Job.the-variants as job
+use Rattle.history.specs.Book.{Book, orElse, entered, bookSeal}
+use Rattle.history.specs.Run.{keptBy}
+use Rattle.history.proofs.Files.{same-file, length-content}
+use Rattle.history.proofs.Frames.{last-same, last-other, page-last, place-same, batchesOf, batches-append, batches-page}
+use Rattle.history.proofs.PagesFrom.{pages-none}
+use Rattle.history.proofs.Slots.{Slots, staged-long}
+use Rattle.history.proofs.Disk.{viewOf, headerOver, OnDisk, log-len, log-inside}
+use Rattle.history.proofs.Rest.{Held, Tabled, Resting, Committing, Folding, Some, InvJob, worldPage, page-view, page-sealed, step-fine}
+use Rattle.history.proofs.Append.{longer, whole-store, sealed-on, cut-ok}
+use Rattle.history.proofs.Stepping.{StepOk, todo-by, advance-by, table-entered, settled}
+use Rattle.history.proofs.CommitFrame.{framed-len, framed-header}
+
+-- nothing is staged any more
+pub none-slots : (s : Staged) → Slots s → Slots (noneStaged s)
+none-slots s k = record { few = omega arith; long = k .long }
+
+pub none-staged : (s : Staged) (n : ℕ) → isStaged (noneStaged s) n ≡ false
+unfolding isStaged slotOf
+none-staged s n = refl
+
+-- what the book enters
+entered-below : (b : Book) (n : ℕ) → 1 ≤ n → n < countOf (b .given) → entered b n ≡ orElse (b .staged n) (b .pages n)
+unfolding entered
+entered-below b n h k = rw (lt-ltb n (countOf (b .given)) k, le-leb 1 n h)
+
+entered-above : (b : Book) (n : ℕ) → countOf (b .given) ≤ n → entered b n ≡ none
+unfolding entered
+entered-above b n h = rw (le-ltb n (countOf (b .given)) h)
+
+no-commit : (g : List ℕ) (v : World) (salt answer : ℕ) (t : Bool) → commitTodo g (pick t (job.Fold salt 0 answer) job.Idle) v ≡ []
+unfolding commitTodo
+no-commit g v salt answer true = refl
+no-commit g v salt answer false = refl
+
+module _ (g : List ℕ) (w : World) (b : Book) (z : List ℕ) (h : DbHeader) (salt p answer : ℕ) (job-is : w .pager .job ≡ job.Commit h salt p answer)
+    (k : Some (Committing h salt p w g b) z) (none-left : pagesFrom (differs g w) p ≡ []) where
+  abbrev c : Committing h salt p w g b (k .l) (k .S) (k .P) (k .mh)
+  c = k .it
+
+  abbrev fs : List (List ℕ)
+  fs = k .S ++ k .P
+
+  abbrev f : List ℕ
+  f = encodeFrame 0 (countOf h) (saltOf w) (encodeHeader h)
+
+  abbrev S′ : List (List ℕ)
+  S′ = k .S ++ (k .P ++ (encodeFrame 0 (countOf h) (saltOf w) (encodeHeader h) ∷ []))
+
+  abbrev v : World
+  v = sealedWorld h salt answer w
+
+  f-long : length f ≡ 4112
+  f-long = length-encodeFrame 0 (countOf h) (saltOf w) (encodeHeader h) (length-encodeHeader h)
+
+  salt-fits : saltOf w < 2 ^ 32
+  salt-fits = rw (c .held .salt) (c .held .on .log .written .salt)
+
+  f-good : good (k .l .salt) f ≡ true
+  f-good =
+      ap (λ (s : ℕ). good s f) (sym (c .held .salt))
+      ∙ good-page 0 (countOf h) (saltOf w) (encodeHeader h) (omega arith) salt-fits (λ e. omega arith)
+
+  f-page : pageOf f ≡ 0
+  f-page = page-encoded 0 (countOf h) (saltOf w) (encodeHeader h) (omega arith)
+
+  f-count : wal.countOf f ≡ countOf h
+  f-count = count-encoded 0 (countOf h) (saltOf w) (encodeHeader h) (omega (arith, c .most))
+
+  f-seals : wal.countOf f ≡ 0 → ⊥
+  f-seals e = omega (arith, f-count, c .least)
+
+  room : w .pager .wal .len + 4112 ≤ 4210720
+  room = omega (arith, c .room)
+
+  at-is : w .pager .wal .len ≡ chunkAt (length fs)
+  at-is = log-len (c .held .on) ∙ omega arith
+
+  again : S′ ≡ fs ++ (f ∷ [])
+  again = sym (append-assoc (k .S) (k .P) (f ∷ []))
+
+  stored-is : stored (sealAct h w) (diskOf w) ≡ longer (c .held .on) f f-long f-good room f
+  stored-is = whole-store (c .held .on) f f-long f-good room Sealed true
+
+  disk-is : diskOf v ≡ stored (sealAct h w) (diskOf w)
+  unfolding sealedWorld sealedPager putFile
+  disk-is =
+      let e : w .pager .wal .len + 4112 ≡ max (w .pager .wal .len) (w .pager .wal .len + length f) = omega (arith, f-long) in
+      λ i. record { main = diskOf w .main; log = same-file {f = record { area = stored (sealAct h w) (diskOf w) .log .area; len = withFrame (w .pager .wal) (countOf h) .len }} {g = stored (sealAct h w) (diskOf w) .log} refl (framed-len (w .pager .wal) (countOf h) ∙ e) i }
+
+  -- ---- the pages
+
+  all-settled : (n : ℕ) → n < 1024 → isStaged (w .pager .staged) n ≡ true → worldPage w n ≡ some (stagedBytes (w .pager .staged) g n)
+  all-settled n hn s = go (le-or-lt p n)
+    where
+      go : (p ≤ n) ⊎ (n < p) → worldPage w n ≡ some (stagedBytes (w .pager .staged) g n)
+      go (inl q) =
+          settled g w n (pages-none (differs g w) p none-left n q hn) s (staged-long (w .pager .staged) (c .held .slots) g n (c .held .stagingLong) s)
+      go (inr q) = c .done n hn q s
+
+  book-staged : (n : ℕ) (t : Bool) → isStaged (w .pager .staged) n ≡ t → b .staged n ≡ pick t (some (stagedBytes (w .pager .staged) g n)) none
+  book-staged n t e = sym (c .held .staged n) ∙ rw e
+
+  -- a page that is not staged was below the old count
+  old-page : (n : ℕ) → 1 ≤ n → n < countOf h → isStaged (w .pager .staged) n ≡ false → n < countOf (b .header)
+  old-page n h1 h2 s = go (le-or-lt (countOf (b .header)) n)
+    where
+      go : (countOf (b .header) ≤ n) ⊎ (n < countOf (b .header)) → n < countOf (b .header)
+      go (inl q) = let e = c .joins n h1 q h2 in let zz : _≡_ {A = ℕ} 0 1 = cc in absurd (omega arith)
+      go (inr q) = q
+
+  page-now : (n : ℕ) → 1 ≤ n → n < countOf h → (t : Bool) → isStaged (w .pager .staged) n ≡ t → worldPage w n ≡ orElse (b .staged n) (b .pages n)
+  page-now n h1 h2 true s =
+      all-settled n (omega (arith, c .most)) s ∙ sym (rw (book-staged n true s))
+  page-now n h1 h2 false s =
+      let hn : n < 1024 = omega (arith, c .most) in
+      page-sealed (c .held) (c .table) n hn (c .unstaged n hn s) ∙ c .held .on .book .pages n h1 (old-page n h1 h2 s) ∙ sym (rw (book-staged n false s))
+
+  page-there : (n : ℕ) → 1 ≤ n → n < countOf h → (t : Bool) → isStaged (w .pager .staged) n ≡ t → (x : List ℕ) × (orElse (b .staged n) (b .pages n) ≡ some x)
+  page-there n h1 h2 true s = (stagedBytes (w .pager .staged) g n, rw (book-staged n true s))
+  page-there n h1 h2 false s = let r = c .held .on .book .there n h1 (old-page n h1 h2 s) in (r .0, rw (book-staged n false s) (r .1))
+
+  page-sealed′ : (n : ℕ) → 1 ≤ n → n < countOf h → viewOf S′ (k .mh) (w .main) n ≡ orElse (b .staged n) (b .pages n)
+  page-sealed′ n h1 h2 =
+      rw (again, last-other n fs f (λ e. omega (arith, f-page))) (sym (page-view (c .held) (c .table) n (omega (arith, c .most))))
+      ∙ page-now n h1 h2 (isStaged (w .pager .staged) n) refl
+
+  -- ---- header and batches
+
+  top-is : headerOver (k .mh) S′ ≡ main.Header h
+  unfolding headerOver
+  top-is =
+      let e : bodyOf (pageIn 0 (fs ++ (f ∷ []))) ≡ encodeHeader h =
+      page-last 0 (fs ++ (f ∷ [])) (bodyOf f) (last-same 0 fs f f-page) ∙ body-back 0 (countOf h) (saltOf w) (encodeHeader h) in
+      let q : 32 + 4112 * length fs ≡ 0 → ⊥ = λ x. omega arith in
+      rw (again, place-same 0 fs f f-page, ne-eqb (32 + 4112 * length fs) 0 q, e) (decode-encode h (c .plain))
+
+  batches-is : batchesOf S′ ≡ b .sealed ++ b .waiting
+  batches-is =
+      batches-append (k .S) (k .P ++ (f ∷ []))
+      ∙ rw (batches-append (k .P) (f ∷ []), batches-page f (λ e. omega (arith, f-page)), append-nil (batchesOf (k .P)), c .held .on .book .batches, c .held .waiting)
+
+  given-count : countOf (b .given) ≡ countOf h
+  given-count = ap countOf (c .given)
+
+  on-after : OnDisk (diskOf v) (bookSeal b) (k .l) S′ [] [] (k .mh)
+  on-after =
+      rw (disk-is, stored-is) (sealed-on (c .held .on) f f-long f-good room f-seals (bookSeal b) (record {
+        top = top-is ∙ ap main.Header (sym (c .given));
+        plain = rw (c .given) (c .plain);
+        least = omega (arith, given-count, c .least);
+        most = omega (arith, given-count, c .most);
+        pages = λ n h1 h2. page-sealed′ n h1 (omega (arith, given-count)) ∙ sym (entered-below b n h1 h2);
+        there = λ n h1 h2. let r = page-there n h1 (omega (arith, given-count)) (isStaged (w .pager .staged) n) refl in (r .0, entered-below b n h1 h2 ∙ r .1);
+        above = entered-above b;
+        batches = batches-is;
+      }))
+
+  held-after : Held v g (bookSeal b) (k .l) S′ [] (k .mh)
+  unfolding sealedWorld sealedPager batchesIn
+  held-after =
+      let q = c .held in
+      record {
+        on = on-after;
+        tableLong = length-set (w .table) 0 _ ∙ q .tableLong;
+        stagingLong = q .stagingLong;
+        salt = ap (λ (x : WalHeader). x .salt) (framed-header (w .pager .wal) (countOf h)) ∙ q .salt;
+        clock = rw (framed-header (w .pager .wal) (countOf h)) (q .clock);
+        header = sym (c .given);
+        clean = q .clean;
+        slots = none-slots (w .pager .staged) (q .slots);
+        staged = λ n. rw (none-staged (w .pager .staged) n);
+        waiting = refl;
+      }
+
+  table-after : Tabled v (S′ ++ []) (k .mh)
+  unfolding sealedWorld
+  table-after m hm =
+      rw (append-nil S′, again) (table-entered (w .table) fs (k .mh) f 0 (w .pager .wal .len) (c .held .tableLong) (omega arith) f-page at-is (c .table) m hm)
+
+  -- ---- the sealed bytes
+
+  kept-is : joined S′ ≡ keptBy (sealAct h w) (stored (sealAct h w) (diskOf w)) z
+  kept-is =
+      let d : Disk = stored (sealAct h w) (diskOf w) in
+      let o : OnDisk (stored (sealAct h w) (diskOf w)) (bookSeal b) (k .l) S′ [] [] (k .mh) = rw disk-is at on-after in
+      let n : length (content (d .log)) ≡ d .log .len = length-content (d .log) (log-inside o) in
+      let m : d .log .len ≡ w .pager .wal .len + 4112 = ap (λ (x : Disk). x .log .len) stored-is ∙ omega (arith, f-long) in
+      let t : take (w .pager .wal .len + length f) (content (d .log)) ≡ content (d .log) =
+      take-all (w .pager .wal .len + length f) (content (d .log)) (omega (arith, f-long, n, m)) in
+      let a : joined (S′ ++ []) ++ [] ≡ joined S′ = append-nil (joined (S′ ++ [])) ∙ ap joined (append-nil S′) in
+      let e : drop 32 (encodeWalHeader (k .l) ++ (joined (S′ ++ []) ++ [])) ≡ joined S′ =
+      drop-at (encodeWalHeader (k .l)) (joined (S′ ++ []) ++ []) 32 (length-encodeWalHeader (k .l)) ∙ a in
+      sym (rw (t, o .log .bytes) e)
+
+  -- ---- after the seal
+
+  resting : Resting v g (bookSeal b) (k .l) S′ [] (k .mh)
+  resting = record { held = held-after; table = table-after; loose = λ n hn. refl }
+
+  folding : Folding salt 0 v g (bookSeal b) (k .l) S′ [] (k .mh)
+  folding =
+      record {
+        held = held-after;
+        table = table-after;
+        loose = λ n hn. refl;
+        fits = c .fits;
+        stored = λ n x h1 h2 hc e. absurd (omega arith);
+      }
+
+  after-by : (t : Bool) → InvJob (pick t (job.Fold salt 0 answer) job.Idle) v g (bookSeal b) (keptBy (sealAct h w) (stored (sealAct h w) (diskOf w)) z)
+  after-by true = record { l = k .l; S = S′; P = []; mh = k .mh; it = folding; kept = kept-is }
+  after-by false = record { l = k .l; S = S′; P = []; mh = k .mh; it = resting; kept = kept-is }
+
+  todo-is : todo g w ≡ sealAct h w ∷ foldTodo (v .pager .job) v
+  unfolding commitTodo foldTodo framesTodo
+  todo-is =
+      todo-by g w (job.Commit h salt p answer) job-is
+      ∙ append-nil (framesTodo g h salt answer (pagesFrom (differs g w) p) w) ∙ ap (λ (x : List ℕ). framesTodo g h salt answer x w) none-left
+
+  left-is : todo g v ≡ foldTodo (v .pager .job) v
+  unfolding todo sealedWorld sealedPager
+  left-is = ap (λ (x : List Act). x ++ foldTodo (v .pager .job) v) (no-commit g v salt answer (leb 100 (withFrame (w .pager .wal) (countOf h) .«frame_count»)))
+
+  next-is : advance g w ≡ v
+  unfolding commitAdvance foldAdvance
+  next-is =
+      advance-by g w (job.Commit h salt p answer) job-is ∙ ap (λ (x : List ℕ). framesAdvance g h salt answer x w) none-left
+
+  pub seal-step : StepOk g w b z
+  unfolding sealedWorld sealedPager
+  seal-step =
+      record {
+        act = sealAct h w;
+        rest = foldTodo (v .pager .job) v;
+        next = v;
+        todoIs = todo-is;
+        nextIs = next-is;
+        lies = le-leb (w .pager .wal .len + length f) 4210720 (omega (arith, f-long, room));
+        covers = (omega (arith, f-long), omega (arith, f-long));
+        fine = step-fine (c .held);
+        disk = disk-is;
+        left = left-is;
+        after = after-by (leb 100 (withFrame (w .pager .wal) (countOf h) .«frame_count»));
+        cut = λ j hj. cut-ok (c .held .on) f f-long f-good room Sealed true j (omega (arith, f-long)) z (k .kept);
+      }

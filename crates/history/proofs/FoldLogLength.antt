@@ -1,0 +1,146 @@
+-- A fold's step that sets the log's length: the main file alone is then the book's. Assumes nothing.
+use mathlib.Core.Path.{_≡_, refl, sym, ap, _∙_}
+use mathlib.Core.List.{List, [], _∷_, _++_}
+use mathlib.Core.Option.{some}
+use Prim.Native.Nat.{ℕ, zero, suc, _+_, _*_, _-_, _≤_, _<_}
+use native.Mathlib.Omega.{arith}
+use lib.ListN.{take}
+use lib.Seq.{take-take, take-at}
+use Rattle.header.specs.declared.DbHeader.{DbHeader}
+use Rattle.header.specs.declared.HeaderDecoded.the-variants as main
+use Rattle.wal.specs.Header.{encodeWalHeader}
+use Rattle.wal.specs.Recovery.{lastCount, batchesIn}
+use Rattle.wal.specs.Write.{emptyWal}
+use Rattle.wal.specs.declared.WalHeader.{WalHeader}
+use Rattle.wal.proofs.Encoding.{length-encodeWalHeader}
+use Rattle.wal.proofs.Laid.{joined}
+use Rattle.pager_state.specs.World.{World, countOf}
+use Rattle.pager_state.specs.Overlay.{pageFrom}
+use Rattle.pager_state.specs.Opening.{placeFrom}
+use Rattle.pager_state.specs.Stores.{content, diskOf, stored, cutStore, lenFile, lenCut}
+use Rattle.pager_state.specs.Fold.{logLengthAct, emptied, headerTodo, foldTodo, foldAdvance}
+use Rattle.pager_state.specs.Commit.{commitTodo, commitAdvance}
+use Rattle.pager_state.specs.Steps.{todo, advance}
+use Rattle.pager_state.specs.declared.Job.the-variants as job
+use Rattle.history.specs.Book.{Book, bookEmpty}
+use Rattle.history.proofs.Files.{lasting, same-file, len-file}
+use Rattle.history.proofs.Disk.{headerOver, BookIs, OnDisk, DiskOk, log-alone, log-len}
+use Rattle.history.proofs.Rest.{Held, Flattened, Bared, Some, step-fine, held-disk}
+use Rattle.history.proofs.Stepping.{StepOk, todo-by, advance-by}
+use Rattle.history.proofs.FoldHeader.{has-true}
+
+-- ---- the log's length
+
+-- without frames the book is the main file's, where that has every page
+bare-book : {m : List ℕ} {b : Book} {S : List (List ℕ)} {mh : DbHeader} → BookIs m b S mh → mh ≡ b .header
+    → ((n : ℕ) → 1 ≤ n → n < countOf (b .header) → b .pages n ≡ some (pageFrom (4096 * n) m)) → BookIs m (bookEmpty b) [] mh
+unfolding headerOver placeFrom lastCount batchesIn
+bare-book {m} {b} {S} {mh} o own flat =
+    record {
+      top = ap main.Header own;
+      plain = o .plain;
+      least = o .least;
+      most = o .most;
+      pages = λ n n1 n2. let q : countOf mh ≡ countOf (b .header) = ap countOf own in let n3 : n < countOf mh = omega arith in rw (has-true mh n n1 n3) (sym (flat n n1 n2));
+      there = o .there;
+      above = o .above;
+      batches = refl;
+    }
+
+pub empty-len : (h : WalHeader) → emptyWal h .len ≡ 32
+unfolding emptyWal
+empty-len h = refl
+
+pub empty-header : (h : WalHeader) → emptyWal h .header ≡ h
+unfolding emptyWal
+empty-header h = refl
+
+module _ (g : List ℕ) (w : World) (b : Book) (z : List ℕ) (salt answer : ℕ) (job-is : w .pager .job ≡ job.LogLength salt answer) (k : Some (Flattened salt w g b) z) where
+  abbrev c : Flattened salt w g b (k .l) (k .S) (k .P) (k .mh)
+  c = k .it
+
+  abbrev o : OnDisk (diskOf w) b (k .l) (k .S) (k .P) [] (k .mh)
+  o = k .it .held .on
+
+  within : 32 ≤ w .pager .wal .len
+  within = omega (arith, log-len o)
+
+  stored-is : stored logLengthAct (diskOf w) ≡ record { main = diskOf w .main; log = lasting (diskOf w .log) 32 }
+  stored-is = rw (len-file (diskOf w .log) 32 within)
+
+  abbrev v : World
+  v = emptied salt answer w
+
+  disk-is : diskOf v ≡ stored logLengthAct (diskOf w)
+  unfolding emptied lenFile
+  disk-is =
+      λ i. record { main = diskOf w .main; log = same-file {f = record { area = stored logLengthAct (diskOf w) .log .area; len = emptyWal (w .pager .wal .header) .len }} {g = stored logLengthAct (diskOf w) .log} refl (empty-len (w .pager .wal .header)) i }
+
+  alone : content (lasting (diskOf w .log) 32) ≡ encodeWalHeader (k .l)
+  alone =
+      sym (take-take 32 (w .pager .wal .len) (w .log) within)
+      ∙ ap (take 32) (o .log .bytes) ∙ take-at (encodeWalHeader (k .l)) (joined (k .S ++ k .P) ++ []) 32 (length-encodeWalHeader (k .l))
+
+  on-after : OnDisk (diskOf v) (bookEmpty b) (k .l) [] [] [] (k .mh)
+  on-after =
+      rw (disk-is, stored-is) (record {
+        log = log-alone (lasting (diskOf w .log) 32) (k .l) (o .log .written) alone (o .log .area) (omega arith);
+        main = o .main;
+        book = bare-book (o .book) (c .own) (c .flat);
+      })
+
+  held-after : Held v g (bookEmpty b) (k .l) [] [] (k .mh)
+  unfolding emptied batchesIn
+  held-after =
+      let q = c .held in
+      record {
+        on = on-after;
+        tableLong = q .tableLong;
+        stagingLong = q .stagingLong;
+        salt = ap (λ (h : WalHeader). h .salt) (empty-header (w .pager .wal .header)) ∙ q .salt;
+        clock = rw (empty-header (w .pager .wal .header)) (q .clock);
+        header = q .header;
+        clean = q .clean;
+        slots = q .slots;
+        staged = q .staged;
+        waiting = refl;
+      }
+
+  after-ok : Bared salt v g (bookEmpty b) (k .l) [] [] (k .mh)
+  unfolding emptied
+  after-ok = record { held = held-after; own = c .own; noSealed = refl; noWaiting = refl; full = c .full; fits = c .fits }
+
+  cut-ok : (j : ℕ) → j < 1 → DiskOk (cutStore logLengthAct j (diskOf w)) b z
+  unfolding lenCut
+  cut-ok zero h = held-disk (c .held) (k .kept)
+  cut-ok (suc j) h = absurd (omega arith)
+
+  todo-is : todo g w ≡ logLengthAct ∷ headerTodo salt v
+  unfolding commitTodo foldTodo
+  todo-is = todo-by g w (job.LogLength salt answer) job-is
+
+  left-is : todo g v ≡ headerTodo salt v
+  unfolding commitTodo foldTodo emptied
+  left-is = todo-by g v (job.LogHeader salt answer) refl
+
+  next-is : advance g w ≡ v
+  unfolding commitAdvance foldAdvance
+  next-is = advance-by g w (job.LogLength salt answer) job-is
+
+  pub empty-step : StepOk g w b z
+  unfolding emptied joined
+  empty-step =
+      record {
+        act = logLengthAct;
+        rest = headerTodo salt v;
+        next = v;
+        todoIs = todo-is;
+        nextIs = next-is;
+        lies = refl;
+        covers = tt;
+        fine = step-fine (c .held);
+        disk = disk-is;
+        left = left-is;
+        after = record { l = k .l; S = []; P = []; mh = k .mh; it = after-ok; kept = refl };
+        cut = cut-ok;
+      }

@@ -1,0 +1,132 @@
+-- A fold, begun or in one call. Assumes nothing.
+use mathlib.Core.Path.{_≡_, refl, sym, ap, _∙_, subst}
+use mathlib.Core.Bool.{Bool, true, false}
+use mathlib.Core.List.{List, []}
+use Prim.Native.Nat.{ℕ, _^_, _<_}
+use native.Mathlib.Omega.{arith}
+use Rattle.le.specs.Choice.{pick}
+use Rattle.pager_state.specs.World.{World, busy, readOnly, withJob, fine}
+use Rattle.pager_state.specs.Stores.{diskOf, stored}
+use Rattle.pager_state.specs.Fold.{foldTodo}
+use Rattle.pager_state.specs.Commit.{commitTodo}
+use Rattle.pager_state.specs.Steps.{stepFine, nothingToFold, checkpointStart, folding, beginCheckpoint, checkpointRefusal, todo, steps, onStore, checkpointWorld}
+use Rattle.pager_state.specs.declared.Job.the-variants as job
+use Rattle.pager_state.specs.declared.Pager.{Pager}
+use Rattle.pager_state.specs.declared.CheckpointStart.the-variants as checkpoint
+use Rattle.history.specs.Book.{Book, tells}
+use Rattle.history.specs.Calls.{Checkpoint, BeginCheckpoint}
+use Rattle.history.specs.Run.{storesOf, worldAfter, keptAfter}
+use Rattle.history.proofs.Disk.{DiskOk}
+use Rattle.history.proofs.Rest.{Resting, Folding, Some, Inv, held-disk}
+use Rattle.history.proofs.Stepping.{todo-by}
+use Rattle.history.proofs.Running.{cut-none, RunOk, run-ok, fold-few}
+use Rattle.history.proofs.Taken.{Taken, taken-by, took, passed, idle-of, at-rest}
+
+-- ---- a fold
+
+module _ (w : World) (g : List ℕ) (b : Book) (z : List ℕ) (i : Inv w g b z) (salt : ℕ) (small : salt < 2 ^ 32)
+    (ok : checkpointRefusal (checkpointStart g w) ≡ 0) where
+  record Starts : Type 0 where
+    areas : stepFine g w ≡ true
+    rests : busy (w .pager) ≡ false
+    writes : readOnly (w .pager) ≡ false
+
+  starts : Starts
+  unfolding checkpointStart
+  starts =
+      let a = took checkpointRefusal (stepFine g w) _ checkpoint.Area ok (λ e. omega arith) in
+      let c = passed checkpointRefusal (busy (w .pager)) checkpoint.Busy _ (a .1) (λ e. omega arith) in
+      let d = passed checkpointRefusal (readOnly (w .pager)) checkpoint.ReadOnly _ (c .1) (λ e. omega arith) in
+      record { areas = a .0; rests = c .0; writes = d .0 }
+
+  start-is : (t : Bool) → nothingToFold w ≡ t → checkpointStart g w ≡ pick t checkpoint.Nothing checkpoint.Begun
+  unfolding checkpointStart
+  start-is t e = rw (starts .areas, starts .rests, starts .writes, e)
+
+  idle : w .pager .job ≡ job.Idle
+  idle = idle-of (w .pager .job) (starts .rests)
+
+  k : Some (Resting w g b) z
+  k = at-rest w g b z i idle
+
+  abbrev v : World
+  v = onStore w (withJob (w .pager) (job.Fold salt 0 (folding w)))
+
+  folding-ok : Folding salt 0 v g b (k .l) (k .S) (k .P) (k .mh)
+  folding-ok =
+      let q = k .it .held in
+      record {
+        held =
+            record {
+              on = q .on;
+              tableLong = q .tableLong;
+              stagingLong = q .stagingLong;
+              salt = q .salt;
+              clock = q .clock;
+              header = q .header;
+              clean = q .clean;
+              slots = q .slots;
+              staged = q .staged;
+              waiting = q .waiting;
+            };
+        table = k .it .table;
+        loose = k .it .loose;
+        fits = small;
+        stored = λ n x h1 h2 hc e. absurd (omega arith);
+      }
+
+  begun : Inv v g b z
+  begun = record { l = k .l; S = k .S; P = k .P; mh = k .mh; it = folding-ok; kept = k .kept }
+
+  run : RunOk g 2200 v b z (todo g v) (diskOf w)
+  run = run-ok g 2200 v b z (todo g v) (diskOf w) refl refl (fold-few g v salt 0 (folding w) refl) begun
+
+  disk-now : DiskOk (diskOf w) b z
+  disk-now = held-disk (k .it .held) (k .kept)
+
+  no-stores : todo g w ≡ []
+  unfolding commitTodo foldTodo
+  no-stores = todo-by g w job.Idle idle
+
+  -- with something to fold, and with nothing
+  pager-is : nothingToFold w ≡ false → beginCheckpoint g w salt .pager ≡ withJob (w .pager) (job.Fold salt 0 (folding w))
+  unfolding beginCheckpoint
+  pager-is e = rw (start-is false e)
+
+  pager-stays : nothingToFold w ≡ true → beginCheckpoint g w salt .pager ≡ w .pager
+  unfolding beginCheckpoint
+  pager-stays e = rw (start-is true e)
+
+  begin-by : (t : Bool) → nothingToFold w ≡ t → Taken (BeginCheckpoint salt) w g b z
+  unfolding storesOf worldAfter tells keptAfter
+  begin-by true e =
+      record { after = subst (λ (p : Pager). Inv (onStore w p) g b z) (sym (pager-stays e)) i; cut = cut-none [] (diskOf w) b z disk-now }
+  begin-by false e =
+      record { after = subst (λ (p : Pager). Inv (onStore w p) g b z) (sym (pager-is e)) begun; cut = cut-none [] (diskOf w) b z disk-now }
+
+  pub begin-checkpoint-ok : Taken (BeginCheckpoint salt) w g b z
+  begin-checkpoint-ok = begin-by (nothingToFold w) refl
+
+  stores-is : nothingToFold w ≡ false → storesOf (Checkpoint salt) w g ≡ todo g v
+  unfolding storesOf
+  stores-is e = ap (λ (p : Pager). todo g (onStore w p)) (pager-is e)
+
+  stores-none : nothingToFold w ≡ true → storesOf (Checkpoint salt) w g ≡ []
+  unfolding storesOf
+  stores-none e = ap (λ (p : Pager). todo g (onStore w p)) (pager-stays e) ∙ no-stores
+
+  world-is : nothingToFold w ≡ false → worldAfter (Checkpoint salt) w g ≡ steps g 2200 v
+  unfolding worldAfter checkpointWorld
+  world-is e = rw (start-is false e) (ap (λ (p : Pager). steps g 2200 (onStore w p)) (pager-is e))
+
+  world-stays : nothingToFold w ≡ true → worldAfter (Checkpoint salt) w g ≡ w
+  unfolding worldAfter checkpointWorld
+  world-stays e = rw (start-is true e)
+
+  checkpoint-by : (t : Bool) → nothingToFold w ≡ t → Taken (Checkpoint salt) w g b z
+  unfolding tells keptAfter
+  checkpoint-by true e = taken-by (Checkpoint salt) w g b z (world-stays e) (stores-none e) i (cut-none [] (diskOf w) b z disk-now)
+  checkpoint-by false e = taken-by (Checkpoint salt) w g b z (world-is e) (stores-is e) (run .after) (run .cut)
+
+  pub checkpoint-ok : Taken (Checkpoint salt) w g b z
+  checkpoint-ok = checkpoint-by (nothingToFold w) refl

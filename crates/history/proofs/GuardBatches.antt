@@ -1,0 +1,228 @@
+-- Batches that are appended: nothing refuses them while there is room, and once sealed an opening returns them.
+use mathlib.Core.Path.{_≡_, ap, _∙_}
+use mathlib.Core.Bool.{true}
+use mathlib.Core.List.{List, [], _∷_, _++_}
+use Prim.Native.Nat.{ℕ, zero, suc, _+_, _*_, _^_, _≤_, _<_}
+use native.Mathlib.Omega.{arith}
+use borrow.Author.Tests.{eq-eqb, eqb-true, le-leb}
+use lib.ListN.{length, replicate}
+use Rattle.le.specs.Le.{put}
+use Rattle.le.proofs.Stores.{length-put}
+use Rattle.header.specs.declared.DbHeader.{DbHeader}
+use Rattle.frame.proofs.Stores.{length-encodeFrame}
+use Rattle.mvcc.specs.Seen.{refusalOf, decodes, canonical}
+use Rattle.mvcc.proofs.Canonical.{canonical-length}
+use Rattle.wal.specs.Write.{longer, withFrame}
+use Rattle.pager_state.specs.World.{World, world, countOf, withWal}
+use Rattle.pager_state.specs.Batches.{appendAnswer, batchFrame, appendBatch, appendAfter}
+use Rattle.pager_state.specs.Opening.{createFine}
+use Rattle.pager_state.specs.Steps.{differing, commitWorld, commitStart, commitRefusal, isBegun}
+use Rattle.pager_state.specs.declared.CommitStart.the-variants as commit
+use Rattle.pager_state.specs.declared.BatchAnswer.the-variants as append
+use Rattle.pager_state.proofs.Made.{Made}
+use Rattle.pager_state.proofs.Begun.{commit-begun}
+use Rattle.history.specs.Book.{batchIn, firstBook}
+use Rattle.history.specs.Calls.{Append, Commit}
+use Rattle.history.specs.Run.{Run, refusedBy, worldAfter, whole, Whole, next, start}
+use Rattle.history.specs.Demand3.{AllBytes, Words, Demand3}
+use Rattle.history.specs.Guards.{newStore, GoodHeader, Joined, Unrefused, UnrefusedBatch, LongerBy, Empty, Ends, after, Accepted, sealedBatch, framesAfter, Returned, Recovers, Filled}
+use Rattle.history.proofs.GuardRefusals.{told-begun, told-full, unrefused-batch, batch-told-full}
+use Rattle.history.proofs.GuardCommit.{begun-of, seal-idle, commit-ends}
+use Rattle.history.proofs.GuardNew.{fine-create, none-differ, new-unrefused, new-made, new-count, new-none, new-len, new-frames, made-framed}
+use Rattle.history.proofs.GuardHistories.{made-history}
+use Rattle.history.proofs.GuardBook.{world-after, staging-after, append-book, open-book, commit-batches}
+use Rattle.history.proofs.GuardReached.{Reached, reached-none, reached-whole, reached-made, opening-taken, opening-returns}
+
+-- ---- in any history
+
+module _ (d : Demand3) (t l m g : List ℕ) (salt : ℕ) (f : createFine t l m g ≡ true) (small : salt < 2 ^ 32) where
+  abbrev new : Run
+  new = start t l m g salt
+
+  module _ {r : Run} (k : Reached new r) (body : List ℕ) (h : DbHeader) (next : ℕ) (b : AllBytes body) (v : Words h) (s : next < 2 ^ 32)
+      (a : Accepted (Append body) r) (c : Accepted (Commit h next) (whole (Append body) r)) (few : framesAfter (whole (Append body) r) < 100) where
+    abbrev appended : Run
+    appended = whole (Append body) r
+
+    reached-appended : Reached new appended
+    reached-appended = reached-whole k (Append body) b
+
+    reached-sealed : Reached new (sealedBatch body h next r)
+    reached-sealed = reached-whole reached-appended (Commit h next) (v, s)
+
+    all-sealed : sealedBatch body h next r .book .sealed ≡ r .book .sealed ++ (r .book .waiting ++ (batchIn body ∷ []))
+    unfolding refusedBy
+    all-sealed =
+        let u = made-framed (appended .world) (reached-made reached-appended (new-made t l m g salt f)) in
+        let e = begun-of (commitStart (appended .staging) (appended .world) h) c in
+        let i = commit-begun (appended .staging) (appended .world) h (ap isBegun e) .idle in
+        commit-batches h next appended c (seal-idle (appended .staging) (appended .world) h next (u .0) (u .1 i) (omega arith) e few)
+        ∙ rw (append-book body r a)
+
+    pub returned : Returned r body h next
+    returned =
+        record {
+          sealed = all-sealed;
+          opened = λ lent z.
+              opening-returns d t l m g salt f small reached-sealed lent z
+              ∙ rw (open-book lent (sealedBatch body h next r) (opening-taken d t l m g salt f small reached-sealed lent z)) all-sealed;
+        }
+
+-- ---- one batch more
+
+-- a body that can be appended
+pub record Good (body : List ℕ) : Type 0 where
+  pub page : length body ≤ 4096
+  pub bytes : AllBytes body
+  pub decoded : decodes body ≡ true
+
+good-refusal : (body : List ℕ) → Good body → refusalOf body ≡ 0
+unfolding decodes
+good-refusal body k = eqb-true (refusalOf body) 0 (k .decoded)
+
+-- no refusal but 15 of a commit, nothing staged, k frames
+pub record Ready (h : DbHeader) (k : ℕ) (r : Run) : Type 0 where
+  pub unrefused : Unrefused (r .staging) (r .world) h
+  pub logFile : r .world .pager .wal .len ≡ 32 + 4112 * k
+  pub none : r .world .pager .staged .count ≡ 0
+  pub frames : r .world .pager .wal .«frame_count» ≡ k
+
+module _ (h : DbHeader) (k : ℕ) (r : Run) (u : Ready h k r) (body : List ℕ) (b : Good body) where
+  unrefused-by : UnrefusedBatch (r .world .pager) (r .world .log) body
+  unrefused-by =
+      record {
+        log = u .unrefused .log;
+        logFile = u .unrefused .logFile;
+        page = b .page;
+        long = λ e. omega (arith, e, good-refusal body b);
+        marked = λ e. omega (arith, e, good-refusal body b);
+        rests = u .unrefused .rests;
+        writes = u .unrefused .writes;
+      }
+
+  batch-full : k ≡ 1024 → appendAnswer (r .world .pager) (r .world .log) body ≡ append.LogFull
+  batch-full e = batch-told-full (r .world .pager) (r .world .log) body unrefused-by (omega (arith, u .logFile, e))
+
+  module _ (low : k < 1024) where
+    append-answer : appendAnswer (r .world .pager) (r .world .log) body ≡ append.Appended
+    append-answer =
+        let room : r .world .pager .wal .len + 4112 ≤ 4210720 = omega (arith, u .logFile) in
+        unrefused-batch (r .world .pager) (r .world .log) body unrefused-by
+        ∙ rw (le-leb (r .world .pager .wal .len + 4112) 4210720 room, eq-eqb (refusalOf body) 0 (good-refusal body b))
+
+    append-taken : Accepted (Append body) r
+    unfolding refusedBy appendBatch
+    append-taken = rw append-answer
+
+    abbrev appendedWorld : World
+    appendedWorld =
+        world (withWal (r .world .pager) (withFrame (r .world .pager .wal) 0)) (r .world .table) (put (r .world .log) (r .world .pager .wal .len) (batchFrame (r .world .pager) body))
+        (r .world .main)
+
+    append-world : whole (Append body) r .world ≡ appendedWorld
+    unfolding worldAfter appendBatch appendAfter
+    append-world = world-after (Append body) r ∙ rw append-answer
+
+    append-long : length (appendedWorld .log) ≡ 4210720
+    unfolding batchFrame
+    append-long =
+        let n = length-encodeFrame 4294967295 0 (r .world .pager .wal .header .salt) (canonical body) (canonical-length body (b .bytes) (b .decoded) (b .page)) in
+        length-put (r .world .log) (r .world .pager .wal .len) (batchFrame (r .world .pager) body) (omega (arith, n, u .logFile, u .unrefused .log)) ∙ u .unrefused .log
+
+    append-ready : Ready h (suc k) (whole (Append body) r)
+    unfolding longer
+    append-ready =
+        let x = u .unrefused in
+        let e = append-world in
+        let y : whole (Append body) r .staging ≡ r .staging = staging-after (Append body) r in
+        let room : r .world .pager .wal .len + 4112 ≤ 4210720 = omega (arith, u .logFile) in
+        record {
+          unrefused = rw (e, y)
+              (record {
+                table = x .table;
+                log = append-long;
+                main = x .main;
+                staging = x .staging;
+                logFile = room;
+                mainFile = x .mainFile;
+                pages = x .pages;
+                rests = x .rests;
+                writes = x .writes;
+                header = x .header;
+                joined = x .joined;
+              });
+          logFile = rw e (omega (arith, u .logFile));
+          none = rw e (u .none);
+          frames = rw e (omega (arith, u .frames));
+        }
+
+  -- ---- and a commit
+
+  none-differs : differing (r .staging) (r .world) ≡ 0
+  none-differs = none-differ (r .world) (u .none) (r .staging)
+
+  ready-begun : k < 1024 → commitStart (r .staging) (r .world) h ≡ commit.Begun
+  ready-begun low = told-begun (r .staging) (r .world) h (u .unrefused) (omega (arith, u .logFile, none-differs))
+
+  module _ (q : Made (r .world)) (low : k < 1024) (salt : ℕ) where
+    ready-ends : Ends (r .staging) (r .world) h salt
+    ready-ends =
+        let x = made-framed (r .world) q in
+        commit-ends (r .staging) (r .world) h salt (x .0) (x .1 (u .unrefused .rests)) (omega (arith, u .frames)) (ready-begun low)
+
+    ready-longer : k < 99 → LongerBy (r .world) (commitWorld (r .staging) (r .world) h salt) 1
+    ready-longer e = rw none-differs at (ready-ends .below (omega (arith, u .frames, none-differs)))
+
+    ready-folded : 99 ≤ k → Empty (commitWorld (r .staging) (r .world) h salt)
+    ready-folded e = ready-ends .above (omega (arith, u .frames, none-differs))
+
+  ready-full : k ≡ 1024 → commitStart (r .staging) (r .world) h ≡ commit.LogFull
+  ready-full e = told-full (r .staging) (r .world) h (u .unrefused) (omega (arith, u .logFile, none-differs, e))
+
+-- ---- from a new store on
+
+filled : (h : DbHeader) (body : List ℕ) → Good body → (n k : ℕ) (r : Run) → Ready h k r → k + n ≤ 1024
+    → Ready h (k + n) (after (replicate n (Whole (Append body))) r)
+unfolding after next
+filled h body b zero k r u e = let z : k + 0 ≡ k = omega arith in rw z u
+filled h body b (suc n) k r u e =
+    let z : suc k + n ≡ k + suc n = omega arith in
+    rw z at (filled h body b n (suc k) (whole (Append body) r) (append-ready h k r u body b (omega arith)) (omega arith))
+
+module _ (t l m g : List ℕ) (salt : ℕ) (f : createFine t l m g ≡ true) (h : DbHeader) (k : GoodHeader h) (c : countOf h ≤ 2) where
+  new-ready : Ready h 0 (start t l m g salt)
+  unfolding start
+  new-ready =
+      let j : Joined (newStore t l m g salt) h = λ n a b d. absurd (omega (arith, new-count t l m g salt f, b, c, d)) in
+      record {
+        unrefused = new-unrefused t l m g salt f (newStore t l m g salt .pager .staged) h k j g (fine-create t l m g f .staging);
+        logFile = new-len t l m g salt f;
+        none = new-none t l m g salt f;
+        frames = new-frames t l m g salt f;
+      }
+
+  pub fills : (body : List ℕ) → Good body → (n : ℕ) → n ≤ 1024 → Filled (after (replicate n (Whole (Append body))) (start t l m g salt)) body h n
+  fills body b n e =
+      let r : Run = after (replicate n (Whole (Append body))) (start t l m g salt) in
+      let z : 0 + n ≡ n = omega arith in
+      let u : Ready h n r = rw z at (filled h body b n 0 (start t l m g salt) new-ready (omega arith)) in
+      let q : Made (r .world) = made-history (replicate n (Whole (Append body))) (start t l m g salt) (new-made t l m g salt f) in
+      record {
+        logFile = u .logFile;
+        longer = λ z next. ready-longer h n r u body b q (omega arith) next z;
+        folded = λ z low next. ready-folded h n r u body b q low next z;
+        room = ready-begun h n r u body b;
+        full = ready-full h n r u body b;
+        fullBatch = batch-full h n r u body b;
+      }
+
+  pub recovers : Demand3 → salt < 2 ^ 32 → (body : List ℕ) → Good body → (next : ℕ) → Words h → next < 2 ^ 32 → Recovers (start t l m g salt) body h next
+  unfolding refusedBy start firstBook
+  recovers d small body b next v s =
+      let r : Run = start t l m g salt in
+      let a : Accepted (Append body) r = append-taken h 0 r new-ready body b (omega arith) in
+      let u : Ready h 1 (whole (Append body) r) = append-ready h 0 r new-ready body b (omega arith) in
+      let e : Accepted (Commit h next) (whole (Append body) r) = ap commitRefusal (ready-begun h 1 (whole (Append body) r) u body b (omega arith)) in
+      let few : framesAfter (whole (Append body) r) < 100 = omega (arith, u .frames, none-differs h 1 (whole (Append body) r) u body b) in
+      let x : Returned r body h next = returned d t l m g salt f small (reached-none r) body h next (b .bytes) v s a e few in
+      record { appended = a; committed = e; sealed = x .sealed; opened = x .opened }

@@ -1,0 +1,192 @@
+-- A commit that is begun, run to its end: the log is its frames longer, or a fold has emptied it. Assumes nothing.
+use mathlib.Core.Path.{_≡_, refl, sym, ap, _∙_}
+use mathlib.Core.List.{List, [], _∷_, append-nil}
+use Prim.Native.Nat.{ℕ, suc, _+_, _-_, _*_, _^_, _≤_, _<_}
+use native.Mathlib.Nat.{suc-add}
+use native.Mathlib.Omega.{arith}
+use borrow.Author.Tests.{le-leb, lt-leb}
+use lib.ListN.{length}
+use Rattle.header.specs.declared.DbHeader.{DbHeader}
+use Rattle.wal.specs.Write.{longer}
+use Rattle.pager_state.specs.World.{World, withJob}
+use Rattle.pager_state.specs.Overlay.{committedBytes}
+use Rattle.pager_state.specs.Stores.{Act}
+use Rattle.pager_state.specs.Pages.{pagesFrom, differs, folds}
+use Rattle.pager_state.specs.Fold.{foldTodo, foldAdvance}
+use Rattle.pager_state.specs.Commit.{jobAfter, framed, sealedPager, sealedWorld, framesTodo, framesAdvance, commitTodo, commitAdvance}
+use Rattle.pager_state.specs.Steps.{differing, commitStart, commitRefusal, isBegun, beginCommit, todo, done, stepped, steps, onStore, commitAnswer, commitWorld}
+use Rattle.pager_state.specs.declared.Job.the-variants as job
+use Rattle.pager_state.specs.declared.CommitStart.{CommitStart}
+use Rattle.pager_state.specs.declared.CommitStart.the-variants as commit
+use Rattle.pager_state.proofs.Searches.{first, pages-same, pages-length}
+use Rattle.pager_state.proofs.Stored.{AllInside}
+use Rattle.pager_state.proofs.Made.{Asks, Made, Ready, ready-fine}
+use Rattle.pager_state.proofs.Next.{todo-by, advance-by}
+use Rattle.pager_state.proofs.Advance.{framed-differs}
+use Rattle.pager_state.proofs.Steps.{step-keeps}
+use Rattle.pager_state.proofs.Runs.{steps-add, steps-keep, step-inside, idle-stays}
+use Rattle.pager_state.proofs.Begun.{commit-begun, begun-commit, commit-inside, commit-ready}
+use Rattle.history.specs.Guards.{FramesInside, LongerBy, Empty, Ends}
+use Rattle.history.proofs.GuardFold.{pagesWorld, fold-run, end-empty}
+
+module _ (g : List ℕ) (h : DbHeader) (salt answer : ℕ) where
+  -- after the frames of these pages
+  unfoldable pub framesWorld : List ℕ → World → World
+  framesWorld [] w = w
+  framesWorld (n ∷ ns) w = framesWorld ns (framed g h salt answer n w)
+
+  -- ---- one step
+
+  module _ (w : World) (p : ℕ) (j : w .pager .job ≡ job.Commit h salt p answer) (ns : List ℕ) (e : pagesFrom (differs g w) p ≡ ns) (r : Ready g w)
+      (i : AllInside (todo g w)) where
+    frames-todo : todo g w ≡ framesTodo g h salt answer ns w
+    unfolding commitTodo foldTodo
+    frames-todo = todo-by g w (job.Commit h salt p answer) j ∙ append-nil _ ∙ ap (λ (l : List ℕ). framesTodo g h salt answer l w) e
+
+    frames-step : (a : Act) (rest : List Act) → framesTodo g h salt answer ns w ≡ a ∷ rest → stepped g w ≡ framesAdvance g h salt answer ns w
+    unfolding stepped done commitAdvance foldAdvance
+    frames-step a rest f =
+        let t = frames-todo ∙ f in
+        let k : AllInside (a ∷ rest) = rw t at i in
+        rw (r .right, t, k .0) (advance-by g w (job.Commit h salt p answer) j ∙ ap (λ (l : List ℕ). framesAdvance g h salt answer l w) e)
+
+  -- ---- the frames
+
+  framed-left : (w : World) (p n : ℕ) (ns : List ℕ) → w .pager .job ≡ job.Commit h salt p answer → pagesFrom (differs g w) p ≡ n ∷ ns → Ready g w
+      → pagesFrom (differs g (framed g h salt answer n w)) (suc n) ≡ ns
+  framed-left w p n ns j e r =
+      let f = ready-fine g w (r .right) .0 .files .log in
+      let k : Asks (job.Commit h salt p answer) w = rw j at (r .made .asked) in
+      let d = pages-same (differs g (framed g h salt answer n w)) (differs g w) (suc n) (framed-differs g h salt answer w n (k .0) (omega (arith, f .area, f .len))) in
+      let s = first (differs g w) p n ns e .split in
+      d ∙ cc
+
+  framed-job : (n : ℕ) (w : World) → framed g h salt answer n w .pager .job ≡ job.Commit h salt (suc n) answer
+  unfolding framed
+  framed-job n w = refl
+
+  frames-run : (ns : List ℕ) (w : World) (p : ℕ) → w .pager .job ≡ job.Commit h salt p answer → pagesFrom (differs g w) p ≡ ns → Ready g w → AllInside (todo g w)
+      → steps g (length ns + 1) w ≡ sealedWorld h salt answer (framesWorld ns w)
+  unfolding framesWorld framesTodo steps
+  frames-run [] w p j e r i = frames-step w p j [] e r i _ _ refl
+  frames-run (n ∷ ns) w p j e r i =
+      let v : World = framed g h salt answer n w in
+      let a : stepped g w ≡ v = frames-step w p j (n ∷ ns) e r i _ _ refl in
+      let k : AllInside (todo g v) = rw a at (step-inside g w r i) in
+      let s : Ready g v = rw a at (step-keeps g w r) in
+      rw suc-add (ap (steps g (length ns + 1)) a ∙ frames-run ns v (suc n) (framed-job n w) (framed-left w p n ns j e r) s k)
+
+  -- each is one frame
+  frames-grow : (ns : List ℕ) (w : World) → w .pager .wal .«frame_count» + length ns < 2 ^ 64
+      → (framesWorld ns w .pager .wal .len ≡ w .pager .wal .len + 4112 * length ns)
+      × (framesWorld ns w .pager .wal .«frame_count» ≡ w .pager .wal .«frame_count» + length ns)
+  unfolding framesWorld framed longer
+  frames-grow [] w k = (omega arith, omega arith)
+  frames-grow (n ∷ ns) w k =
+      let x = frames-grow ns (framed g h salt answer n w) (omega arith) in
+      (omega (arith, x .0), omega (arith, x .1))
+
+  frames-opening : (ns : List ℕ) (w : World) → framesWorld ns w .pager .opening ≡ w .pager .opening
+  unfolding framesWorld framed
+  frames-opening [] w = refl
+  frames-opening (n ∷ ns) w = frames-opening ns (framed g h salt answer n w)
+
+-- ---- a commit that is begun
+
+pub begun-of : (a : CommitStart) → commitRefusal a ≡ 0 → a ≡ commit.Begun
+begun-of commit.Begun e = refl
+begun-of commit.Area e = absurd (omega arith)
+begun-of commit.Busy e = absurd (omega arith)
+begun-of commit.ReadOnly e = absurd (omega arith)
+begun-of commit.NewHeader e = absurd (omega arith)
+begun-of (commit.Joining n) e = absurd (omega arith)
+begun-of commit.LogFull e = absurd (omega arith)
+
+module _ (g : List ℕ) (w : World) (h : DbHeader) (salt : ℕ) (slots : length (w .pager .staged .pages) ≡ 64) (i : FramesInside w)
+    (few : w .pager .wal .«frame_count» ≤ 1024) (b : commitStart g w h ≡ commit.Begun) where
+  commit-made : Made w
+  commit-made = record { slots = slots; asked = rw (commit-begun g w h (ap isBegun b) .idle) i }
+
+  abbrev answer : ℕ
+  answer = differing g w
+
+  abbrev pages : List ℕ
+  pages = pagesFrom (differs g w) 0
+
+  abbrev begun : World
+  begun = onStore w (withJob (w .pager) (job.Commit h salt 0 answer))
+
+  -- after the seal
+  abbrev sealed : World
+  sealed = sealedWorld h salt answer (framesWorld g h salt answer pages begun)
+
+  begun-is : onStore w (beginCommit g w h salt .pager) ≡ begun
+  begun-is = rw (begun-commit g w h (ap isBegun b) salt)
+
+  begun-ready : Ready g begun
+  begun-ready = rw begun-is at (commit-ready g w h (ap isBegun b) salt commit-made)
+
+  begun-inside : AllInside (todo g begun)
+  begun-inside = rw begun-is at (commit-inside g w h (ap isBegun b) salt)
+
+  begun-pages : pagesFrom (differs g begun) 0 ≡ pages
+  unfolding differs committedBytes
+  begun-pages = refl
+
+  seal-run : steps g (length pages + 1) begun ≡ sealed
+  seal-run = frames-run g h salt answer pages begun 0 refl begun-pages begun-ready begun-inside
+
+  seal-ready : Ready g sealed
+  seal-ready = rw seal-run at (steps-keep g (length pages + 1) begun begun-ready)
+
+  -- the steps behind the seal
+  commit-is : commitWorld g w h salt ≡ steps g (2199 - length pages) sealed
+  unfolding commitWorld
+  commit-is =
+      let k : length pages + 1 + (2199 - length pages) ≡ 2200 = omega (arith, pages-length (differs g w) 0) in
+      rw (b, begun-is)
+      (ap (λ (n : ℕ). steps g n begun) (sym k) ∙ steps-add g (length pages + 1) (2199 - length pages) begun ∙ ap (steps g (2199 - length pages)) seal-run)
+
+  module _ (v : World) (e : v ≡ sealed) where
+    seal-len : v .pager .wal .len ≡ w .pager .wal .len + 4112 * (differing g w + 1)
+    unfolding sealedWorld sealedPager longer differing
+    seal-len = rw e (omega (arith, frames-grow g h salt answer pages begun (omega (arith, pages-length (differs g w) 0)) .0))
+
+    seal-frames : v .pager .wal .«frame_count» ≡ w .pager .wal .«frame_count» + (differing g w + 1)
+    unfolding sealedWorld sealedPager longer differing
+    seal-frames =
+        let x = frames-grow g h salt answer pages begun (omega (arith, pages-length (differs g w) 0)) .1 in
+        rw e (omega (arith, x, pages-length (differs g w) 0))
+
+    seal-unstaged : v .pager .staged .count ≡ 0
+    unfolding sealedWorld sealedPager
+    seal-unstaged = rw e
+
+    seal-opening : v .pager .opening ≡ w .pager .opening
+    unfolding sealedWorld sealedPager
+    seal-opening = rw e (frames-opening g h salt answer pages begun)
+
+  seal-job : sealed .pager .job ≡ jobAfter (sealed .pager .wal) salt answer
+  unfolding sealedWorld sealedPager
+  seal-job = refl
+
+  -- below 100 frames no fold follows
+  pub seal-idle : w .pager .wal .«frame_count» + (differing g w + 1) < 100 → sealed .pager .job ≡ job.Idle
+  seal-idle k = seal-job ∙ rw (lt-leb 100 (sealed .pager .wal .«frame_count») (omega (arith, seal-frames sealed refl)))
+
+  ends-below : w .pager .wal .«frame_count» + (differing g w + 1) < 100 → LongerBy w (commitWorld g w h salt) (differing g w + 1)
+  ends-below k =
+      let j = seal-idle k in
+      let e = commit-is ∙ idle-stays g (2199 - length pages) sealed j in
+      record { rests = rw e j; unstaged = seal-unstaged _ e; opening = seal-opening _ e; logFile = seal-len _ e; frames = seal-frames _ e }
+
+  ends-above : 100 ≤ w .pager .wal .«frame_count» + (differing g w + 1) → Empty (commitWorld g w h salt)
+  ends-above k =
+      let j : sealed .pager .job ≡ job.Fold salt 0 answer = seal-job ∙ rw (le-leb 100 (sealed .pager .wal .«frame_count») (omega (arith, seal-frames sealed refl))) in
+      let m : length (pagesFrom (folds sealed) 0) + 4 ≤ 2199 - length pages = omega (arith, pages-length (differs g w) 0, pages-length (folds sealed) 0) in
+      rw (commit-is ∙ fold-run g salt answer (2199 - length pages) sealed j seal-ready m)
+      (end-empty g salt answer (pagesWorld g salt answer (pagesFrom (folds sealed) 0) sealed))
+
+  pub commit-ends : Ends g w h salt
+  unfolding commitAnswer
+  commit-ends = record { answer = rw b; below = ends-below; above = ends-above }

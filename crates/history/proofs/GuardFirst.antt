@@ -1,0 +1,196 @@
+-- The first page that is committed in a new store: nothing refuses it, and a fold leaves it in the main file.
+use mathlib.Core.Path.{_≡_, sym, ap, _∙_}
+use mathlib.Core.Bool.{Bool, true, false}
+use mathlib.Core.List.{List}
+use mathlib.Core.Option.{none, some}
+use Prim.Native.Nat.{ℕ, _+_, _*_, _^_, _<_}
+use native.Mathlib.Omega.{arith}
+use borrow.Author.Tests.{eq-eqb, ne-eqb}
+use lib.Dec.{leb}
+use lib.ListN.{length, length-set}
+use Rattle.le.specs.Choice.{pick}
+use Rattle.le.specs.Le.{put}
+use Rattle.le.proofs.Stores.{length-put}
+use Rattle.header.specs.declared.DbHeader.{DbHeader}
+use Rattle.pager_state.specs.World.{World, countOf, headerOf, readOnly, readOnlyBy}
+use Rattle.pager_state.specs.Overlay.{pageFrom, slotOf, inLog, onMain, below, overlay, findPage}
+use Rattle.pager_state.specs.Staging.{stageAnswer, slotted, stagePage, stageAfter}
+use Rattle.pager_state.specs.Opening.{createFine}
+use Rattle.pager_state.specs.Steps.{differing, commitStart, isBegun, nothingToFold, checkpointStart, isFolding, beginCheckpoint, todo, checkpointWorld, stepFine, onStore, commitWorld}
+use Rattle.pager_state.specs.declared.Staged.{Staged}
+use Rattle.pager_state.specs.declared.Job.the-variants as job
+use Rattle.pager_state.specs.declared.StageAnswer.the-variants as stage
+use Rattle.pager_state.specs.declared.CommitStart.the-variants as commit
+use Rattle.pager_state.specs.declared.CheckpointStart.the-variants as checkpoint
+use Rattle.pager_state.specs.declared.PageFound.the-variants as found
+use Rattle.pager_state.proofs.Made.{Made}
+use Rattle.pager_state.proofs.Done.{Rests, commit-done, checkpoint-done}
+use Rattle.history.specs.Calls.{Stage, Commit, Checkpoint}
+use Rattle.history.specs.Run.{Run, refusedBy, worldAfter, whole, start}
+use Rattle.history.specs.Demand3.{readingAt, AllBytes, Words, Demand3}
+use Rattle.history.specs.Guards.{GoodHeader, withSlots, LongerBy, FoldedTo, Accepted, reading, committedPage, ReadsBack, Keeps}
+use Rattle.history.proofs.GuardNew.{fine-create, few-differ, none-staged, new-begun, new-made, new-idle, new-count, new-none, new-frames, new-writes, made-framed}
+use Rattle.history.proofs.GuardHistories.{made-whole}
+use Rattle.history.proofs.GuardCommit.{commit-ends}
+use Rattle.history.proofs.GuardFold.{fold-leaves}
+use Rattle.history.proofs.GuardBook.{world-after, staging-after}
+use Rattle.history.proofs.GuardReached.{reached-none}
+use Rattle.history.proofs.GuardPages.{some-same, none-some, reads-back}
+
+-- ---- a page that is read from the main file
+
+module _ (w : World) (g : List ℕ) (n : ℕ) (f : stepFine g w ≡ true) (i : w .pager .job ≡ job.Idle) (z : w .pager .staged .count ≡ 0)
+    (l : inLog (w .table) n ≡ false) where
+  found-main : findPage w g n ≡ pick (leb (countOf (headerOf (w .pager))) n) found.Nothing (pick (onMain (w .table) n) (found.Main (4096 * n)) found.Nothing)
+  unfolding findPage overlay below
+  found-main = rw (f, i, none-staged w z n, l)
+
+  main-by : (bytes : List ℕ) (a b : Bool) → readingAt w g (pick a found.Nothing (pick b (found.Main (4096 * n)) found.Nothing)) ≡ some bytes
+      → pageFrom (4096 * n) (w .main) ≡ bytes
+  main-by bytes true b e = none-some bytes e
+  main-by bytes false true e = some-same _ bytes e
+  main-by bytes false false e = none-some bytes e
+
+  read-main : (bytes : List ℕ) → readingAt w g (findPage w g n) ≡ some bytes → pageFrom (4096 * n) (w .main) ≡ bytes
+  read-main bytes e = main-by bytes (leb (countOf (headerOf (w .pager))) n) (onMain (w .table) n) (sym (ap (readingAt w g) found-main) ∙ e)
+
+-- ---- staging it
+
+module _ (t l m g : List ℕ) (salt : ℕ) (f : createFine t l m g ≡ true) (bytes : List ℕ) (long : length bytes ≡ 4096) where
+  abbrev new : Run
+  new = start t l m g salt
+
+  abbrev w : World
+  w = new .world
+
+  slot-first : slotOf (w .pager .staged) 1 ≡ 0
+  unfolding slotOf
+  slot-first = rw (new-none t l m g salt f)
+
+  new-long : length (new .staging) ≡ 262144
+  unfolding start
+  new-long = fine-create t l m g f .staging
+
+  stage-answer : stageAnswer (w .pager) (new .staging) 1 bytes ≡ stage.Staged
+  unfolding stageAnswer
+  stage-answer = rw (eq-eqb (length (new .staging)) 262144 new-long, eq-eqb (length bytes) 4096 long, new-idle t l m g salt f, slot-first)
+
+  stage-taken : Accepted (Stage 1 bytes) new
+  unfolding refusedBy stagePage
+  stage-taken = rw stage-answer
+
+  -- the slots then
+  abbrev slots : Staged
+  slots = slotted (w .pager .staged) (slotOf (w .pager .staged) 1) 1
+
+  abbrev staged : Run
+  staged = whole (Stage 1 bytes) new
+
+  staged-world : staged .world ≡ withSlots w slots
+  unfolding worldAfter stagePage
+  staged-world = world-after (Stage 1 bytes) new ∙ rw stage-answer
+
+  staged-staging : staged .staging ≡ put (new .staging) 0 bytes
+  unfolding stageAfter
+  staged-staging = staging-after (Stage 1 bytes) new ∙ rw (stage-answer, slot-first)
+
+  staging-long : length (staged .staging) ≡ 262144
+  staging-long = ap length staged-staging ∙ length-put (new .staging) 0 bytes (omega (arith, new-long)) ∙ new-long
+
+  -- ---- committing it
+
+  module _ (h : DbHeader) (next : ℕ) (k : GoodHeader h) (two : countOf h ≡ 2) where
+    first-begun : commitStart (staged .staging) (staged .world) h ≡ commit.Begun
+    unfolding slotted
+    first-begun =
+        let z : length (slots .pages) ≡ 64 = length-set (w .pager .staged .pages) (slotOf (w .pager .staged) 1) 1 ∙ new-made t l m g salt f .slots in
+        rw staged-world
+        (new-begun t l m g salt f slots z h k (λ n a b c. absurd (omega (arith, new-count t l m g salt f, b, c, two))) (staged .staging) staging-long)
+
+    first-taken : Accepted (Commit h next) staged
+    unfolding refusedBy
+    first-taken = rw first-begun
+
+    abbrev committed : Run
+    committed = committedPage 1 bytes h next new
+
+    staged-made : Made (staged .world)
+    staged-made = made-whole (Stage 1 bytes) new (new-made t l m g salt f)
+
+    staged-frames : staged .world .pager .wal .«frame_count» ≡ 0
+    staged-frames = rw staged-world (new-frames t l m g salt f)
+
+    staged-idle : staged .world .pager .job ≡ job.Idle
+    staged-idle = rw staged-world (new-idle t l m g salt f)
+
+    committed-world : committed .world ≡ commitWorld (staged .staging) (staged .world) h next
+    unfolding worldAfter
+    committed-world = world-after (Commit h next) staged
+
+    committed-staging : committed .staging ≡ staged .staging
+    committed-staging = staging-after (Commit h next) staged
+
+    first-longer : LongerBy (staged .world) (committed .world) (differing (staged .staging) (staged .world) + 1)
+    first-longer =
+        let u = made-framed (staged .world) staged-made in
+        let e = commit-ends (staged .staging) (staged .world) h next (u .0) (u .1 staged-idle) (omega (arith, staged-frames)) first-begun in
+        rw committed-world (e .below (omega (arith, staged-frames, few-differ (staged .staging) (staged .world) (u .0))))
+
+    committed-fine : stepFine (committed .staging) (committed .world) ≡ true
+    committed-fine =
+        rw (committed-world, committed-staging) (commit-done (staged .staging) (staged .world) h next (ap isBegun first-begun) staged-made .ready .right)
+
+    committed-made : Made (committed .world)
+    committed-made = made-whole (Commit h next) staged staged-made
+
+    -- ---- and a fold
+
+    committed-writes : readOnly (committed .world .pager) ≡ false
+    committed-writes = ap readOnlyBy (first-longer .opening) ∙ rw staged-world (new-writes t l m g salt f)
+
+    some-frames : nothingToFold (committed .world) ≡ false
+    unfolding nothingToFold
+    some-frames = rw (ne-eqb (committed .world .pager .wal .«frame_count») 0 (λ e. omega (arith, e, first-longer .frames)))
+
+    fold-begun : checkpointStart (committed .staging) (committed .world) ≡ checkpoint.Begun
+    unfolding checkpointStart
+    fold-begun = rw (committed-fine, first-longer .rests, committed-writes, some-frames)
+
+    module _ (last : ℕ) where
+      abbrev folded : Run
+      folded = whole (Checkpoint last) committed
+
+      fold-taken : Accepted (Checkpoint last) committed
+      unfolding refusedBy
+      fold-taken = rw fold-begun
+
+      folded-world : folded .world ≡ checkpointWorld (committed .staging) (committed .world) last
+      unfolding worldAfter
+      folded-world = world-after (Checkpoint last) committed
+
+      fold-done : Rests (committed .staging) (todo (committed .staging) (onStore (committed .world) (beginCheckpoint (committed .staging) (committed .world) last .pager))) (committed .world) (folded .world)
+      fold-done = rw folded-world (checkpoint-done (committed .staging) (committed .world) last (ap isFolding fold-begun) committed-made)
+
+      fold-to : FoldedTo (committed .world) (folded .world)
+      fold-to =
+          let u = made-framed (committed .world) committed-made in
+          rw folded-world (fold-leaves (committed .staging) (committed .world) last (u .0) (u .1 (first-longer .rests)) fold-begun)
+
+      -- no page is staged or in the log: it is read from the main file
+      in-main : reading folded 1 ≡ some bytes → pageFrom 4096 (folded .world .main) ≡ bytes
+      in-main e =
+          let fine : stepFine (folded .staging) (folded .world) ≡ true = rw (staging-after (Checkpoint last) committed) (fold-done .ready .right) in
+          let unstaged : folded .world .pager .staged .count ≡ 0 = rw (fold-to .staged) (first-longer .unstaged) in
+          read-main (folded .world) (folded .staging) 1 fine (fold-done .idle) unstaged (fold-to .empty .none 1) bytes e
+
+    pub keeps : Demand3 → salt < 2 ^ 32 → AllBytes bytes → Words h → next < 2 ^ 32 → Keeps new bytes h next
+    keeps d small b v s =
+        let back : ReadsBack committed 1 bytes =
+        reads-back d t l m g salt f small (reached-none new) 1 bytes h next b v s stage-taken first-taken (omega arith) (omega arith) in
+        record {
+          staged = stage-taken;
+          committed = first-taken;
+          reads = back;
+          folds = fold-begun;
+          folded = λ last z. in-main last (back .folded last z (fold-taken last));
+        }

@@ -1,0 +1,398 @@
+-- A fold that is begun, run to its end: the log has its header alone, and the pages that it had are in the main file. Assumes nothing.
+use mathlib.Core.Path.{_≡_, refl, sym, ap, _∙_}
+use mathlib.Core.Bool.{true, false}
+use mathlib.Core.List.{List, [], _∷_}
+use mathlib.Core.Logic.{_⊎_, inl, inr}
+use Prim.Native.Nat.{ℕ, zero, suc, _+_, _-_, _*_, _/_, _%_, _≤_, _<_}
+use native.Mathlib.Nat.{suc-add}
+use native.Mathlib.Omega.{arith}
+use borrow.Author.Tests.{le-leb, lt-leb, lt-ltb, leb-true, ltb-true, eqb-true, eqb-false, ne-eqb, not-true}
+use lib.Dec.{leb, ltb, eqb}
+use lib.ListN.{length, drop, replicate, getD, length-take, length-drop}
+use Rattle.le.proofs.Compare.{no-test, both-true}
+use Rattle.le.proofs.Tests.{le-or-lt, eq-or-not}
+use Rattle.header.specs.Header.{encodeHeader}
+use Rattle.header.proofs.Encoding.{length-encodeHeader}
+use Rattle.wal.specs.Write.{emptyWal}
+use Rattle.pager_state.specs.World.{World, countOf, headerOf, withJob}
+use Rattle.pager_state.specs.Overlay.{pageFrom, frameOf, inLog, onMain, logBytes}
+use Rattle.pager_state.specs.Stores.{File, diskOf, Act, grown, putFile, lenFile}
+use Rattle.pager_state.specs.Pages.{pagesFrom, folds}
+use Rattle.pager_state.specs.Fold.{foldedFrom, paged, headed, lengthened, emptied, folded, pagesTodo, foldTodo, foldAdvance, pagesAdvance}
+use Rattle.pager_state.specs.Commit.{commitTodo, commitAdvance}
+use Rattle.pager_state.specs.Steps.{todo, done, stepped, steps, folding, checkpointStart, isFolding, beginCheckpoint, checkpointAnswer, checkpointWorld, onStore}
+use Rattle.pager_state.specs.declared.Job.{Job}
+use Rattle.pager_state.specs.declared.Job.the-variants as job
+use Rattle.pager_state.specs.declared.CheckpointStart.the-variants as checkpoint
+use Rattle.pager_state.specs.declared.CheckpointAnswer.the-variants as answer
+use Rattle.pager_state.proofs.Searches.{First, first, pages-none, pages-length}
+use Rattle.pager_state.proofs.Stored.{Lies, AllInside, length-grown, put-lies}
+use Rattle.pager_state.proofs.Entries.{part-before, folded-none}
+use Rattle.pager_state.proofs.Inside.{fold-inside}
+use Rattle.pager_state.proofs.Made.{Fine, Made, Ready, ready-fine}
+use Rattle.pager_state.proofs.Next.{todo-by, advance-by}
+use Rattle.pager_state.proofs.Steps.{step-keeps}
+use Rattle.pager_state.proofs.Runs.{steps-add, idle-stays}
+use Rattle.pager_state.proofs.Begun.{checkpoint-begun, begun-checkpoint, checkpoint-ready}
+use Rattle.history.proofs.Files.{page-other, page-same}
+use Rattle.history.specs.Guards.{FramesInside, Empty, FoldedTo}
+
+-- ---- pages of a file that lies in the main area
+
+-- a whole page of it
+pub record Has (n : ℕ) (x : List ℕ) (f : File) : Type 0 where
+  pub bytes : pageFrom (4096 * n) (f .area) ≡ x
+  pub inside : 4096 * suc n ≤ f .len
+
+module _ (f : File) (s : Lies 4194304 f) where
+  -- growing leaves it
+  has-grown : (n m : ℕ) (x : List ℕ) → Has n x f → pageFrom (4096 * n) (grown f m) ≡ x
+  unfolding grown
+  has-grown n m x h =
+      part-before (f .area) (f .len) (replicate (m - f .len) 0) (4096 * n) 4096 (omega (arith, h .inside)) (omega (arith, s .area, s .len)) ∙ h .bytes
+
+  module _ (i : ℕ) (xs : List ℕ) (l : length xs ≡ 4096) (b : i < 1024) where
+    grown-long : length (grown f (4096 * i)) ≡ 4194304
+    grown-long = length-grown f (4096 * i) (omega (arith, s .area, s .len)) (omega (arith, s .area)) ∙ s .area
+
+    put-own : Has i xs (putFile f (4096 * i) xs)
+    unfolding putFile
+    put-own = record { bytes = page-same (grown f (4096 * i)) i xs (omega arith) (omega (arith, grown-long)) l; inside = omega arith }
+
+    put-other : (n : ℕ) (x : List ℕ) → (n ≡ i → ⊥) → Has n x f → Has n x (putFile f (4096 * i) xs)
+    unfolding putFile
+    put-other n x ne h =
+        record {
+          bytes = page-other (grown f (4096 * i)) i xs (omega arith) (omega (arith, grown-long)) n ne ∙ has-grown n (4096 * i) x h;
+          inside = omega (arith, h .inside);
+        }
+
+-- ---- the worlds of a fold
+
+module _ (g : List ℕ) (salt answer : ℕ) where
+  -- after these pages
+  unfoldable pub pagesWorld : List ℕ → World → World
+  pagesWorld [] w = w
+  pagesWorld (n ∷ ns) w = pagesWorld ns (paged salt answer n w)
+
+  -- and after the four stores behind them
+  abbrev pub endWorld : World → World
+  endWorld w = folded salt (emptied salt answer (lengthened salt answer (headed salt answer w)))
+
+  -- ---- one step
+
+  module _ (w : World) (r : Ready g w) where
+    fold-step : (j : Job) (a : Act) (rest : List Act) → w .pager .job ≡ j → todo g w ≡ foldTodo j w → foldTodo j w ≡ a ∷ rest
+        → stepped g w ≡ foldAdvance j (commitAdvance g j w)
+    unfolding stepped done
+    fold-step j a rest e t f =
+        let i : AllInside (a ∷ rest) = rw f at (fold-inside j w (ready-fine g w (r .right) .0 .count)) in
+        rw (r .right, t, f, i .0) (advance-by g w j e)
+
+    page-step : (p n : ℕ) (ns : List ℕ) → w .pager .job ≡ job.Fold salt p answer → pagesFrom (folds w) p ≡ n ∷ ns → stepped g w ≡ paged salt answer n w
+    unfolding commitTodo commitAdvance foldTodo foldAdvance pagesTodo
+    page-step p n ns j e =
+        let k : Job = job.Fold salt p answer in
+        fold-step k _ _ j (todo-by g w k j) (ap (λ (l : List ℕ). pagesTodo salt answer l w) e) ∙ ap (λ (l : List ℕ). pagesAdvance salt answer l w) e
+
+    header-step : (p : ℕ) → w .pager .job ≡ job.Fold salt p answer → pagesFrom (folds w) p ≡ [] → stepped g w ≡ headed salt answer w
+    unfolding commitTodo commitAdvance foldTodo foldAdvance pagesTodo
+    header-step p j e =
+        let k : Job = job.Fold salt p answer in
+        fold-step k _ _ j (todo-by g w k j) (ap (λ (l : List ℕ). pagesTodo salt answer l w) e) ∙ ap (λ (l : List ℕ). pagesAdvance salt answer l w) e
+
+    length-step : w .pager .job ≡ job.MainLength salt answer → stepped g w ≡ lengthened salt answer w
+    unfolding commitTodo commitAdvance foldTodo foldAdvance
+    length-step j = fold-step (job.MainLength salt answer) _ _ j (todo-by g w (job.MainLength salt answer) j) refl
+
+    empty-step : w .pager .job ≡ job.LogLength salt answer → stepped g w ≡ emptied salt answer w
+    unfolding commitTodo commitAdvance foldTodo foldAdvance
+    empty-step j = fold-step (job.LogLength salt answer) _ _ j (todo-by g w (job.LogLength salt answer) j) refl
+
+    last-step : w .pager .job ≡ job.LogHeader salt answer → stepped g w ≡ folded salt w
+    unfolding commitTodo commitAdvance foldTodo foldAdvance
+    last-step j = fold-step (job.LogHeader salt answer) _ _ j (todo-by g w (job.LogHeader salt answer) j) refl
+
+  -- ---- all of them
+
+  next-ready : (w v : World) → stepped g w ≡ v → Ready g w → Ready g v
+  next-ready w v e r = rw e at (step-keeps g w r)
+
+  end-run : (w : World) (p : ℕ) → w .pager .job ≡ job.Fold salt p answer → pagesFrom (folds w) p ≡ [] → Ready g w → steps g 4 w ≡ endWorld w
+  unfolding steps headed lengthened emptied
+  end-run w p j e r =
+      let w₁ : World = headed salt answer w in
+      let w₂ : World = lengthened salt answer w₁ in
+      let w₃ : World = emptied salt answer w₂ in
+      let a : stepped g w ≡ w₁ = header-step w r p j e in
+      let s : Ready g w₁ = next-ready w w₁ a r in
+      let b : stepped g w₁ ≡ w₂ = length-step w₁ s refl in
+      let t : Ready g w₂ = next-ready w₁ w₂ b s in
+      let c : stepped g w₂ ≡ w₃ = empty-step w₂ t refl in
+      let u : Ready g w₃ = next-ready w₂ w₃ c t in
+      rw (a, b, c) (last-step w₃ u refl)
+
+  paged-job : (n : ℕ) (w : World) → paged salt answer n w .pager .job ≡ job.Fold salt (suc n) answer
+  unfolding paged
+  paged-job n w = refl
+
+  paged-left : (w : World) (p n : ℕ) (ns : List ℕ) → pagesFrom (folds w) p ≡ n ∷ ns → pagesFrom (folds (paged salt answer n w)) (suc n) ≡ ns
+  unfolding paged folds
+  paged-left w p n ns e =
+      let s = first (folds w) p n ns e .split in
+      cc
+
+  one-more : (k : ℕ) (w v u : World) → stepped g w ≡ v → steps g k v ≡ u → steps g (suc k) w ≡ u
+  unfolding steps
+  one-more k w v u a e = ap (steps g k) a ∙ e
+
+  pages-run : (l : List ℕ) (w : World) (p : ℕ) → w .pager .job ≡ job.Fold salt p answer → pagesFrom (folds w) p ≡ l → Ready g w
+      → steps g (length l + 4) w ≡ endWorld (pagesWorld l w)
+  unfolding pagesWorld
+  pages-run [] w p j e r = end-run w p j e r
+  pages-run (n ∷ ns) w p j e r =
+      let v : World = paged salt answer n w in
+      let a : stepped g w ≡ v = page-step w r p n ns j e in
+      rw suc-add (one-more (length ns + 4) w v (endWorld (pagesWorld ns v)) a (pages-run ns v (suc n) (paged-job n w) (paged-left w p n ns e) (next-ready w v a r)))
+
+  -- in as many steps or more
+  pub fold-run : (k : ℕ) (w : World) → w .pager .job ≡ job.Fold salt 0 answer → Ready g w → length (pagesFrom (folds w) 0) + 4 ≤ k
+      → steps g k w ≡ endWorld (pagesWorld (pagesFrom (folds w) 0) w)
+  unfolding folded
+  fold-run k w j r h =
+      let l : List ℕ = pagesFrom (folds w) 0 in
+      let e : length l + 4 + (k - (length l + 4)) ≡ k = omega arith in
+      ap (λ (n : ℕ). steps g n w) (sym e) ∙ steps-add g (length l + 4) (k - (length l + 4)) w
+      ∙ ap (steps g (k - (length l + 4))) (pages-run l w 0 j refl r) ∙ idle-stays g (k - (length l + 4)) (endWorld (pagesWorld l w)) refl
+
+  -- ---- what the pages' stores leave
+
+  abbrev mainOf : World → File
+  mainOf w = diskOf w .main
+
+  pub record Paged (w v : World) : Type 0 where
+    pub table : v .table ≡ w .table
+    pub log : v .log ≡ w .log
+    pub staged : v .pager .staged ≡ w .pager .staged
+    pub header : headerOf (v .pager) ≡ headerOf (w .pager)
+    pub lies : Lies 4194304 (mainOf v)
+
+  -- every frame that the table names has a whole page
+  abbrev Wholes : World → Type 0
+  Wholes w = (n : ℕ) → n < 1024 → inLog (w .table) n ≡ true → length (logBytes (w .table) (w .log) n) ≡ 4096
+
+  folds-so : (w : World) (n : ℕ) → folds w n ≡ true → (1 ≤ n) × (n < countOf (headerOf (w .pager))) × (inLog (w .table) n ≡ true)
+  unfolding folds
+  folds-so w n e =
+      let a = both-true (leb 1 n) _ e in
+      let b = both-true (ltb n (countOf (headerOf (w .pager)))) (inLog (w .table) n) (a .1) in
+      (leb-true 1 n (a .0), ltb-true _ _ (b .0), b .1)
+
+  module _ (w : World) (s : Lies 4194304 (mainOf w)) (n : ℕ) (b : n < 1024) (l : length (logBytes (w .table) (w .log) n) ≡ 4096) where
+    paged-main : mainOf (paged salt answer n w) ≡ putFile (mainOf w) (4096 * n) (logBytes (w .table) (w .log) n)
+    unfolding paged
+    paged-main = refl
+
+    paged-lies : Lies 4194304 (mainOf (paged salt answer n w))
+    paged-lies = rw paged-main (put-lies 4194304 (mainOf w) (4096 * n) (logBytes (w .table) (w .log) n) (omega arith) s)
+
+    paged-own : Has n (logBytes (w .table) (w .log) n) (mainOf (paged salt answer n w))
+    paged-own = rw paged-main (put-own (mainOf w) s n (logBytes (w .table) (w .log) n) l b)
+
+    paged-other : (m : ℕ) (x : List ℕ) → (m ≡ n → ⊥) → Has m x (mainOf w) → Has m x (mainOf (paged salt answer n w))
+    paged-other m x ne h = rw paged-main (put-other (mainOf w) s n (logBytes (w .table) (w .log) n) l b m x ne h)
+
+  -- the world behind the first page
+  module _ (w : World) (p n : ℕ) (ns : List ℕ) (e : pagesFrom (folds w) p ≡ n ∷ ns) (k : Wholes w) (s : Lies 4194304 (mainOf w)) where
+    at : First (folds w) p n
+    at = first (folds w) p n ns e
+
+    whole : length (logBytes (w .table) (w .log) n) ≡ 4096
+    whole = k n (at .below) (folds-so w n (at .holds) .2)
+
+    behind-lies : Lies 4194304 (mainOf (paged salt answer n w))
+    behind-lies = paged-lies w s n (at .below) whole
+
+    behind-own : Has n (logBytes (w .table) (w .log) n) (mainOf (paged salt answer n w))
+    behind-own = paged-own w s n (at .below) whole
+
+    behind-other : (m : ℕ) (x : List ℕ) → (m < p) ⊎ (folds w m ≡ false) → Has m x (mainOf w) → Has m x (mainOf (paged salt answer n w))
+    behind-other m x (inl h) y = paged-other w s n (at .below) whole m x (λ z. omega (arith, at .from, h, z)) y
+    behind-other m x (inr h) y = paged-other w s n (at .below) whole m x (λ z. no-test (sym h ∙ ap (folds w) z ∙ at .holds)) y
+
+    behind-wholes : Wholes (paged salt answer n w)
+    unfolding paged
+    behind-wholes = k
+
+  -- they leave table, log and header
+  pages-keep : (l : List ℕ) (w : World) (p : ℕ) → pagesFrom (folds w) p ≡ l → Wholes w → Lies 4194304 (mainOf w) → Paged w (pagesWorld l w)
+  unfolding pagesWorld paged
+  pages-keep [] w p e k s = record { table = refl; log = refl; staged = refl; header = refl; lies = s }
+  pages-keep (n ∷ ns) w p e k s =
+      let v : World = paged salt answer n w in
+      let i = pages-keep ns v (suc n) (paged-left w p n ns e) (behind-wholes w p n ns e k s) (behind-lies w p n ns e k s) in
+      record { table = i .table; log = i .log; staged = i .staged; header = i .header; lies = i .lies }
+
+  -- every page that they are not of stays
+  pages-kept : (l : List ℕ) (w : World) (p : ℕ) → pagesFrom (folds w) p ≡ l → Wholes w → Lies 4194304 (mainOf w)
+      → (m : ℕ) (x : List ℕ) → (m < p) ⊎ (folds w m ≡ false) → Has m x (mainOf w) → Has m x (mainOf (pagesWorld l w))
+  unfolding pagesWorld paged folds
+  pages-kept [] w p e k s m x h y = y
+  pages-kept (n ∷ ns) w p e k s m x h y =
+      pages-kept ns (paged salt answer n w) (suc n) (paged-left w p n ns e) (behind-wholes w p n ns e k s) (behind-lies w p n ns e k s) m x
+      (still h) (behind-other w p n ns e k s m x h y)
+    where
+      still : (m < p) ⊎ (folds w m ≡ false) → (m < suc n) ⊎ (folds (paged salt answer n w) m ≡ false)
+      still (inl z) = inl (omega (arith, first (folds w) p n ns e .from))
+      still (inr z) = inr z
+
+  -- and each of theirs is there
+  pages-brought : (l : List ℕ) (w : World) (p : ℕ) → pagesFrom (folds w) p ≡ l → Wholes w → Lies 4194304 (mainOf w)
+      → (m : ℕ) → p ≤ m → m < 1024 → folds w m ≡ true → Has m (logBytes (w .table) (w .log) m) (mainOf (pagesWorld l w))
+  unfolding pagesWorld paged folds
+  pages-brought [] w p e k s m a b t = no-test (sym (pages-none (folds w) p e m a b) ∙ t)
+  pages-brought (n ∷ ns) w p e k s m a b t =
+      let v : World = paged salt answer n w in
+      let x = paged-left w p n ns e in
+      let y = behind-wholes w p n ns e k s in
+      let z = behind-lies w p n ns e k s in
+      go (eq-or-not m n) (pages-kept ns v (suc n) x y z n (logBytes (w .table) (w .log) n) (inl (omega arith)) (behind-own w p n ns e k s))
+      (λ h. pages-brought ns v (suc n) x y z m h b t)
+    where
+      go : (m ≡ n) ⊎ (m ≡ n → ⊥) → Has n (logBytes (w .table) (w .log) n) (mainOf (pagesWorld ns (paged salt answer n w)))
+          → (suc n ≤ m → Has m (logBytes (w .table) (w .log) m) (mainOf (pagesWorld ns (paged salt answer n w))))
+          → Has m (logBytes (w .table) (w .log) m) (mainOf (pagesWorld ns (paged salt answer n w)))
+      go (inl q) own later = rw q own
+      go (inr q) own later = later (above (le-or-lt m n))
+        where
+          above : (m ≤ n) ⊎ (n < m) → suc n ≤ m
+          above (inl h) = no-test (sym (first (folds w) p n ns e .before m a (lower (le-or-lt n m))) ∙ t)
+            where
+              lower : (n ≤ m) ⊎ (m < n) → m < n
+              lower (inl i) = absurd (q (omega arith))
+              lower (inr i) = i
+          above (inr h) = h
+
+  -- ---- and the stores behind them
+
+  module _ (v : World) where
+    headed-main : mainOf (headed salt answer v) ≡ putFile (mainOf v) (4096 * 0) (encodeHeader (headerOf (v .pager)))
+    unfolding headed
+    headed-main = refl
+
+    headed-lies : Lies 4194304 (mainOf v) → Lies 4194304 (mainOf (headed salt answer v))
+    headed-lies s =
+        let l = length-encodeHeader (headerOf (v .pager)) in
+        rw headed-main (put-lies 4194304 (mainOf v) (4096 * 0) (encodeHeader (headerOf (v .pager))) (omega arith) s)
+
+    end-main : endWorld v .main ≡ grown (mainOf (headed salt answer v)) (4096 * countOf (headerOf (v .pager)))
+    unfolding folded emptied lengthened headed lenFile
+    end-main = refl
+
+    end-page : Lies 4194304 (mainOf v) → (n : ℕ) (x : List ℕ) → 1 ≤ n → Has n x (mainOf v) → pageFrom (4096 * n) (endWorld v .main) ≡ x
+    end-page s n x a h =
+        let l = length-encodeHeader (headerOf (v .pager)) in
+        let y : Has n x (mainOf (headed salt answer v)) =
+        rw headed-main (put-other (mainOf v) s 0 (encodeHeader (headerOf (v .pager))) l (omega arith) n x (λ e. omega arith) h) in
+        rw end-main (has-grown (mainOf (headed salt answer v)) (headed-lies s) n (4096 * countOf (headerOf (v .pager))) x y)
+
+    -- the log has its header alone
+    pub end-empty : Empty (endWorld v)
+    unfolding folded emptied lengthened headed emptyWal
+    end-empty = record { rests = refl; logFile = refl; frames = refl; none = folded-none (countOf (headerOf (v .pager))) 0 (v .table) }
+
+-- ---- the table
+
+-- a page from 1 below the count that is somewhere is then in the main file
+folded-there : (count k : ℕ) (t : List ℕ) (n : ℕ) → 1 ≤ k + n → k + n < count → (getD t n 0 ≡ 0 → ⊥) → getD (foldedFrom count k t) n 0 ≡ 1
+unfolding foldedFrom
+folded-there count k [] n a b h = absurd (h refl)
+folded-there count k (x ∷ xs) zero a b h =
+    rw (ne-eqb k 0 (λ e. omega arith), lt-leb count k (omega arith), ne-eqb x 0 h)
+folded-there count k (x ∷ xs) (suc n) a b h = folded-there count (suc k) xs n (omega arith) (omega arith) h
+
+folded-main : (count : ℕ) (t : List ℕ) (n : ℕ) → 1 ≤ n → n < count → (getD t n 0 ≡ 0 → ⊥) → onMain (foldedFrom count 0 t) n ≡ true
+unfolding onMain
+folded-main count t n a b h = rw (folded-there count 0 t n (omega arith) (omega arith) h)
+
+log-entry : (t : List ℕ) (n : ℕ) → inLog t n ≡ true → getD t n 0 ≡ 0 → ⊥
+unfolding inLog frameOf
+log-entry t n e z =
+    let k = eqb-false (getD t n 0 / 2) 0 (not-true (eqb (getD t n 0 / 2) 0) e) in
+    k (omega arith)
+
+main-entry : (t : List ℕ) (n : ℕ) → onMain t n ≡ true → getD t n 0 ≡ 0 → ⊥
+unfolding onMain
+main-entry t n e z =
+    let k = eqb-true (getD t n 0 % 2) 1 e in
+    omega arith
+
+-- ---- a fold that is begun
+
+module _ (g : List ℕ) (w : World) (salt : ℕ) (slots : length (w .pager .staged .pages) ≡ 64) (i : FramesInside w)
+    (b : checkpointStart g w ≡ checkpoint.Begun) where
+  fold-made : Made w
+  fold-made = record { slots = slots; asked = rw (checkpoint-begun g w (ap isFolding b) .idle) i }
+
+  abbrev begun : World
+  begun = onStore w (withJob (w .pager) (job.Fold salt 0 (folding w)))
+
+  begun-is : onStore w (beginCheckpoint g w salt .pager) ≡ begun
+  begun-is = rw (begun-checkpoint g w (ap isFolding b) salt)
+
+  begun-ready : Ready g begun
+  begun-ready = rw begun-is at (checkpoint-ready g w (ap isFolding b) salt fold-made)
+
+  -- after the pages
+  abbrev written : World
+  written = pagesWorld g salt (folding w) (pagesFrom (folds begun) 0) begun
+
+  fold-is : checkpointWorld g w salt ≡ endWorld g salt (folding w) written
+  unfolding checkpointWorld
+  fold-is = rw (b, begun-is) (fold-run g salt (folding w) 2200 begun refl begun-ready (omega (arith, pages-length (folds begun) 0)))
+
+  begun-fine : Fine begun
+  begun-fine = ready-fine g begun (begun-ready .right) .0
+
+  wholes : (n : ℕ) → n < 1024 → inLog (w .table) n ≡ true → length (logBytes (w .table) (w .log) n) ≡ 4096
+  unfolding logBytes
+  wholes n h e =
+      length-take 4096 (drop (frameOf (w .table) n + 16) (w .log))
+      ∙ omega (arith, length-drop (frameOf (w .table) n + 16) (w .log), i n h e, begun-fine .files .log .len, begun-fine .files .log .area)
+
+  paged-all : Paged g salt (folding w) begun written
+  paged-all = pages-keep g salt (folding w) (pagesFrom (folds begun) 0) begun 0 refl wholes (begun-fine .files .main)
+
+  begun-folds : (n : ℕ) → 1 ≤ n → n < countOf (headerOf (w .pager)) → folds begun n ≡ inLog (w .table) n
+  unfolding folds
+  begun-folds n a c = rw (le-leb 1 n a, lt-ltb n (countOf (headerOf (w .pager))) c)
+
+  -- a page that stands in the main file then, of an entry of the table
+  settled : (n : ℕ) (x : List ℕ) → 1 ≤ n → n < countOf (headerOf (w .pager)) → (getD (w .table) n 0 ≡ 0 → ⊥) → Has n x (diskOf written .main)
+      → (pageFrom (4096 * n) (checkpointWorld g w salt .main) ≡ x) × (onMain (checkpointWorld g w salt .table) n ≡ true)
+  unfolding folded emptied lengthened headed
+  settled n x a c z h =
+      let k = paged-all in (
+        rw fold-is (end-page g salt (folding w) written (k .lies) n x a h),
+        rw (fold-is, k .header, k .table) (folded-main (countOf (headerOf (w .pager))) (w .table) n a c z),
+      )
+
+  pub fold-leaves : FoldedTo w (checkpointWorld g w salt)
+  unfolding folded emptied lengthened headed lenFile
+  fold-leaves =
+      let k = paged-all in
+      let most = begun-fine .count in
+      record {
+        empty = rw fold-is (end-empty g salt (folding w) written);
+        staged = rw fold-is (k .staged);
+        mainFile = rw (fold-is, k .header);
+        brought = λ n a c e. settled n (logBytes (w .table) (w .log) n) a c (log-entry (w .table) n e)
+            (pages-brought g salt (folding w) (pagesFrom (folds begun) 0) begun 0 refl wholes (begun-fine .files .main) n (omega arith) (omega arith) (begun-folds n a c ∙ e));
+        stayed = λ n a c e f h. settled n (pageFrom (4096 * n) (w .main)) a c (main-entry (w .table) n f)
+            (pages-kept g salt (folding w) (pagesFrom (folds begun) 0) begun 0 refl wholes (begun-fine .files .main) n (pageFrom (4096 * n) (w .main))
+            (inr (begun-folds n a c ∙ e)) (record { bytes = refl; inside = h }));
+      }
+
+  pub fold-answer : checkpointAnswer g w ≡ answer.Written (folding w)
+  unfolding checkpointAnswer
+  fold-answer = rw b

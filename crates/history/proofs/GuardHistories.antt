@@ -1,0 +1,102 @@
+-- Every store of a history is as the laws of steps ask. Assumes nothing.
+use mathlib.Core.Path.{_≡_, refl}
+use mathlib.Core.Bool.{Bool, true, false}
+use mathlib.Core.List.{List, [], _∷_}
+use Prim.Native.Nat.{ℕ}
+use Rattle.header.specs.declared.DbHeader.{DbHeader}
+use Rattle.pager_state.specs.World.{World}
+use Rattle.pager_state.specs.Stores.{Disk}
+use Rattle.pager_state.specs.Opening.{openPager, openTable, openLogArea}
+use Rattle.pager_state.specs.Steps.{commitStart, isBegun, beginCommit, checkpointStart, isFolding, beginCheckpoint, onStore, commitWorld, checkpointWorld}
+use Rattle.pager_state.specs.declared.AccessMode.{AccessMode}
+use Rattle.pager_state.specs.declared.AccessMode.the-variants as mode
+use Rattle.pager_state.specs.Opened.{Opens}
+use Rattle.pager_state.specs.Opened as opened
+use Rattle.pager_state.proofs.Made.{Made}
+use Rattle.pager_state.proofs.Steps.{made-keeps}
+use Rattle.pager_state.proofs.Runs.{made-steps}
+use Rattle.pager_state.proofs.Begun.{commit-ready, checkpoint-ready}
+use Rattle.pager_state.proofs.Opened.{open-made}
+use Rattle.pager_state.proofs.Calls.{stage-made, clear-made, observe-made, append-made}
+use Rattle.history.specs.Calls.{Lent, Call, Open, ReadHeader, ReadMode, ReadClock, ReadPage, ReadBatch, Stage, Clear, Append, Observe, Commit, Checkpoint, BeginCommit, BeginCheckpoint, Step}
+use Rattle.history.specs.Run.{Run, cleanly, laid, openedOr, openedWorld, worldAfter, whole, reopened, Event, Whole, Cut, next}
+use Rattle.history.specs.Guards.{after}
+
+-- ---- openings
+
+module _ (m : AccessMode) (lent : Lent) (d : Disk) (w : World) (k : Made w) where
+  made-by : (a : Opens) → openPager (cleanly m) (lent .table) (laid lent d) (lent .staging) ≡ a
+      → Made (openedOr a w (openTable (cleanly m) (lent .table) (laid lent d) (lent .staging)) (openLogArea (cleanly m) (lent .table) (laid lent d) (lent .staging)) (laid lent d .main .area))
+  made-by (opened.Opened p) e = open-made (cleanly m) (lent .table) (laid lent d) (lent .staging) p e _ _
+  made-by opened.Area e = k
+  made-by opened.Short e = k
+  made-by opened.Magic e = k
+  made-by opened.Version e = k
+  made-by opened.PageSize e = k
+  made-by opened.Limit e = k
+  made-by opened.MainShort e = k
+  made-by opened.PageZero e = k
+  made-by opened.ReadOnly e = k
+
+  made-opened : Made (openedWorld m lent d w)
+  unfolding openedWorld
+  made-opened = made-by (openPager (cleanly m) (lent .table) (laid lent d) (lent .staging)) refl
+
+-- ---- commits and folds
+
+module _ (g : List ℕ) (w : World) (salt : ℕ) (k : Made w) where
+  made-begun : (h : DbHeader) (b : Bool) → isBegun (commitStart g w h) ≡ b → Made (onStore w (beginCommit g w h salt .pager))
+  unfolding beginCommit
+  made-begun h true e = commit-ready g w h e salt k .made
+  made-begun h false e = rw e k
+
+  made-commit : (h : DbHeader) (b : Bool) → isBegun (commitStart g w h) ≡ b → Made (commitWorld g w h salt)
+  unfolding commitWorld
+  made-commit h true e = rw e (made-steps g 2200 (onStore w (beginCommit g w h salt .pager)) (made-begun h true e))
+  made-commit h false e = rw e k
+
+  made-folding : (b : Bool) → isFolding (checkpointStart g w) ≡ b → Made (onStore w (beginCheckpoint g w salt .pager))
+  unfolding beginCheckpoint
+  made-folding true e = checkpoint-ready g w e salt k .made
+  made-folding false e = rw e k
+
+  made-fold : (b : Bool) → isFolding (checkpointStart g w) ≡ b → Made (checkpointWorld g w salt)
+  unfolding checkpointWorld
+  made-fold true e = rw e (made-steps g 2200 (onStore w (beginCheckpoint g w salt .pager)) (made-folding true e))
+  made-fold false e = rw e k
+
+-- ---- any call
+
+made-after : (c : Call) (w : World) (g : List ℕ) → Made w → Made (worldAfter c w g)
+unfolding worldAfter
+made-after (Open m lent) w g k = made-opened m lent _ w k
+made-after ReadHeader w g k = k
+made-after ReadMode w g k = k
+made-after ReadClock w g k = k
+made-after (ReadPage n) w g k = k
+made-after (ReadBatch i) w g k = k
+made-after (Stage n bytes) w g k = stage-made w g n bytes k
+made-after Clear w g k = clear-made w k
+made-after (Append body) w g k = append-made w body k
+made-after (Observe c) w g k = observe-made w c k
+made-after (Commit h salt) w g k = made-commit g w salt k h (isBegun (commitStart g w h)) refl
+made-after (Checkpoint salt) w g k = made-fold g w salt k (isFolding (checkpointStart g w)) refl
+made-after (BeginCommit h salt) w g k = made-begun g w salt k h (isBegun (commitStart g w h)) refl
+made-after (BeginCheckpoint salt) w g k = made-folding g w salt k (isFolding (checkpointStart g w)) refl
+made-after Step w g k = made-keeps g w k
+
+pub made-whole : (c : Call) (r : Run) → Made (r .world) → Made (whole c r .world)
+unfolding whole
+made-whole c r k = made-after c (r .world) (r .staging) k
+
+-- ---- any list of events
+
+made-next : (e : Event) (r : Run) → Made (r .world) → Made (next e r .world)
+unfolding next reopened
+made-next (Whole c) r k = made-whole c r k
+made-next (Cut c j n attempts lent) r k = made-opened mode.ReadWrite lent _ (r .world) k
+
+pub made-history : (es : List Event) (r : Run) → Made (r .world) → Made (after es r .world)
+unfolding after
+made-history [] r k = k
+made-history (e ∷ es) r k = made-history es (next e r) (made-next e r k)

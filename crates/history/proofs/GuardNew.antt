@@ -1,0 +1,250 @@
+-- A new store: its areas, and commits in it. Assumes nothing.
+use mathlib.Core.Path.{_≡_, refl, sym, ap, subst, _∙_}
+use mathlib.Core.Bool.{Bool, true, false}
+use mathlib.Core.List.{List, [], _∷_}
+use Prim.Native.Nat.{ℕ, zero, suc, _+_, _≤_, _<_}
+use native.Mathlib.Omega.{arith}
+use borrow.Author.Tests.{ltb-true, le-leb, le-ltb, eq-eqb, eqb-true, eqb-false, ne-eqb}
+use lib.Dec.{leb, eqb}
+use lib.ListN.{length, length-take}
+use Rattle.le.specs.Choice.{pick}
+use Rattle.le.proofs.Compare.{no-test, both-true}
+use Rattle.page.specs.Page.{emptyTablePage}
+use Rattle.page.proofs.Written.{length-emptyTablePage}
+use Rattle.header.specs.Header.{encodeHeader}
+use Rattle.header.specs.declared.DbHeader.{DbHeader}
+use Rattle.header.proofs.Encoding.{length-encodeHeader}
+use Rattle.wal.specs.Header.{encodeWalHeader}
+use Rattle.wal.specs.Write.{createdHeader, emptyWal}
+use Rattle.wal.proofs.Encoding.{length-encodeWalHeader}
+use Rattle.pager_state.specs.World.{World, world, countOf, headerOf, tableFine, logFine, mainFine, stagingFine, readOnly}
+use Rattle.pager_state.specs.Overlay.{findIn, stagedPages, slotOf, isStaged}
+use Rattle.pager_state.specs.Pages.{among, pagesFrom, differs}
+use Rattle.pager_state.specs.Opening.{tableOf, emptyStaged, opensAs, firstHeader, logStores, createStores, emptyFile, createdDisk, createdPager, createFine, createTable, createLog, createMain}
+use Rattle.pager_state.specs.Steps.{differing, commitStart}
+use Rattle.pager_state.specs.declared.Job.{Job}
+use Rattle.pager_state.specs.declared.Job.the-variants as job
+use Rattle.pager_state.specs.declared.Staged.{Staged}
+use Rattle.pager_state.specs.declared.CommitStart.the-variants as commit
+use Rattle.pager_state.proofs.Stored.{Areas, AllInside, all-areas}
+use Rattle.pager_state.proofs.Sizes.{empty-len}
+use Rattle.pager_state.proofs.Steps.{differs-staged}
+use Rattle.pager_state.proofs.Made.{Asks, Made}
+use Rattle.pager_state.proofs.Opened.{created-made}
+use Rattle.history.specs.Run.{start}
+use Rattle.history.specs.Guards.{newStore, GoodHeader, Joined, Unrefused, withSlots, FramesInside, CommittedAlone}
+use Rattle.history.proofs.Opening.{table-long}
+use Rattle.history.proofs.GuardRefusals.{told-begun}
+use Rattle.history.proofs.GuardCommit.{commit-ends}
+
+-- ---- areas
+
+pub create-fine : (t l m g : List ℕ) → length t ≡ 1024 → length l ≡ 4210720 → length m ≡ 4194304 → length g ≡ 262144 → createFine t l m g ≡ true
+create-fine t l m g a b c d =
+    rw (eq-eqb (length t) 1024 a, eq-eqb (length l) 4210720 b, eq-eqb (length m) 4194304 c, eq-eqb (length g) 262144 d)
+
+-- the lengths that creation asks for
+pub record Lent (t l m g : List ℕ) : Type 0 where
+  pub table : length t ≡ 1024
+  pub log : length l ≡ 4210720
+  pub main : length m ≡ 4194304
+  pub staging : length g ≡ 262144
+
+pub fine-create : (t l m g : List ℕ) → createFine t l m g ≡ true → Lent t l m g
+fine-create t l m g e =
+    let a = both-true (tableFine t) _ e in
+    let b = both-true (logFine 0 l) _ (a .1) in
+    let c = both-true (mainFine 0 m) (stagingFine g) (b .1) in
+    record {
+      table = eqb-true _ _ (a .0);
+      log = eqb-true _ _ (both-true (eqb (length l) 4210720) (leb 0 4210720) (b .0) .0);
+      main = eqb-true _ _ (both-true (eqb (length m) 4194304) (leb 0 4194304) (c .0) .0);
+      staging = eqb-true _ _ (c .1);
+    }
+
+-- ---- no more pages are staged than there are slots
+
+-- f but for the page x
+abbrev without : (ℕ → Bool) → ℕ → ℕ → Bool
+without f x n = pick (eqb n x) false (f n)
+
+module _ (f : ℕ → Bool) (x : ℕ) where
+  -- x was passed
+  behind : (k p : ℕ) → x < p → length (among f k p) ≤ length (among (without f x) k p)
+  unfolding among
+  behind zero p h = omega arith
+  behind (suc k) p h = rw (ne-eqb p x (λ e. omega arith)) (go (f p) (behind k (suc p) (omega arith)))
+    where
+      go : (b : Bool) → length (among f k (suc p)) ≤ length (among (without f x) k (suc p))
+          → length (pick b (p ∷ among f k (suc p)) (among f k (suc p))) ≤ length (pick b (p ∷ among (without f x) k (suc p)) (among (without f x) k (suc p)))
+      go true i = omega arith
+      go false i = omega arith
+
+  one-less : (k p : ℕ) → length (among f k p) ≤ suc (length (among (without f x) k p))
+  unfolding among
+  one-less zero p = omega arith
+  one-less (suc k) p = go (f p) (eqb p x) refl (one-less k (suc p))
+    where
+      go : (b c : Bool) → eqb p x ≡ c → length (among f k (suc p)) ≤ suc (length (among (without f x) k (suc p)))
+          → length (pick b (p ∷ among f k (suc p)) (among f k (suc p)))
+          ≤ suc (length (pick (pick c false b) (p ∷ among (without f x) k (suc p)) (among (without f x) k (suc p))))
+      go true true e i = let y : p ≡ x = eqb-true p x e in omega (arith, behind k (suc p) (omega arith))
+      go true false e i = omega arith
+      go false true e i = omega arith
+      go false false e i = omega arith
+
+none-among : (f : ℕ → Bool) (k p : ℕ) → ((n : ℕ) → f n ≡ true → ⊥) → among f k p ≡ []
+unfolding among
+none-among f zero p h = refl
+none-among f (suc k) p h = go (f p) refl (none-among f k (suc p) h)
+  where
+    go : (b : Bool) → f p ≡ b → among f k (suc p) ≡ [] → pick b (p ∷ among f k (suc p)) (among f k (suc p)) ≡ []
+    go true e i = absurd (h p e)
+    go false e i = i
+
+few-among : (xs : List ℕ) (f : ℕ → Bool) (k p : ℕ) → ((n : ℕ) → f n ≡ true → findIn xs n < length xs) → length (among f k p) ≤ length xs
+few-among [] f k p h = omega (arith, ap length (none-among f k p (λ n e. let z : findIn [] n < length {A = ℕ} [] = h n e in omega arith)))
+few-among (x ∷ xs) f k p h = omega (arith, one-less f x k p, few-among xs (without f x) k p (λ n e. later n (eqb n x) refl e))
+  where
+    later : (n : ℕ) (b : Bool) → eqb n x ≡ b → pick b false (f n) ≡ true → findIn xs n < length xs
+    later n true i e = no-test e
+    later n false i e =
+        let z : findIn (x ∷ xs) n < suc (length xs) = h n e in
+        let q : eqb x n ≡ false = ne-eqb x n (λ y. eqb-false n x i (sym y)) in
+        let y : suc (findIn xs n) < suc (length xs) = rw q at z in
+        omega arith
+
+pub few-differ : (g : List ℕ) (w : World) → length (w .pager .staged .pages) ≡ 64 → differing g w ≤ 64
+unfolding differing pagesFrom isStaged slotOf
+few-differ g w h =
+    omega (
+      arith,
+      length-take (w .pager .staged .count) (w .pager .staged .pages),
+      few-among (stagedPages (w .pager .staged)) (differs g w) 1024 0 (λ n e. ltb-true _ _ (differs-staged g w n e)),
+    )
+
+-- ---- the store that creation leaves
+
+create-inside : (salt : ℕ) → AllInside (createStores salt)
+unfolding createStores logStores
+create-inside salt =
+    let a = length-encodeHeader firstHeader in
+    let b = length-emptyTablePage in
+    let c = length-encodeWalHeader (createdHeader salt) in (
+      refl,
+      (
+        le-leb (0 + length (encodeHeader firstHeader)) 4194304 (omega arith),
+        (
+          le-leb (4096 + length emptyTablePage) 4194304 (omega arith),
+          (refl, (le-leb (0 + length (encodeWalHeader (createdHeader salt))) 4210720 (omega arith), tt)),
+        ),
+      ),
+    )
+
+module _ (t l m g : List ℕ) (salt : ℕ) (f : createFine t l m g ≡ true) where
+  new-is : newStore t l m g salt ≡ world (createdPager salt) (tableOf firstHeader []) (createdDisk l m salt .log .area) (createdDisk l m salt .main .area)
+  unfolding start createTable createLog createMain
+  new-is = rw f
+
+  created-areas : Areas (createdDisk l m salt)
+  unfolding createdDisk
+  created-areas =
+      let k = fine-create t l m g f in
+      all-areas (createStores salt) (record { main = emptyFile m; log = emptyFile l }) (create-inside salt)
+      (record { log = record { area = k .log; len = omega arith }; main = record { area = k .main; len = omega arith } })
+
+  -- no refusal but 15 is left for a commit in it
+  pub new-unrefused : (s : Staged) (h : DbHeader) → GoodHeader h → Joined (withSlots (newStore t l m g salt) s) h → (staging : List ℕ) → length staging ≡ 262144
+      → Unrefused staging (withSlots (newStore t l m g salt) s) h
+  unfolding createdPager opensAs firstHeader
+  new-unrefused s h k j staging e =
+      let a = created-areas in
+      let n = new-is in
+      record {
+        table = rw n (table-long firstHeader []);
+        log = rw n (a .log .area);
+        main = rw n (a .main .area);
+        staging = e;
+        logFile = rw n (omega (arith, empty-len (createdHeader salt)));
+        mainFile = rw n (omega arith);
+        pages = rw n (omega arith);
+        rests = rw n;
+        writes = rw n;
+        header = k;
+        joined = j;
+      }
+
+  pub new-len : newStore t l m g salt .pager .wal .len ≡ 32
+  unfolding createdPager opensAs
+  new-len = rw new-is (empty-len (createdHeader salt))
+
+  pub new-begun : (s : Staged) → length (s .pages) ≡ 64 → (h : DbHeader) → GoodHeader h → Joined (withSlots (newStore t l m g salt) s) h
+      → (staging : List ℕ) → length staging ≡ 262144 → commitStart staging (withSlots (newStore t l m g salt) s) h ≡ commit.Begun
+  new-begun s z h k j staging e =
+      let w : World = withSlots (newStore t l m g salt) s in
+      told-begun staging w h (new-unrefused s h k j staging e) (omega (arith, new-len, few-differ staging w z))
+
+-- ---- a commit with nothing staged
+
+module _ (w : World) (z : w .pager .staged .count ≡ 0) where
+  pub none-staged : (n : ℕ) → isStaged (w .pager .staged) n ≡ false
+  unfolding isStaged
+  none-staged n =
+      let k = length-take (w .pager .staged .count) (w .pager .staged .pages) in
+      le-ltb (slotOf (w .pager .staged) n) (length (stagedPages (w .pager .staged))) (omega arith)
+
+  pub none-differ : (g : List ℕ) → differing g w ≡ 0
+  unfolding differing pagesFrom
+  none-differ g = ap length (none-among (differs g w) 1024 0 (λ n e. no-test (sym (none-staged n) ∙ differs-staged g w n e)))
+
+-- what the guards of commits and folds ask, of a store as the laws of steps ask
+pub made-framed : (w : World) → Made w → (length (w .pager .staged .pages) ≡ 64) × (w .pager .job ≡ job.Idle → FramesInside w)
+made-framed w k = (k .slots, λ e. subst (λ (j : Job). Asks j w) e (k .asked))
+
+module _ (t l m g : List ℕ) (salt : ℕ) (f : createFine t l m g ≡ true) where
+  abbrev new : World
+  new = newStore t l m g salt
+
+  pub new-made : Made new
+  new-made = rw (new-is t l m g salt f) (created-made salt _ _)
+
+  pub new-idle : new .pager .job ≡ job.Idle
+  unfolding createdPager opensAs
+  new-idle = rw (new-is t l m g salt f)
+
+  pub new-writes : readOnly (new .pager) ≡ false
+  unfolding createdPager opensAs
+  new-writes = rw (new-is t l m g salt f)
+
+  pub new-count : countOf (headerOf (new .pager)) ≡ 2
+  unfolding createdPager opensAs firstHeader
+  new-count = rw (new-is t l m g salt f)
+
+  pub new-none : new .pager .staged .count ≡ 0
+  unfolding createdPager opensAs emptyStaged
+  new-none = rw (new-is t l m g salt f)
+
+  pub new-frames : new .pager .wal .«frame_count» ≡ 0
+  unfolding createdPager opensAs emptyWal
+  new-frames = rw (new-is t l m g salt f)
+
+  none-counted : differing g new ≡ 0
+  none-counted = none-differ new new-none g
+
+  module _ (h : DbHeader) (k : GoodHeader h) (c : countOf h ≤ 2) where
+    alone-begun : commitStart g new h ≡ commit.Begun
+    alone-begun =
+        new-begun t l m g salt f (new .pager .staged) (new-made .slots) h k (λ n a b d. absurd (omega (arith, new-count, b, c, d))) g (fine-create t l m g f .staging)
+
+    pub committed-alone : (next : ℕ) → CommittedAlone g new h next
+    committed-alone next =
+        let i : FramesInside new = made-framed new new-made .1 new-idle in
+        let e = commit-ends g new h next (new-made .slots) i (omega (arith, new-frames)) alone-begun in
+        let v = e .below (omega (arith, new-frames, none-counted)) in
+        record {
+          begun = alone-begun;
+          answer = e .answer ∙ rw none-counted;
+          rests = v .rests;
+          logFile = v .logFile ∙ omega (arith, none-counted, new-len t l m g salt f);
+          frames = v .frames ∙ omega (arith, none-counted, new-frames);
+        }

@@ -1,0 +1,116 @@
+-- The guards of specs/Guards.antt, proved. Assumes nothing.
+use mathlib.Core.Path.{_≡_, refl}
+use Prim.Native.Nat.{ℕ}
+use native.Mathlib.Omega.{arith}
+use lib.ListN.{length, length-replicate}
+use Rattle.mvcc.proofs.Bytes.{bytes-zeros}
+use Rattle.pager_state.specs.Opening.{firstHeader}
+use Rattle.history.specs.Run.{start}
+use Rattle.history.specs.Demand3.{AllBytes}
+use Rattle.history.specs.Guards.{zeros, zeroAreas, Met, LogFullGuard, BegunGuard, BatchFullGuard, CommitGuard, CommitEndsGuard, EmptyCommitGuard, FoldGuard, SoundGuard, OpeningGuard, HeaderGuard, PageGuard, NewPageGuard, BatchGuard, NewBatchGuard, FilledGuard, BodyGuard}
+use Rattle.history.proofs.Demand3Holds.{demand3}
+use Rattle.history.proofs.GuardRefusals.{full-told, told-full, begun-told, told-begun, batch-full-told, batch-told-full}
+use Rattle.history.proofs.GuardFold.{fold-leaves, fold-answer}
+use Rattle.history.proofs.GuardCommit.{commit-ends}
+use Rattle.history.proofs.GuardNew.{create-fine, new-begun, new-made, made-framed, committed-alone}
+use Rattle.history.proofs.GuardHistories.{made-history}
+use Rattle.history.proofs.GuardReached.{reached-after, opening-taken}
+use Rattle.history.proofs.GuardPages.{header-back, reads-back}
+use Rattle.history.proofs.GuardFirst.{keeps}
+use Rattle.history.proofs.GuardBatches.{returned, recovers, fills}
+use Rattle.history.proofs.GuardBody.{body}
+
+-- ---- what they ask can be met
+
+length-zeros : (n : ℕ) → length (zeros n) ≡ n
+unfolding zeros
+length-zeros n = length-replicate n 0
+
+bytes-of-zeros : (n : ℕ) → AllBytes (zeros n)
+unfolding zeros
+bytes-of-zeros n = bytes-zeros n
+
+pub met : Met
+unfolding zeroAreas firstHeader
+met =
+    record {
+      areas = create-fine (zeros 1024) (zeros 4210720) (zeros 4194304) (zeros 262144) (length-zeros 1024) (length-zeros 4210720) (length-zeros 4194304) (length-zeros 262144);
+      lent = record { table = length-zeros 1024; staging = length-zeros 262144; log = length-zeros 4210720; main = length-zeros 4194304 };
+      good = record { low = omega arith; high = omega arith; oldest = omega arith; newest = omega arith };
+      words = record { count = omega arith; root = omega arith; version = omega arith; freelist = omega arith };
+      two = refl;
+      long = length-zeros 4096;
+      bytes = bytes-of-zeros 4096;
+      row = record { sfits = omega arith };
+    }
+
+-- ---- of the definitions alone
+
+pub log-full : LogFullGuard
+unfolding LogFullGuard
+log-full g w h = (full-told g w h, told-full g w h)
+
+pub begun : BegunGuard
+unfolding BegunGuard
+begun g w h = (begun-told g w h, told-begun g w h)
+
+pub batch-full : BatchFullGuard
+unfolding BatchFullGuard
+batch-full p l body = (batch-full-told p l body, batch-told-full p l body)
+
+pub new-commit : CommitGuard
+unfolding CommitGuard
+new-commit t l m g salt f s z h k j staging e = new-begun t l m g salt f s z h k j staging e
+
+pub commit-end : CommitEndsGuard
+unfolding CommitEndsGuard
+commit-end g w h salt z i few b = commit-ends g w h salt z i few b
+
+pub empty-commit : EmptyCommitGuard
+unfolding EmptyCommitGuard
+empty-commit t l m g salt f h k c next = committed-alone t l m g salt f h k c next
+
+pub fold : FoldGuard
+unfolding FoldGuard
+fold g w salt z i b = (fold-answer g w salt z i b, fold-leaves g w salt z i b)
+
+pub filled : FilledGuard
+unfolding FilledGuard
+filled t l m g salt f small body h n page bytes decoded k c e = fills t l m g salt f h k c body (record { page = page; bytes = bytes; decoded = decoded }) n e
+
+pub framed : SoundGuard
+unfolding SoundGuard
+framed t l m g salt f small es typed = made-framed _ (made-history es (start t l m g salt) (new-made t l m g salt f))
+
+-- ---- by demand 3
+
+pub opening : OpeningGuard
+unfolding OpeningGuard
+opening t l m g salt f small es typed lent z = opening-taken demand3 t l m g salt f small (reached-after (start t l m g salt) es typed) lent z
+
+pub header : HeaderGuard
+unfolding HeaderGuard
+header t l m g salt f small es typed h next v s c = header-back demand3 t l m g salt f small (reached-after (start t l m g salt) es typed) h next v s c
+
+pub page : PageGuard
+unfolding PageGuard
+page t l m g salt f small es typed n bytes h next b v s e c a z =
+    reads-back demand3 t l m g salt f small (reached-after (start t l m g salt) es typed) n bytes h next b v s e c a z
+
+pub new-page : NewPageGuard
+unfolding NewPageGuard
+new-page t l m g salt f small bytes h next long b v k two s = keeps t l m g salt f bytes long h next k two demand3 small b v s
+
+pub batch : BatchGuard
+unfolding BatchGuard
+batch t l m g salt f small es typed body h next b v s a c few =
+    returned demand3 t l m g salt f small (reached-after (start t l m g salt) es typed) body h next b v s a c few
+
+pub new-batch : NewBatchGuard
+unfolding NewBatchGuard
+new-batch t l m g salt f small body h next page bytes decoded v k c s =
+    recovers t l m g salt f h k c demand3 small body (record { page = page; bytes = bytes; decoded = decoded }) next v s
+
+pub deletion : BodyGuard
+unfolding BodyGuard
+deletion time row early fits = body time row early fits

@@ -1,0 +1,176 @@
+-- The store that a clean opening gives: it is at rest, and its recovered batches are the book's sealed ones. Assumes nothing.
+use mathlib.Core.Path.{_≡_, refl, sym, ap, _∙_}
+use mathlib.Core.Bool.{Bool, true, false}
+use mathlib.Core.List.{List, [], _∷_, map}
+use Prim.Native.Nat.{ℕ, zero, suc, _+_, _-_, _*_, _≤_, _<_}
+use native.Mathlib.Nat.{zero-add}
+use native.Mathlib.Omega.{arith}
+use borrow.Author.Tests.{eq-eqb, le-leb}
+use lib.ListN.{length, take, drop, getD, length-take, length-drop, drop-of-length-le}
+use lib.Seq.{take-take}
+use Rattle.le.specs.Choice.{pick}
+use Rattle.le.proofs.Fields.{part-part}
+use Rattle.frame.specs.Frame.{frameAt, bodyOf}
+use Rattle.frame.proofs.Places.{body-there}
+use Rattle.wal.specs.Recovery.{chunks, chunkAt, isBatch, batchesIn}
+use Rattle.wal.specs.Read.{batchFrom, nextBatch}
+use Rattle.wal.specs.declared.WalHeader.{WalHeader}
+use Rattle.wal.specs.declared.BatchFound.{BatchFound}
+use Rattle.wal.specs.declared.BatchFound.the-variants as batch
+use Rattle.wal.proofs.Places.{get-chunk}
+use Rattle.wal.proofs.Recovered.{committed-sealed}
+use Rattle.wal.proofs.Reading.{Walked, batches-walked}
+use Rattle.pager_state.specs.World.{World, world, logFine, busy}
+use Rattle.pager_state.specs.Overlay.{pageFrom}
+use Rattle.pager_state.specs.Opening.{tableOf, opensAs, openRefusal}
+use Rattle.pager_state.specs.Batches.{nextRecovered, recoveredAs}
+use Rattle.pager_state.specs.Stores.{Disk, content}
+use Rattle.pager_state.specs.declared.AccessMode.the-variants as mode
+use Rattle.history.specs.Book.{Book, Batch, batchIn, bookOpen, tells}
+use Rattle.history.specs.Calls.{Lent}
+use Rattle.history.specs.Run.{Run, Left, Attempt, laid, openedWorld, keptAfter, cutOpening, reopening, reopened}
+use Rattle.history.specs.Demand3.{walkedAt, walked, Returns, Sized, AllSized, Reopens}
+use Rattle.history.proofs.Files.{lasting}
+use Rattle.history.proofs.Disk.{OnDisk, DiskOk, LeftOk, disk-kept, sealed-is, sealed-len}
+use Rattle.history.proofs.Rest.{Inv}
+use Rattle.history.proofs.Opening.{Areas, laid-on, sized-areas, openLog, openStore, point-is, open-len, open-header, opens, table-is, area-is, stores-is, cut-on, open-cut, rests}
+
+abbrev pub InvRun : Run → Type 0
+InvRun r = Inv (r .world) (r .staging) (r .book) (r .kept)
+
+-- ---- walking the batches
+
+-- a batch that is found is one of the frames
+Within : ℕ → BatchFound → Type 0
+Within e (batch.Batch j at) = j < e
+Within e batch.Nothing = Unit {0}
+
+within-step : (i k : ℕ) (t : Bool) (r : BatchFound) → Within (suc i + k) r → Within (i + suc k) (pick t (batch.Batch i (chunkAt i)) r)
+unfolding Within
+within-step i k true r h = omega arith
+within-step i k false (batch.Batch j at) h = omega arith
+within-step i k false batch.Nothing h = tt
+
+batch-within : (i : ℕ) (fs : List (List ℕ)) → Within (i + length fs) (batchFrom i fs)
+unfolding batchFrom Within
+batch-within i [] = tt
+batch-within i (f ∷ fs) =
+    let e : i + 1 ≡ suc i = omega arith in
+    within-step i (length fs) (isBatch f) (batchFrom (i + 1) fs) (rw e (batch-within (suc i) fs))
+
+within-more : (e n : ℕ) (r : BatchFound) → e ≤ n → Within e r → Within n r
+unfolding Within
+within-more e n (batch.Batch j at) h w = omega arith
+within-more e n batch.Nothing h w = tt
+
+module _ (w : World) (S : List (List ℕ)) (fine : logFine (w .pager .wal .len) (w .log) ≡ true) (idle : busy (w .pager) ≡ false)
+    (end : w .pager .recovered ≡ chunkAt (length S)) (front : chunks (take (chunkAt (length S)) (w .log)) ≡ S) (long : 32 + 4112 * length S ≤ length (w .log)) where
+  next-is : (i : ℕ) → nextRecovered (w .pager) (w .log) i ≡ recoveredAs (batchFrom i (drop i S))
+  unfolding nextRecovered nextBatch
+  next-is i = rw (fine, idle, end, front)
+
+  body-is : (j : ℕ) → j < length S → pageFrom (chunkAt j + 16) (w .log) ≡ bodyOf (getD S j [])
+  body-is j h =
+      let n : length (take (chunkAt (length S)) (w .log)) ≡ 32 + 4112 * length S = length-take (chunkAt (length S)) (w .log) ∙ omega arith in
+      let g : getD (chunks (take (chunkAt (length S)) (w .log))) j [] ≡ frameAt (chunkAt j) (take (chunkAt (length S)) (w .log)) =
+      get-chunk j (take (chunkAt (length S)) (w .log)) (omega arith) in
+      let f : frameAt (chunkAt j) (take (chunkAt (length S)) (w .log)) ≡ frameAt (chunkAt j) (w .log) =
+      rw zero-add at (part-part 4112 (chunkAt j) (chunkAt (length S)) 0 (w .log) (omega arith)) in
+      let e : getD S j [] ≡ frameAt (chunkAt j) (w .log) = rw front at (g ∙ f) in
+      sym (rw e (body-there (chunkAt j) (w .log)))
+
+  abbrev told : List (List ℕ) → List Batch
+  told fs = map (λ (f : List ℕ). batchIn (bodyOf f)) fs
+
+  walk-step : (k i : ℕ) → ((m : ℕ) → length S ≤ k + m → walked k w m ≡ told (batchesIn (drop m S))) → length S ≤ suc k + i → (r : BatchFound)
+      → Walked S i r → Within (length S) r → walkedAt (recoveredAs r) (w .log) (walked k w) ≡ told (batchesIn (drop i S))
+  unfolding Within
+  walk-step k i later h batch.Nothing f b = sym (ap told f)
+  walk-step k i later h (batch.Batch j at) f b =
+      let n : length S ≤ k + (j + 1) = omega (arith, f .behind) in
+      let p : pageFrom (at + 16) (w .log) ≡ bodyOf (getD S j []) = rw (f .place) (body-is j b) in
+      rw (p, later (j + 1) n) (sym (ap told (f .batches)))
+
+  inside : (i m : ℕ) → length S - i ≡ m → Within (length S) (batchFrom i (drop i S))
+  unfolding batchFrom Within
+  inside i zero e = rw (drop-of-length-le S {i = i} (omega arith)) tt
+  inside i (suc m) e = within-more (i + length (drop i S)) (length S) (batchFrom i (drop i S)) (omega (arith, length-drop i S)) (batch-within i (drop i S))
+
+  walked-is : (k i : ℕ) → length S ≤ k + i → walked k w i ≡ told (batchesIn (drop i S))
+  unfolding walked batchesIn
+  walked-is zero i h = rw (drop-of-length-le S {i = i} (omega arith))
+  walked-is (suc k) i h = rw (next-is i) (walk-step k i (walked-is k) h (batchFrom i (drop i S)) (batches-walked S i) (inside i (length S - i) refl))
+
+-- ---- after the opening
+
+module _ {d : Disk} {b : Book} {z : List ℕ} (k : DiskOk d b z) (lent : Lent) (a : Areas lent d) (w : World) where
+  on : OnDisk (laid lent d) b (k .l) (k .S) (k .P) (k .t) (k .mh)
+  on = laid-on (k .on) lent a
+
+  abbrev opensTo : World
+  opensTo = world (openStore on) (tableOf (k .mh) (k .S)) (laid lent d .log .area) (laid lent d .main .area)
+
+  world-is : openedWorld mode.ReadWrite lent d w ≡ opensTo
+  unfolding openedWorld
+  world-is =
+      rw (opens on (lent .table) (lent .staging) (a .table) (a .staging), table-is on (lent .table) (lent .staging) (a .table) (a .staging), area-is on (lent .table) (lent .staging) (a .table) (a .staging))
+
+  pub opened-rest : Inv (openedWorld mode.ReadWrite lent d w) (lent .staging) (bookOpen b) z
+  unfolding opensAs
+  opened-rest =
+      rw world-is (record {
+        l = k .l;
+        S = k .S;
+        P = [];
+        mh = k .mh;
+        it = rests (record { main = laid lent d .main; log = lasting (laid lent d .log) (chunkAt (length (k .S))) }) (bookOpen b) (k .l) (k .S) (k .mh) (k .mh) (openLog on)
+            (chunkAt (length (k .S))) (lent .staging) (cut-on on) (open-len on) (ap (λ (h : WalHeader). h .salt) (open-header on))
+            (rw (open-header on) (k .on .log .written .clock)) (a .staging) (λ n. refl) refl;
+        kept = k .kept;
+      })
+
+  returned : walked 1025 opensTo 0 ≡ b .sealed
+  unfolding opensAs
+  returned =
+      let len : openLog on .len ≤ 4210720 = rw (open-len on) (omega (arith, sealed-len on, on .log .fits)) in
+      let fine : logFine (openLog on .len) (laid lent d .log .area) ≡ true =
+      rw (eq-eqb (length (laid lent d .log .area)) 4210720 (on .log .area), le-leb (openLog on .len) 4210720 len) in
+      let few : 32 + 4112 * length (k .S) ≤ 4210720 = omega (arith, sealed-len on, on .log .fits) in
+      let front : chunks (take (chunkAt (length (k .S))) (laid lent d .log .area)) ≡ k .S =
+      ap chunks (sym (take-take (chunkAt (length (k .S))) (d .log .len) (laid lent d .log .area) (sealed-len on)) ∙ ap (λ (m : ℕ). take m (content (laid lent d .log))) (sym (point-is on)))
+      ∙ committed-sealed (content (laid lent d .log)) ∙ sealed-is on in
+      walked-is opensTo (k .S) fine refl refl front (rw (on .log .area) few) 1025 0 (omega arith) ∙ k .on .book .batches
+
+  pub opened-returns : walked 1025 (openedWorld mode.ReadWrite lent d w) 0 ≡ b .sealed
+  opened-returns = rw world-is returned
+
+-- ---- the openings that follow a cut
+
+module _ (lent : Lent) (s : Sized lent) (x : Left) (k : LeftOk x) where
+  areas : Areas lent (x .disk)
+  areas = sized-areas (k .on) lent s
+
+  on-laid : OnDisk (laid lent (x .disk)) (x .book) (k .l) (k .S) (k .P) (k .t) (k .mh)
+  on-laid = laid-on (k .on) lent areas
+
+  pub reopening-taken : openRefusal (reopening lent x) ≡ 0
+  unfolding reopening
+  reopening-taken = rw (opens on-laid (lent .table) (lent .staging) (s .table) (s .staging))
+
+  pub reopened-inv : (w : World) → InvRun (reopened lent w x)
+  unfolding reopened tells keptAfter
+  reopened-inv w = rw (stores-is on-laid mode.ReadWrite) (opened-rest k lent areas w)
+
+  pub reopened-returns : (w : World) → Returns (reopened lent w x)
+  unfolding reopened tells
+  reopened-returns w = rw (stores-is on-laid mode.ReadWrite) (opened-returns k lent areas w)
+
+pub cut-opening : (a : Attempt) → Sized (a .lent) → (x : Left) → LeftOk x → LeftOk (cutOpening a x)
+unfolding cutOpening
+cut-opening a s x k =
+    let o = laid-on (k .on) (a .lent) (sized-areas (k .on) (a .lent) s) in
+    rw (stores-is o mode.ReadWrite) (open-cut o (x .kept) (k .kept) 0 (a .bytes))
+
+pub reopens-ok : (attempts : List Attempt) (lent : Lent) → AllSized attempts → Sized lent → (w : World) (x : Left) → LeftOk x → Reopens attempts lent w x
+reopens-ok [] lent sa s w x k = (disk-kept x k, (reopening-taken lent s x k, reopened-returns lent s x k w))
+reopens-ok (a ∷ rest) lent sa s w x k = (disk-kept x k, reopens-ok rest lent (sa .1) s w (cutOpening a x) (cut-opening a (sa .0) x k))

@@ -1,0 +1,314 @@
+-- An open store beside its files, at rest and with a commit or fold part done; what it reads at rest. Assumes nothing.
+use mathlib.Core.Path.{_≡_, refl, sym, ap, _∙_}
+use mathlib.Core.Bool.{Bool, true, false, not}
+use mathlib.Core.List.{List, [], _++_}
+use mathlib.Core.Logic.{_⊎_, inl, inr}
+use mathlib.Core.Option.{Option, none, some}
+use Prim.Native.Nat.{ℕ, suc, _+_, _*_, _%_, _^_, _≤_, _<_}
+use native.Mathlib.Omega.{arith}
+use borrow.Author.Tests.{eq-eqb, le-leb, lt-leb, not-true, not-false}
+use lib.Dec.{leb, eqb}
+use lib.ListN.{length, drop, getD}
+use Rattle.le.specs.Choice.{pick}
+use Rattle.le.proofs.Tests.{le-or-lt}
+use Rattle.header.specs.declared.DbHeader.{DbHeader}
+use Rattle.header.proofs.RoundTrip.{Plain}
+use Rattle.wal.specs.declared.WalHeader.{WalHeader}
+use Rattle.wal.proofs.Laid.{joined}
+use Rattle.pager_state.specs.World.{World, countOf, headerOf, fine, busy, busyWith}
+use Rattle.pager_state.specs.Overlay.{pageFrom, isStaged, stagedBytes, frameOf, inLog, onMain, entry, logAt, logBytes, committedBytes, below, overlay, findPage, findRefusal}
+use Rattle.pager_state.specs.Queries.{header}
+use Rattle.pager_state.specs.Opening.{placeFrom, hasPage}
+use Rattle.pager_state.specs.Pages.{pagesFrom, differs}
+use Rattle.pager_state.specs.Stores.{Disk, diskOf}
+use Rattle.pager_state.specs.Fold.{mainStored}
+use Rattle.pager_state.specs.Steps.{stepFine}
+use Rattle.pager_state.specs.declared.Job.{Job}
+use Rattle.pager_state.specs.declared.Job.the-variants as job
+use Rattle.pager_state.specs.declared.Opening.the-variants as opening
+use Rattle.pager_state.specs.declared.PageFound.the-variants as found
+use Rattle.pager_state.specs.declared.HeaderRead.the-variants as head
+use Rattle.history.specs.Book.{Book, bookRead, orElse}
+use Rattle.history.specs.Run.{Run}
+use Rattle.history.specs.Demand3.{readingAt, Same}
+use Rattle.history.proofs.Frames.{lastIn, last-append, bodyAt, body-last, batchesOf, orGive}
+use Rattle.history.proofs.Slots.{stagedFor, Slots}
+use Rattle.history.proofs.Disk.{mainPage, viewOf, OnDisk, DiskOk, all-lie}
+
+-- ---- what an open store has, whatever is part done
+
+pub record Held (w : World) (g : List ℕ) (b : Book) (l : WalHeader) (S P : List (List ℕ)) (mh : DbHeader) : Type 0 where
+  pub on : OnDisk (diskOf w) b l S P [] mh
+  pub tableLong : length (w .table) ≡ 1024
+  pub stagingLong : length g ≡ 262144
+  pub salt : w .pager .wal .header .salt ≡ l .salt
+  pub clock : w .pager .wal .header .«clock_high_water» < 2 ^ 64
+  pub header : headerOf (w .pager) ≡ b .header
+  pub clean : w .pager .opening ≡ opening.Clean
+  pub slots : Slots (w .pager .staged)
+  pub staged : (n : ℕ) → stagedFor (w .pager .staged) g n ≡ b .staged n
+  pub waiting : batchesOf P ≡ b .waiting
+
+-- the page table: the last frames of the log, and the main file's pages
+abbrev pub Tabled : World → List (List ℕ) → DbHeader → Type 0
+Tabled w fs mh = (n : ℕ) → n < 1024 → getD (w .table) n 0 ≡ entry (placeFrom n 0 fs) (hasPage mh n)
+
+-- no page's frame is among these
+abbrev pub Loose : List (List ℕ) → Type 0
+Loose P = (n : ℕ) → n < 1024 → lastIn n P ≡ none
+
+-- the log's page, else the main file's, by the table
+abbrev pub worldPage : World → ℕ → Option (List ℕ)
+worldPage w n = pick (inLog (w .table) n) (some (logBytes (w .table) (w .log) n)) (pick (onMain (w .table) n) (some (pageFrom (4096 * n) (w .main))) none)
+
+-- ---- what is part done
+
+pub record Resting (w : World) (g : List ℕ) (b : Book) (l : WalHeader) (S P : List (List ℕ)) (mh : DbHeader) : Type 0 where
+  pub held : Held w g b l S P mh
+  pub table : Tabled w (S ++ P) mh
+  pub loose : Loose P
+
+-- a commit that has looked at the pages below p: their frames are behind the batches in P
+pub record Committing (h : DbHeader) (salt p : ℕ) (w : World) (g : List ℕ) (b : Book) (l : WalHeader) (S P : List (List ℕ)) (mh : DbHeader) : Type 0 where
+  pub held : Held w g b l S P mh
+  pub table : Tabled w (S ++ P) mh
+  pub given : b .given ≡ h
+  pub plain : Plain h
+  pub least : 1 ≤ countOf h
+  pub most : countOf h ≤ 1024
+  pub fits : salt < 2 ^ 32
+  pub unstaged : (n : ℕ) → n < 1024 → isStaged (w .pager .staged) n ≡ false → lastIn n P ≡ none
+  pub done : (n : ℕ) → n < 1024 → n < p → isStaged (w .pager .staged) n ≡ true → worldPage w n ≡ some (stagedBytes (w .pager .staged) g n)
+  pub joins : (n : ℕ) → 1 ≤ n → countOf (b .header) ≤ n → n < countOf h → isStaged (w .pager .staged) n ≡ true
+  pub room : w .pager .wal .len + 4112 * (length (pagesFrom (differs g w) p) + 1) ≤ 4210720
+
+-- a fold that has looked at the pages below p: those that the log has stand in the main file
+pub record Folding (salt p : ℕ) (w : World) (g : List ℕ) (b : Book) (l : WalHeader) (S P : List (List ℕ)) (mh : DbHeader) : Type 0 where
+  pub held : Held w g b l S P mh
+  pub table : Tabled w (S ++ P) mh
+  pub loose : Loose P
+  pub fits : salt < 2 ^ 32
+  pub stored : (n : ℕ) (x : List ℕ) → 1 ≤ n → n < p → n < countOf (b .header) → lastIn n S ≡ some x
+      → (pageFrom (4096 * n) (w .main) ≡ x) × (4096 * suc n ≤ w .pager .storage .len)
+
+-- the main file alone has every page, with the header that counts
+pub record Flattened (salt : ℕ) (w : World) (g : List ℕ) (b : Book) (l : WalHeader) (S P : List (List ℕ)) (mh : DbHeader) : Type 0 where
+  pub held : Held w g b l S P mh
+  pub own : mh ≡ b .header
+  pub flat : (n : ℕ) → 1 ≤ n → n < countOf (b .header) → b .pages n ≡ some (pageFrom (4096 * n) (w .main))
+  pub full : (n : ℕ) → 1 ≤ n → n < countOf (b .header) → getD (w .table) n 0 ≡ 0 → ⊥
+  pub fits : salt < 2 ^ 32
+
+-- and the log has its header alone
+pub record Bared (salt : ℕ) (w : World) (g : List ℕ) (b : Book) (l : WalHeader) (S P : List (List ℕ)) (mh : DbHeader) : Type 0 where
+  pub held : Held w g b l S P mh
+  pub own : mh ≡ b .header
+  pub noSealed : S ≡ []
+  pub noWaiting : P ≡ []
+  pub full : (n : ℕ) → 1 ≤ n → n < countOf (b .header) → getD (w .table) n 0 ≡ 0 → ⊥
+  pub fits : salt < 2 ^ 32
+
+-- for some log and main header; z: the sealed frames' bytes
+pub record Some (Q : WalHeader → List (List ℕ) → List (List ℕ) → DbHeader → Type 0) (z : List ℕ) : Type 0 where
+  pub l : WalHeader
+  pub S : List (List ℕ)
+  pub P : List (List ℕ)
+  pub mh : DbHeader
+  pub it : Q l S P mh
+  pub kept : joined S ≡ z
+
+abbrev pub InvJob : Job → World → List ℕ → Book → List ℕ → Type 0
+InvJob job.Idle w g b z = Some (Resting w g b) z
+InvJob (job.Commit h salt p answer) w g b z = Some (Committing h salt p w g b) z
+InvJob (job.Fold salt p answer) w g b z = Some (Folding salt p w g b) z
+InvJob (job.MainLength salt answer) w g b z = Some (Flattened salt w g b) z
+InvJob (job.LogLength salt answer) w g b z = Some (Flattened salt w g b) z
+InvJob (job.LogHeader salt answer) w g b z = Some (Bared salt w g b) z
+
+abbrev pub Inv : World → List ℕ → Book → List ℕ → Type 0
+Inv w g b z = InvJob (w .pager .job) w g b z
+
+-- ---- whatever is part done, the files are as they should be
+
+pub held-disk : {w : World} {g : List ℕ} {b : Book} {z : List ℕ} {l : WalHeader} {S P : List (List ℕ)} {mh : DbHeader} → Held w g b l S P mh → joined S ≡ z
+    → DiskOk (diskOf w) b z
+held-disk {w} {g} {b} {z} {l} {S} {P} {mh} k e = record { l = l; S = S; P = P; t = []; mh = mh; on = k .on; kept = e }
+
+pub inv-disk : (j : Job) (w : World) (g : List ℕ) (b : Book) (z : List ℕ) → InvJob j w g b z → DiskOk (diskOf w) b z
+inv-disk job.Idle w g b z i = held-disk (i .it .held) (i .kept)
+inv-disk (job.Commit h salt p answer) w g b z i = held-disk (i .it .held) (i .kept)
+inv-disk (job.Fold salt p answer) w g b z i = held-disk (i .it .held) (i .kept)
+inv-disk (job.MainLength salt answer) w g b z i = held-disk (i .it .held) (i .kept)
+inv-disk (job.LogLength salt answer) w g b z i = held-disk (i .it .held) (i .kept)
+inv-disk (job.LogHeader salt answer) w g b z i = held-disk (i .it .held) (i .kept)
+
+-- ---- stores in the main file, a job, and a given header leave the rest
+
+pub held-stored : {w : World} {g : List ℕ} {b : Book} {l : WalHeader} {S P : List (List ℕ)} {mh : DbHeader} → Held w g b l S P mh
+    → (d : Disk) (h : DbHeader) (j : Job) (own : DbHeader) → OnDisk (diskOf (mainStored d h j w)) b l S P [] own → Held (mainStored d h j w) g b l S P own
+held-stored k d h j own o =
+    record {
+      on = o;
+      tableLong = k .tableLong;
+      stagingLong = k .stagingLong;
+      salt = k .salt;
+      clock = k .clock;
+      header = k .header;
+      clean = k .clean;
+      slots = k .slots;
+      staged = k .staged;
+      waiting = k .waiting;
+    }
+
+-- ---- areas and lengths
+
+module _ {w : World} {g : List ℕ} {b : Book} {l : WalHeader} {S P : List (List ℕ)} {mh : DbHeader} (k : Held w g b l S P mh) where
+  pub held-fine : fine w ≡ true
+  unfolding fine
+  held-fine =
+      let o = k .on in
+      let c : countOf (headerOf (w .pager)) ≤ 1024 = rw (k .header) (o .book .most) in
+      rw (
+        eq-eqb (length (w .table)) 1024 (k .tableLong),
+        eq-eqb (length (w .log)) 4210720 (o .log .area),
+        le-leb (w .pager .wal .len) 4210720 (o .log .fits),
+        eq-eqb (length (w .main)) 4194304 (o .main .area),
+        le-leb (w .pager .storage .len) 4194304 (o .main .fits),
+        le-leb (countOf (headerOf (w .pager))) 1024 c,
+      )
+
+  pub step-fine : stepFine g w ≡ true
+  step-fine = rw (held-fine, eq-eqb (length g) 262144 (k .stagingLong))
+
+-- ---- entries of the table
+
+pub entry-frame : (t : List ℕ) (n at : ℕ) (flag : Bool) → getD t n 0 ≡ entry at flag → frameOf t n ≡ at
+unfolding frameOf
+entry-frame t n at true e = omega arith
+entry-frame t n at false e = omega arith
+
+pub entry-main : (t : List ℕ) (n at : ℕ) (flag : Bool) → getD t n 0 ≡ entry at flag → onMain t n ≡ flag
+unfolding onMain
+entry-main t n at true e = eq-eqb (getD t n 0 % 2) 1 (omega arith)
+entry-main t n at false e = let z : getD t n 0 % 2 ≡ 0 = omega arith in rw z
+
+-- ---- pages by the table
+
+log-page : (l : List ℕ) (p : ℕ) (y : Option (List ℕ)) (t : Bool) → eqb p 0 ≡ t
+    → pick (not t) (some (pageFrom (p + 16) l)) y ≡ orElse (pick t none (some (pageFrom (p + 16) l))) y
+log-page l p y true e = refl
+log-page l p y false e = refl
+
+module _ {w : World} {g : List ℕ} {b : Book} {l : WalHeader} {S P : List (List ℕ)} {mh : DbHeader} (k : Held w g b l S P mh) (t : Tabled w (S ++ P) mh) where
+  pub in-log : (n : ℕ) → n < 1024 → bodyAt (w .log) (placeFrom n 0 (S ++ P)) ≡ lastIn n (S ++ P)
+  in-log n h = body-last (w .log) n 0 (drop (w .pager .wal .len) (w .log)) (k .on .log .whole) (all-lie (k .on))
+
+  pub page-view : (n : ℕ) → n < 1024 → worldPage w n ≡ viewOf (S ++ P) mh (w .main) n
+  unfolding inLog logBytes
+  page-view n h =
+      let p : ℕ = placeFrom n 0 (S ++ P) in
+      let f : frameOf (w .table) n ≡ p = entry-frame (w .table) n p (hasPage mh n) (t n h) in
+      let m : onMain (w .table) n ≡ hasPage mh n = entry-main (w .table) n p (hasPage mh n) (t n h) in
+      rw (f, m) (log-page (w .log) p (mainPage mh (w .main) n) (eqb p 0) refl
+      ∙ ap (λ (x : Option (List ℕ)). orElse x (mainPage mh (w .main) n)) (in-log n h))
+
+  -- the log has the page, or has it not
+  pub log-has : (n : ℕ) → n < 1024 → inLog (w .table) n ≡ true → lastIn n (S ++ P) ≡ some (logBytes (w .table) (w .log) n)
+  unfolding inLog logBytes
+  log-has n h e =
+      let p : ℕ = placeFrom n 0 (S ++ P) in
+      let f : frameOf (w .table) n ≡ p = entry-frame (w .table) n p (hasPage mh n) (t n h) in
+      let z : eqb p 0 ≡ false = not-true (eqb p 0) (rw f at e) in
+      sym (in-log n h) ∙ rw (f, z)
+
+  pub log-lacks : (n : ℕ) → n < 1024 → inLog (w .table) n ≡ false → lastIn n (S ++ P) ≡ none
+  unfolding inLog
+  log-lacks n h e =
+      let p : ℕ = placeFrom n 0 (S ++ P) in
+      let f : frameOf (w .table) n ≡ p = entry-frame (w .table) n p (hasPage mh n) (t n h) in
+      let z : eqb p 0 ≡ true = not-false (eqb p 0) (rw f at e) in
+      sym (in-log n h) ∙ rw z
+
+  -- where no frame of the page waits, it is the sealed frames'
+  pub page-sealed : (n : ℕ) → n < 1024 → lastIn n P ≡ none → worldPage w n ≡ viewOf S mh (w .main) n
+  page-sealed n h e = page-view n h ∙ rw (last-append n S P, e)
+
+pub committed-bytes : (w : World) (n : ℕ) → committedBytes w n ≡ orGive (worldPage w n) []
+unfolding committedBytes
+committed-bytes w n = go (inLog (w .table) n) (onMain (w .table) n)
+  where
+    go : (i m : Bool) → pick i (logBytes (w .table) (w .log) n) (pick m (pageFrom (4096 * n) (w .main)) [])
+        ≡ orGive (pick i (some (logBytes (w .table) (w .log) n)) (pick m (some (pageFrom (4096 * n) (w .main))) none)) []
+    go true m = refl
+    go false true = refl
+    go false false = refl
+
+-- ---- reads at rest
+
+reading-below : (w : World) (g : List ℕ) (n : ℕ) (i m : Bool)
+    → readingAt w g (pick i (found.Log (logAt (w .table) n)) (pick m (found.Main (4096 * n)) found.Nothing))
+    ≡ pick i (some (logBytes (w .table) (w .log) n)) (pick m (some (pageFrom (4096 * n) (w .main))) none)
+unfolding logBytes
+reading-below w g n true m = refl
+reading-below w g n false true = refl
+reading-below w g n false false = refl
+
+refusal-below : (w : World) (n : ℕ) (c i m : Bool)
+    → findRefusal (pick c found.Nothing (pick i (found.Log (logAt (w .table) n)) (pick m (found.Main (4096 * n)) found.Nothing))) ≡ 0
+refusal-below w n true i m = refl
+refusal-below w n false true m = refl
+refusal-below w n false false true = refl
+refusal-below w n false false false = refl
+
+module _ (r : Run) (l : WalHeader) (S P : List (List ℕ)) (mh : DbHeader) (k : Resting (r .world) (r .staging) (r .book) l S P mh)
+    (idle : busy (r .world .pager) ≡ false) where
+  find-is : (n : ℕ) → findPage (r .world) (r .staging) n ≡ overlay (r .world .pager) (r .world .table) n
+  unfolding findPage
+  find-is n = rw (held-fine (k .held), eq-eqb (length (r .staging)) 262144 (k .held .stagingLong), idle)
+
+  refusal-is : (n : ℕ) (t : Bool) → isStaged (r .world .pager .staged) n ≡ t → findRefusal (overlay (r .world .pager) (r .world .table) n) ≡ 0
+  unfolding overlay below
+  refusal-is n true e = rw e
+  refusal-is n false e =
+      rw e (refusal-below (r .world) n (leb (countOf (headerOf (r .world .pager))) n) (inLog (r .world .table) n) (onMain (r .world .table) n))
+
+  book-staged : (n : ℕ) (t : Bool) → isStaged (r .world .pager .staged) n ≡ t
+      → r .book .staged n ≡ pick t (some (stagedBytes (r .world .pager .staged) (r .staging) n)) none
+  book-staged n t e = sym (k .held .staged n) ∙ rw e
+
+  below-is : (n : ℕ) → 1 ≤ n → (n < countOf (r .book .header)) ⊎ (countOf (r .book .header) < suc n)
+      → readingAt (r .world) (r .staging) (below (countOf (headerOf (r .world .pager))) (r .world .table) n) ≡ r .book .pages n
+  unfolding below
+  below-is n h (inl c) =
+      let hn : n < 1024 = omega (arith, k .held .on .book .most) in
+      ap (λ (c : ℕ). readingAt (r .world) (r .staging) (below c (r .world .table) n)) (ap countOf (k .held .header))
+      ∙ rw (lt-leb (countOf (r .book .header)) n c)
+      (reading-below (r .world) (r .staging) n (inLog (r .world .table) n) (onMain (r .world .table) n)
+      ∙ page-sealed (k .held) (k .table) n hn (k .loose n hn) ∙ k .held .on .book .pages n h c)
+  below-is n h (inr c) =
+      let q : countOf (r .book .header) ≤ n = omega arith in
+      ap (λ (c : ℕ). readingAt (r .world) (r .staging) (below c (r .world .table) n)) (ap countOf (k .held .header))
+      ∙ rw (le-leb (countOf (r .book .header)) n q) (sym (k .held .on .book .above n q))
+
+  page-is : (n : ℕ) → 1 ≤ n → (t : Bool) → isStaged (r .world .pager .staged) n ≡ t
+      → readingAt (r .world) (r .staging) (overlay (r .world .pager) (r .world .table) n) ≡ bookRead (r .book) n
+  unfolding overlay bookRead stagedBytes
+  page-is n h true e = rw (e, book-staged n true e)
+  page-is n h false e = rw (e, book-staged n false e) (below-is n h (le-or-lt (suc n) (countOf (r .book .header))))
+
+  pub same-at-rest : Same r
+  unfolding header
+  same-at-rest =
+      record {
+        sameHeader = rw idle (ap head.Header (k .held .header));
+        answered = λ n. rw (find-is n) (refusal-is n (isStaged (r .world .pager .staged) n) refl);
+        samePage = λ n h. rw (find-is n) (page-is n h (isStaged (r .world .pager .staged) n) refl);
+      }
+
+pub same-of : (r : Run) (j : Job) → r .world .pager .job ≡ j → InvJob j (r .world) (r .staging) (r .book) (r .kept) → busy (r .world .pager) ≡ false → Same r
+same-of r job.Idle e i f = same-at-rest r (i .l) (i .S) (i .P) (i .mh) (i .it) f
+same-of r (job.Commit h salt p answer) e i f = let z : _≡_ {A = Bool} true false = sym (ap busyWith e) ∙ f in let q : _≡_ {A = ℕ} 0 1 = cc in absurd (omega arith)
+same-of r (job.Fold salt p answer) e i f = let z : _≡_ {A = Bool} true false = sym (ap busyWith e) ∙ f in let q : _≡_ {A = ℕ} 0 1 = cc in absurd (omega arith)
+same-of r (job.MainLength salt answer) e i f = let z : _≡_ {A = Bool} true false = sym (ap busyWith e) ∙ f in let q : _≡_ {A = ℕ} 0 1 = cc in absurd (omega arith)
+same-of r (job.LogLength salt answer) e i f = let z : _≡_ {A = Bool} true false = sym (ap busyWith e) ∙ f in let q : _≡_ {A = ℕ} 0 1 = cc in absurd (omega arith)
+same-of r (job.LogHeader salt answer) e i f = let z : _≡_ {A = Bool} true false = sym (ap busyWith e) ∙ f in let q : _≡_ {A = ℕ} 0 1 = cc in absurd (omega arith)

@@ -1,0 +1,58 @@
+-- What is to be shown of a call that is not refused, and what its refusals' choices say. Assumes nothing.
+use mathlib.Core.Path.{_≡_, refl, sym, subst}
+use mathlib.Core.Bool.{Bool, true, false}
+use mathlib.Core.List.{List}
+use Prim.Native.Nat.{ℕ}
+use native.Mathlib.Omega.{arith}
+use Rattle.le.specs.Choice.{pick}
+use Rattle.pager_state.specs.World.{World, busyWith}
+use Rattle.pager_state.specs.Stores.{diskOf, Act}
+use Rattle.pager_state.specs.declared.Job.{Job}
+use Rattle.pager_state.specs.declared.Job.the-variants as job
+use Rattle.history.specs.Book.{Book, tells}
+use Rattle.history.specs.Calls.{Call, bookFirst, bodyLent}
+use Rattle.history.specs.Run.{storesOf, worldAfter, stagingAfter, kinds, keptAfter}
+use Rattle.history.proofs.Rest.{Resting, Some, Inv, InvJob}
+use Rattle.history.proofs.Running.{CutOk}
+
+-- what a call that is not refused leaves, whole or cut
+pub record Taken (c : Call) (w : World) (g : List ℕ) (b : Book) (z : List ℕ) : Type 0 where
+  pub after : Inv (worldAfter c w g) (stagingAfter c w g) (tells (bodyLent c) (kinds (storesOf c w g)) (bookFirst c b)) (keptAfter (storesOf c w g) (diskOf w) z)
+  pub cut : CutOk (bodyLent c) (storesOf c w g) (diskOf w) (bookFirst c b) z
+
+-- the same of the world and the stores that it comes to
+pub taken-by : (c : Call) (w : World) (g : List ℕ) (b : Book) (z : List ℕ) {v : World} {acts : List Act} → worldAfter c w g ≡ v → storesOf c w g ≡ acts
+    → Inv v (stagingAfter c w g) (tells (bodyLent c) (kinds acts) (bookFirst c b)) (keptAfter acts (diskOf w) z) → CutOk (bodyLent c) acts (diskOf w) (bookFirst c b) z
+    → Taken c w g b z
+taken-by c w g b z {v} e f after cut =
+    record {
+      after =
+          subst (λ (x : World). Inv x (stagingAfter c w g) (tells (bodyLent c) (kinds (storesOf c w g)) (bookFirst c b)) (keptAfter (storesOf c w g) (diskOf w) z)) (sym e)
+          (subst (λ (x : List Act). Inv v (stagingAfter c w g) (tells (bodyLent c) (kinds x) (bookFirst c b)) (keptAfter x (diskOf w) z)) (sym f) after);
+      cut = subst (λ (x : List Act). CutOk (bodyLent c) x (diskOf w) (bookFirst c b) z) (sym f) cut;
+    }
+
+-- ---- choices by refusals
+
+pub took : {A : Type 0} (R : A → ℕ) (t : Bool) (x y : A) → R (pick t x y) ≡ 0 → (R y ≡ 0 → ⊥) → (t ≡ true) × (R x ≡ 0)
+took R true x y e n = (refl, e)
+took R false x y e n = absurd (n e)
+
+pub passed : {A : Type 0} (R : A → ℕ) (t : Bool) (x y : A) → R (pick t x y) ≡ 0 → (R x ≡ 0 → ⊥) → (t ≡ false) × (R y ≡ 0)
+passed R true x y e n = absurd (n e)
+passed R false x y e n = (refl, e)
+
+pub idle-of : (j : Job) → busyWith j ≡ false → j ≡ job.Idle
+idle-of job.Idle e = refl
+idle-of (job.Commit h salt p answer) e = let z : _≡_ {A = ℕ} 0 1 = cc in absurd (omega arith)
+idle-of (job.Fold salt p answer) e = let z : _≡_ {A = ℕ} 0 1 = cc in absurd (omega arith)
+idle-of (job.MainLength salt answer) e = let z : _≡_ {A = ℕ} 0 1 = cc in absurd (omega arith)
+idle-of (job.LogLength salt answer) e = let z : _≡_ {A = ℕ} 0 1 = cc in absurd (omega arith)
+idle-of (job.LogHeader salt answer) e = let z : _≡_ {A = ℕ} 0 1 = cc in absurd (omega arith)
+
+-- at rest, by the store's own job
+pub at-rest : (w : World) (g : List ℕ) (b : Book) (z : List ℕ) → Inv w g b z → w .pager .job ≡ job.Idle → Some (Resting w g b) z
+at-rest w g b z i e = subst (λ (j : Job). InvJob j w g b z) e i
+
+pub rest-inv : (w : World) (g : List ℕ) (b : Book) (z : List ℕ) → w .pager .job ≡ job.Idle → Some (Resting w g b) z → Inv w g b z
+rest-inv w g b z e i = subst (λ (j : Job). InvJob j w g b z) (sym e) i

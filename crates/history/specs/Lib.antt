@@ -1,0 +1,6 @@
+-- The root of the definitions of `history`, in the order in which they are best read.
+pub mod Book
+pub mod Calls
+pub mod Run
+pub mod Demand3
+pub mod Guards

@@ -1,0 +1,167 @@
+-- What a commit or fold that was begun tells of the store, and that what the laws of steps ask holds then. Assumes nothing.
+use mathlib.Core.Path.{_≡_, refl, sym, _∙_, ap}
+use mathlib.Core.Bool.{Bool, true, false}
+use mathlib.Core.List.{List, append-nil}
+use Prim.Native.Nat.{ℕ, _+_, _*_, _≤_}
+use native.Mathlib.Omega.{arith}
+use borrow.Author.Tests.{leb-true, eq-eqb}
+use lib.Dec.{leb, ltb}
+use lib.ListN.{length}
+use Rattle.le.specs.Choice.{pick, both}
+use Rattle.le.proofs.Compare.{no-test, both-true}
+use Rattle.header.specs.Header.{isVersion}
+use Rattle.header.specs.declared.DbHeader.{DbHeader}
+use Rattle.frame.specs.Frame.{frameSize}
+use Rattle.wal.specs.Recovery.{walArea}
+use Rattle.pager_state.specs.World.{World, pageLimit, stagingArea, countOf, fine, busyWith, busy, readOnly, withJob}
+use Rattle.pager_state.specs.Overlay.{committedBytes}
+use Rattle.pager_state.specs.Pages.{pagesFrom, differs}
+use Rattle.pager_state.specs.Fold.{foldTodo}
+use Rattle.pager_state.specs.Commit.{framesTodo, commitTodo}
+use Rattle.pager_state.specs.Steps.{headerGood, differing, lacking, roomFor, commitStart, isBegun, beginCommit, commitRefusal, nothingToFold, checkpointStart, checkpointRefusal, isFolding, folding, beginCheckpoint, todo, stepFine, onStore}
+use Rattle.pager_state.specs.declared.Job.{Job}
+use Rattle.pager_state.specs.declared.Job.the-variants as job
+use Rattle.pager_state.specs.declared.CommitStart.{CommitStart}
+use Rattle.pager_state.specs.declared.CommitStart.the-variants as commit
+use Rattle.pager_state.specs.declared.CheckpointStart.{CheckpointStart}
+use Rattle.pager_state.specs.declared.CheckpointStart.the-variants as checkpoint
+use Rattle.pager_state.proofs.Stored.{AllInside}
+use Rattle.pager_state.proofs.Made.{ready-fine, Placed, Made, Ready}
+use Rattle.pager_state.proofs.Inside.{fold-inside, frames-inside}
+
+-- ---- choices that came out as begun
+
+module _ {A : Type 0} (f : A → Bool) where
+  chosen : (t : Bool) (x r : A) → f r ≡ false → f (pick t x r) ≡ true → (t ≡ true) × (f x ≡ true)
+  chosen true x r n e = (refl, e)
+  chosen false x r n e = no-test (sym n ∙ e)
+
+  passed : (t : Bool) (x r : A) → f r ≡ false → f (pick t r x) ≡ true → (t ≡ false) × (f x ≡ true)
+  passed true x r n e = no-test (sym n ∙ e)
+  passed false x r n e = (refl, e)
+
+-- nothing part done
+pub not-busy : (j : Job) → busyWith j ≡ false → j ≡ job.Idle
+not-busy job.Idle e = refl
+not-busy (job.Commit h salt page answer) e = no-test (sym e)
+not-busy (job.Fold salt page answer) e = no-test (sym e)
+not-busy (job.MainLength salt answer) e = no-test (sym e)
+not-busy (job.LogLength salt answer) e = no-test (sym e)
+not-busy (job.LogHeader salt answer) e = no-test (sym e)
+
+-- ---- a commit
+
+pub record CommitBegun (g : List ℕ) (w : World) (h : DbHeader) : Type 0 where
+  pub right : stepFine g w ≡ true
+  pub idle : w .pager .job ≡ job.Idle
+  pub writes : readOnly (w .pager) ≡ false
+  pub low : 1 ≤ countOf h
+  pub high : countOf h ≤ pageLimit
+  pub version : isVersion (h .«format_version») ≡ true
+  pub joined : ltb (lacking w h) pageLimit ≡ false
+  pub room : w .pager .wal .len + frameSize * (differing g w + 1) ≤ walArea
+
+-- no refusal is Begun
+pub commit-unrefused : (a : CommitStart) → commitRefusal a ≡ 0 → isBegun a ≡ true
+commit-unrefused commit.Begun e = refl
+commit-unrefused commit.Area e = absurd (omega arith)
+commit-unrefused commit.Busy e = absurd (omega arith)
+commit-unrefused commit.ReadOnly e = absurd (omega arith)
+commit-unrefused commit.NewHeader e = absurd (omega arith)
+commit-unrefused (commit.Joining n) e = absurd (omega arith)
+commit-unrefused commit.LogFull e = absurd (omega arith)
+
+module _ (g : List ℕ) (w : World) (h : DbHeader) (e : isBegun (commitStart g w h) ≡ true) where
+  pub commit-begun : CommitBegun g w h
+  unfolding commitStart
+  commit-begun =
+      let a = chosen isBegun (stepFine g w) _ commit.Area refl e in
+      let b = passed isBegun (busy (w .pager)) _ commit.Busy refl (a .1) in
+      let c = passed isBegun (readOnly (w .pager)) _ commit.ReadOnly refl (b .1) in
+      let d = chosen isBegun (headerGood h) _ commit.NewHeader refl (c .1) in
+      let i = passed isBegun (ltb (lacking w h) pageLimit) _ (commit.Joining (lacking w h)) refl (d .1) in
+      let k = chosen isBegun (roomFor w (differing g w + 1)) commit.Begun commit.LogFull refl (i .1) in
+      let x = both-true (leb 1 (countOf h)) (both (leb (countOf h) pageLimit) (isVersion (h .«format_version»))) (d .0) in
+      let y = both-true (leb (countOf h) pageLimit) (isVersion (h .«format_version»)) (x .1) in
+      record {
+        right = a .0;
+        idle = not-busy (w .pager .job) (b .0);
+        writes = c .0;
+        low = leb-true 1 (countOf h) (x .0);
+        high = leb-true (countOf h) pageLimit (y .0);
+        version = y .1;
+        joined = i .0;
+        room = leb-true _ _ (k .0);
+      }
+
+  -- the store that it leaves
+  pub begun-commit : (salt : ℕ) → beginCommit g w h salt .pager ≡ withJob (w .pager) (job.Commit h salt 0 (differing g w))
+  unfolding beginCommit
+  begun-commit salt = rw e
+
+  -- no step of it is refused on the way
+  commit-todo : (salt n : ℕ) → todo g (onStore w (withJob (w .pager) (job.Commit h salt 0 n)))
+      ≡ framesTodo g h salt n (pagesFrom (differs g w) 0) (onStore w (withJob (w .pager) (job.Commit h salt 0 n)))
+  unfolding todo commitTodo foldTodo differs committedBytes
+  commit-todo salt n = append-nil _
+
+  pub commit-inside : (salt : ℕ) → AllInside (todo g (onStore w (beginCommit g w h salt .pager)))
+  unfolding differing
+  commit-inside salt =
+      let b = commit-begun in
+      rw (begun-commit salt, commit-todo salt (differing g w))
+      (frames-inside g h salt (differing g w) (pagesFrom (differs g w) 0) (onStore w (withJob (w .pager) (job.Commit h salt 0 (differing g w)))) (b .high) (b .room))
+
+  pub commit-ready : (salt : ℕ) → Made w → Ready g (onStore w (beginCommit g w h salt .pager))
+  unfolding fine
+  commit-ready salt m =
+      let b = commit-begun in
+      let p : Placed w = rw (b .idle) at (m .asked) in
+      rw (begun-commit salt) (record { right = b .right; made = record { slots = m .slots; asked = (p, b .high) } })
+
+-- ---- a fold
+
+pub record CheckpointBegun (g : List ℕ) (w : World) : Type 0 where
+  pub right : stepFine g w ≡ true
+  pub idle : w .pager .job ≡ job.Idle
+  pub writes : readOnly (w .pager) ≡ false
+  pub some : nothingToFold w ≡ false
+
+module _ (g : List ℕ) (w : World) (e : isFolding (checkpointStart g w) ≡ true) where
+  pub checkpoint-begun : CheckpointBegun g w
+  unfolding checkpointStart
+  checkpoint-begun =
+      let a = chosen isFolding (stepFine g w) _ checkpoint.Area refl e in
+      let b = passed isFolding (busy (w .pager)) _ checkpoint.Busy refl (a .1) in
+      let c = passed isFolding (readOnly (w .pager)) _ checkpoint.ReadOnly refl (b .1) in
+      let d = passed isFolding (nothingToFold w) checkpoint.Begun checkpoint.Nothing refl (c .1) in
+      record { right = a .0; idle = not-busy (w .pager .job) (b .0); writes = c .0; some = d .0 }
+
+  pub begun-checkpoint : (salt : ℕ) → beginCheckpoint g w salt .pager ≡ withJob (w .pager) (job.Fold salt 0 (folding w))
+  unfolding beginCheckpoint
+  begun-checkpoint salt = rw e
+
+  checkpoint-todo : (salt n : ℕ) → todo g (onStore w (withJob (w .pager) (job.Fold salt 0 n)))
+      ≡ foldTodo (job.Fold salt 0 n) (onStore w (withJob (w .pager) (job.Fold salt 0 n)))
+  unfolding todo commitTodo
+  checkpoint-todo salt n = refl
+
+  pub checkpoint-inside : (salt : ℕ) → AllInside (todo g (onStore w (beginCheckpoint g w salt .pager)))
+  checkpoint-inside salt =
+      rw (begun-checkpoint salt, checkpoint-todo salt (folding w))
+      (fold-inside (job.Fold salt 0 (folding w)) (onStore w (withJob (w .pager) (job.Fold salt 0 (folding w)))) (ready-fine g w (checkpoint-begun .right) .0 .count))
+
+  pub checkpoint-ready : (salt : ℕ) → Made w → Ready g (onStore w (beginCheckpoint g w salt .pager))
+  unfolding fine
+  checkpoint-ready salt m =
+      let b = checkpoint-begun in
+      let p : Placed w = rw (b .idle) at (m .asked) in
+      rw (begun-checkpoint salt) (record { right = b .right; made = record { slots = m .slots; asked = p } })
+
+-- no refusal stores anything
+pub checkpoint-unrefused : (a : CheckpointStart) → checkpointRefusal a ≡ 0 → isFolding a ≡ false → a ≡ checkpoint.Nothing
+checkpoint-unrefused checkpoint.Begun e f = absurd (omega (arith, ap {B = ℕ} (λ (b : Bool). pick b 1 0) f))
+checkpoint-unrefused checkpoint.Nothing e f = refl
+checkpoint-unrefused checkpoint.Area e f = absurd (omega arith)
+checkpoint-unrefused checkpoint.Busy e f = absurd (omega arith)
+checkpoint-unrefused checkpoint.ReadOnly e f = absurd (omega arith)

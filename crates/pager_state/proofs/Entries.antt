@@ -1,0 +1,127 @@
+-- Laws of the page table: what entering a frame and folding leave, and the bytes of another page after a frame. Assumes nothing.
+use mathlib.Core.Path.{_≡_, refl, sym, ap, _∙_}
+use mathlib.Core.Bool.{Bool, true, false}
+use mathlib.Core.List.{List, [], _∷_}
+use Prim.Native.Nat.{ℕ, zero, suc, _+_, _*_, _/_, _%_, _≤_, _<_}
+use native.Mathlib.Omega.{arith}
+use borrow.Author.Tests.{eqb-true, eqb-false, eq-eqb}
+use lib.Dec.{leb, eqb}
+use lib.ListN.{length, getD, set, take, drop, length-set}
+use lib.Seq.{getD-set-same, getD-set-other}
+use Rattle.le.specs.Choice.{pick}
+use Rattle.le.specs.Le.{put}
+use Rattle.le.proofs.Fields.{drop-take}
+use Rattle.le.proofs.Compare.{no-test}
+use Rattle.le.proofs.Stores.{take-put}
+use Rattle.pager_state.specs.World.{World, pageLimit}
+use Rattle.pager_state.specs.Overlay.{frameOf, inLog, onMain, entry, logBytes, committedBytes}
+use Rattle.pager_state.specs.Fold.{foldedFrom}
+use Rattle.pager_state.specs.Commit.{entered}
+
+-- ---- entering a frame
+
+module _ (t : List ℕ) (q x n : ℕ) (d : n ≡ q → ⊥) where
+  -- the other pages' entries stay
+  pub frame-other : frameOf (set t q x) n ≡ frameOf t n
+  unfolding frameOf
+  frame-other = rw (getD-set-other t q n x 0 d)
+
+  pub log-other : inLog (set t q x) n ≡ inLog t n
+  unfolding inLog
+  log-other = rw frame-other
+
+  pub main-other : onMain (set t q x) n ≡ onMain t n
+  unfolding onMain
+  main-other = rw (getD-set-other t q n x 0 d)
+
+-- an entry's flag is 0 or 1
+pub flag-small : (b : Bool) → pick b 1 0 < 2
+flag-small true = omega arith
+flag-small false = omega arith
+
+flag-back : (at : ℕ) (b : Bool) → eqb ((2 * at + pick b 1 0) % 2) 1 ≡ b
+flag-back at true = eq-eqb ((2 * at + 1) % 2) 1 (omega arith)
+flag-back at false =
+    let e : (2 * at + 0) % 2 ≡ 0 = omega arith in
+    rw e
+
+-- the page's own
+pub frame-own : (t : List ℕ) (q at : ℕ) → q < length t → frameOf (entered t q at) q ≡ at
+unfolding frameOf
+frame-own t q at h =
+    let e : getD (entered t q at) q 0 ≡ entry at (onMain t q) = getD-set-same t q (entry at (onMain t q)) 0 h in
+    rw e (omega (arith, flag-small (onMain t q)))
+
+pub main-own : (t : List ℕ) (q at : ℕ) → q < length t → onMain (entered t q at) q ≡ onMain t q
+unfolding onMain
+main-own t q at h =
+    let e : getD (entered t q at) q 0 ≡ entry at (onMain t q) = getD-set-same t q (entry at (onMain t q)) 0 h in
+    rw e (flag-back at (onMain t q))
+
+pub length-entered : (t : List ℕ) (q at : ℕ) → length (entered t q at) ≡ length t
+length-entered t q at = length-set t q (entry at (onMain t q))
+
+-- the frames that the table names lie below `at`
+abbrev pub Below : List ℕ → ℕ → Type 0
+Below t at = (n : ℕ) → n < pageLimit → inLog t n ≡ true → frameOf t n + 4112 ≤ at
+
+-- .. and with one entered there, below its end
+module _ (t : List ℕ) (q at : ℕ) (l : q < length t) (b : Below t at) where
+  below-at : (n : ℕ) → n < pageLimit → inLog (entered t q at) n ≡ true → (s : Bool) → eqb n q ≡ s → frameOf (entered t q at) n + 4112 ≤ at + 4112
+  below-at n h i true s =
+      let e : frameOf (entered t q at) n ≡ at = rw (eqb-true n q s) (frame-own t q at l) in
+      omega arith
+  below-at n h i false s =
+      let d = eqb-false n q s in
+      let y : frameOf t n + 4112 ≤ at = b n h (sym (log-other t q (entry at (onMain t q)) n d) ∙ i) in
+      omega (arith, frame-other t q (entry at (onMain t q)) n d)
+
+  pub below-entered : Below (entered t q at) (at + 4112)
+  below-entered n h i = below-at n h i (eqb n q) refl
+
+-- ---- the bytes of another page after a frame
+
+-- a part in front of a store
+pub part-before : (l : List ℕ) (at : ℕ) (bs : List ℕ) (i k : ℕ) → i + k ≤ at → at ≤ length l → take k (drop i (put l at bs)) ≡ take k (drop i l)
+part-before l at bs i k h e = sym (drop-take i k (put l at bs)) ∙ ap (drop i) (take-put (i + k) l at bs h e) ∙ drop-take i k l
+
+module _ (v w : World) (q x at : ℕ) (bs : List ℕ) (t : v .table ≡ set (w .table) q x) (l : v .log ≡ put (w .log) at bs) (m : v .main ≡ w .main)
+    (a : at ≤ length (w .log)) (b : Below (w .table) at) where
+  bytes-at : (n : ℕ) → n < pageLimit → (n ≡ q → ⊥) → (s : Bool) → inLog (w .table) n ≡ s → committedBytes v n ≡ committedBytes w n
+  unfolding committedBytes logBytes
+  bytes-at n h d true s =
+      rw (t, l, log-other (w .table) q x n d, s, frame-other (w .table) q x n d)
+      (part-before (w .log) at bs (frameOf (w .table) n + 16) 4096 (omega (arith, b n h s)) a)
+  bytes-at n h d false s = rw (t, m, log-other (w .table) q x n d, s, main-other (w .table) q x n d)
+
+  pub bytes-other : (n : ℕ) → n < pageLimit → (n ≡ q → ⊥) → committedBytes v n ≡ committedBytes w n
+  bytes-other n h d = bytes-at n h d (inLog (w .table) n) refl
+
+-- ---- folding
+
+entry-small : (count n x : ℕ) (a b c : Bool) → pick a 0 (pick b 0 (pick c 0 1)) ≤ 1
+entry-small count n x true b c = omega arith
+entry-small count n x false true c = omega arith
+entry-small count n x false false true = omega arith
+entry-small count n x false false false = omega arith
+
+folded-small : (count k : ℕ) (t : List ℕ) (n : ℕ) → getD (foldedFrom count k t) n 0 ≤ 1
+unfolding foldedFrom
+folded-small count k [] n = omega arith
+folded-small count k (x ∷ xs) zero = entry-small count k x (eqb k 0) (leb count k) (eqb x 0)
+folded-small count k (x ∷ xs) (suc n) = folded-small count (suc k) xs n
+
+-- no page is in the log then
+pub folded-none : (count k : ℕ) (t : List ℕ) (n : ℕ) → inLog (foldedFrom count k t) n ≡ false
+unfolding inLog frameOf
+folded-none count k t n =
+    let e : getD (foldedFrom count k t) n 0 / 2 ≡ 0 = omega (arith, folded-small count k t n) in
+    rw e
+
+pub folded-below : (count k : ℕ) (t : List ℕ) (at : ℕ) → Below (foldedFrom count k t) at
+folded-below count k t at n h i = no-test (sym (folded-none count k t n) ∙ i)
+
+pub length-folded : (count k : ℕ) (t : List ℕ) → length (foldedFrom count k t) ≡ length t
+unfolding foldedFrom
+length-folded count k [] = refl
+length-folded count k (x ∷ xs) = ap suc (length-folded count (suc k) xs)

@@ -1,0 +1,21 @@
+-- The root of the laws of `pager_state`.
+pub mod Slots
+pub mod Held
+pub mod Searches
+pub mod Stored
+pub mod Sizes
+pub mod Entries
+pub mod Next
+pub mod Made
+pub mod Advance
+pub mod Steps
+pub mod Runs
+pub mod Inside
+pub mod Begun
+pub mod Done
+pub mod Answers
+pub mod End
+pub mod Opened
+pub mod Calls
+pub mod Walks
+pub mod Nexts

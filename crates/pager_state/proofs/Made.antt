@@ -1,0 +1,89 @@
+-- What the laws of steps ask of a store, beside refusal 1: true of every store that the calls make. Assumes nothing.
+use mathlib.Core.Path.{_≡_}
+use mathlib.Core.Bool.{Bool, true}
+use mathlib.Core.List.{List}
+use Prim.Native.Nat.{ℕ, _+_, _≤_, _<_}
+use borrow.Author.Tests.{eqb-true, leb-true, eq-eqb, le-leb}
+use lib.Dec.{leb, eqb}
+use lib.ListN.{length}
+use Rattle.le.specs.Choice.{both}
+use Rattle.le.proofs.Compare.{both-true}
+use Rattle.frame.specs.Frame.{frameSize}
+use Rattle.wal.specs.Header.{headerSize}
+use Rattle.wal.specs.Recovery.{walArea}
+use Rattle.pager_state.specs.World.{World, mainArea, stagingArea, stagedLimit, pageLimit, countOf, headerOf, tableFine, logFine, mainFine, countFine, stagingFine, fine}
+use Rattle.pager_state.specs.Overlay.{frameOf, inLog}
+use Rattle.pager_state.specs.Stores.{diskOf}
+use Rattle.pager_state.specs.Steps.{stepFine}
+use Rattle.pager_state.specs.declared.Job.{Job}
+use Rattle.pager_state.specs.declared.Job.the-variants as job
+use Rattle.pager_state.proofs.Stored.{Areas}
+
+-- ---- what refusal 1 tells
+
+pub record Fine (w : World) : Type 0 where
+  pub table : length (w .table) ≡ pageLimit
+  pub files : Areas (diskOf w)
+  pub count : countOf (headerOf (w .pager)) ≤ pageLimit
+
+pub fine-parts : (w : World) → fine w ≡ true → Fine w
+unfolding fine
+fine-parts w e =
+    let l : Bool = both (logFine (w .pager .wal .len) (w .log)) (both (mainFine (w .pager .storage .len) (w .main)) (countFine (w .pager))) in
+    let a = both-true (tableFine (w .table)) l e in
+    let b = both-true (logFine (w .pager .wal .len) (w .log)) (both (mainFine (w .pager .storage .len) (w .main)) (countFine (w .pager))) (a .1) in
+    let c = both-true (mainFine (w .pager .storage .len) (w .main)) (countFine (w .pager)) (b .1) in
+    let x = both-true (eqb (length (w .log)) walArea) (leb (w .pager .wal .len) walArea) (b .0) in
+    let y = both-true (eqb (length (w .main)) mainArea) (leb (w .pager .storage .len) mainArea) (c .0) in
+    record {
+      table = eqb-true _ _ (a .0);
+      files = record {
+        log = record { area = eqb-true _ _ (x .0); len = leb-true _ _ (x .1) };
+        main = record { area = eqb-true _ _ (y .0); len = leb-true _ _ (y .1) };
+      };
+      count = leb-true _ _ (c .1);
+    }
+
+pub fine-whole : (w : World) → Fine w → fine w ≡ true
+unfolding fine
+fine-whole w s =
+    rw (
+      eq-eqb (length (w .table)) pageLimit (s .table),
+      eq-eqb (length (w .log)) walArea (s .files .log .area),
+      le-leb (w .pager .wal .len) walArea (s .files .log .len),
+      eq-eqb (length (w .main)) mainArea (s .files .main .area),
+      le-leb (w .pager .storage .len) mainArea (s .files .main .len),
+      le-leb (countOf (headerOf (w .pager))) pageLimit (s .count),
+    )
+
+-- ---- what the calls see to
+
+-- the frames that the table names lie inside the log
+abbrev pub Placed : World → Type 0
+Placed w = (n : ℕ) → n < pageLimit → inLog (w .table) n ≡ true → frameOf (w .table) n + frameSize ≤ w .pager .wal .len
+
+-- by the job: a commit's header can count; before a fold's last store the log is emptied and the table's places are void
+abbrev pub Asks : Job → World → Type 0
+Asks job.Idle w = Placed w
+Asks (job.Commit h salt page answer) w = Placed w × (countOf h ≤ pageLimit)
+Asks (job.Fold salt page answer) w = Placed w
+Asks (job.MainLength salt answer) w = Placed w
+Asks (job.LogLength salt answer) w = Placed w
+Asks (job.LogHeader salt answer) w = w .pager .wal .len ≡ headerSize
+
+pub record Made (w : World) : Type 0 where
+  pub slots : length (w .pager .staged .pages) ≡ stagedLimit
+  pub asked : Asks (w .pager .job) w
+
+-- a store whose next step is not refused for its areas
+pub record Ready (g : List ℕ) (w : World) : Type 0 where
+  pub right : stepFine g w ≡ true
+  pub made : Made w
+
+pub ready-fine : (g : List ℕ) (w : World) → stepFine g w ≡ true → Fine w × (length g ≡ stagingArea)
+ready-fine g w e =
+    let a = both-true (fine w) (stagingFine g) e in
+    (fine-parts w (a .0), eqb-true (length g) stagingArea (a .1))
+
+pub fine-ready : (g : List ℕ) (w : World) → Fine w → length g ≡ stagingArea → stepFine g w ≡ true
+fine-ready g w s e = rw (fine-whole w s, eq-eqb (length g) stagingArea e)

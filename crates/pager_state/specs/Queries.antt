@@ -1,0 +1,78 @@
+-- Header, access mode and clock. Refusal 9 comes for these too: "a call other than the next step or an opening".
+use Prim.Native.Nat.{ℕ}
+use lib.Dec.{leb}
+use Rattle.le.specs.Choice.{pick}
+use Rattle.wal.specs.Write.{withClock}
+use Rattle.wal.specs.declared.Wal.{Wal}
+use Rattle.pager_state.specs.World.{headerOf, busy, withWal}
+use Rattle.pager_state.specs.declared.AccessMode.{AccessMode}
+use Rattle.pager_state.specs.declared.AccessMode.the-variants as mode
+use Rattle.pager_state.specs.declared.Opening.{Opening}
+use Rattle.pager_state.specs.declared.Opening.the-variants as opening
+use Rattle.pager_state.specs.declared.Pager.{Pager}
+use Rattle.pager_state.specs.declared.HeaderRead.{HeaderRead}
+use Rattle.pager_state.specs.declared.HeaderRead.the-variants as head
+use Rattle.pager_state.specs.declared.ModeRead.{ModeRead}
+use Rattle.pager_state.specs.declared.ModeRead.the-variants as moded
+use Rattle.pager_state.specs.declared.ClockRead.{ClockRead}
+use Rattle.pager_state.specs.declared.ClockRead.the-variants as clock
+use Rattle.pager_state.specs.declared.ObserveAnswer.{ObserveAnswer}
+use Rattle.pager_state.specs.declared.ObserveAnswer.the-variants as observe
+use Rattle.pager_state.specs.declared.ClockObserved.{ClockObserved}
+
+-- ---- the header that counts
+
+unfoldable pub header : Pager → HeaderRead
+header p = pick (busy p) head.Busy (head.Header (headerOf p))
+
+abbrev pub headerRefusal : HeaderRead → ℕ
+headerRefusal (head.Header h) = 0
+headerRefusal head.Busy = 9
+
+-- ---- the access mode
+
+abbrev pub modeBy : Opening → AccessMode
+modeBy opening.Clean = mode.ReadWrite
+modeBy opening.Plain = mode.ReadWrite
+modeBy opening.ReadOnly = mode.ReadOnly
+modeBy opening.NoLog = mode.ReadOnly
+
+unfoldable pub accessMode : Pager → ModeRead
+accessMode p = pick (busy p) moded.Busy (moded.Mode (modeBy (p .opening)))
+
+abbrev pub modeRefusal : ModeRead → ℕ
+modeRefusal (moded.Mode m) = 0
+modeRefusal moded.Busy = 9
+
+-- ---- the clock
+
+abbrev pub clockOf : Pager → ℕ
+clockOf p = p .wal .header .«clock_high_water»
+
+unfoldable pub clockHighWater : Pager → ClockRead
+clockHighWater p = pick (busy p) clock.Busy (clock.Clock (clockOf p))
+
+abbrev pub clockReadRefusal : ClockRead → ℕ
+clockReadRefusal (clock.Clock c) = 0
+clockReadRefusal clock.Busy = 9
+
+-- "a lower one is .. ignored by the pager"
+unfoldable pub raised : Wal → ℕ → Wal
+raised v c = pick (leb c (v .header .«clock_high_water»)) v (withClock v c)
+
+-- "read-only an empty one whose clock stays 0"
+abbrev pub observedBy : Opening → Wal → ℕ → Wal
+observedBy opening.Clean v c = raised v c
+observedBy opening.Plain v c = raised v c
+observedBy opening.ReadOnly v c = raised v c
+observedBy opening.NoLog v c = v
+
+unfoldable pub observeClock : Pager → ℕ → ClockObserved
+observeClock p c =
+    pick (busy p)
+    (record { answer = observe.Busy; pager = p })
+    (record { answer = observe.Observed; pager = withWal p (observedBy (p .opening) (p .wal) c) })
+
+abbrev pub observeRefusal : ObserveAnswer → ℕ
+observeRefusal observe.Observed = 0
+observeRefusal observe.Busy = 9

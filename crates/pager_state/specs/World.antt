@@ -1,0 +1,153 @@
+-- The open store with the areas lent to it, and what refusals 1 and 9 judge. The staging area is handed beside it: only staging stores there.
+use mathlib.Core.Bool.{Bool, true, false}
+use mathlib.Core.List.{List}
+use Prim.Native.Nat.{ℕ, _*_}
+use lib.Dec.{leb, eqb}
+use lib.ListN.{length}
+use Rattle.le.specs.Choice.{both}
+use Rattle.header.specs.declared.DbHeader.{DbHeader}
+use Rattle.wal.specs.Recovery.{walArea}
+use Rattle.wal.specs.declared.Wal.{Wal}
+use Rattle.pager_state.specs.declared.FileStorage.{FileStorage}
+use Rattle.pager_state.specs.declared.Staged.{Staged}
+use Rattle.pager_state.specs.declared.Job.{Job}
+use Rattle.pager_state.specs.declared.Job.the-variants as job
+use Rattle.pager_state.specs.declared.Opening.{Opening}
+use Rattle.pager_state.specs.declared.Opening.the-variants as opening
+use Rattle.pager_state.specs.declared.Pager.{Pager}
+
+-- "main area 4,194,304; staging 262,144 (64 pages)"; "Page count .. to 1,024"
+abbrev pub mainArea : ℕ
+mainArea = 4194304
+
+abbrev pub stagingArea : ℕ
+stagingArea = 262144
+
+abbrev pub stagedLimit : ℕ
+stagedLimit = 64
+
+abbrev pub pageLimit : ℕ
+pageLimit = 1024
+
+pub record World : Type 0 where
+  pub pager : Pager
+  pub table : List ℕ
+  pub log : List ℕ
+  pub main : List ℕ
+
+abbrev pub world : Pager → List ℕ → List ℕ → List ℕ → World
+world p t l m = record { pager = p; table = t; log = l; main = m }
+
+-- ---- short names
+
+abbrev pub countOf : DbHeader → ℕ
+countOf h = h .«page_count»
+
+abbrev pub headerOf : Pager → DbHeader
+headerOf p = p .«current_header»
+
+-- ---- refusal 1: "a wrong area length, or a file length above its area"
+
+abbrev pub tableFine : List ℕ → Bool
+tableFine t = eqb (length t) pageLimit
+
+abbrev pub logFine : ℕ → List ℕ → Bool
+logFine n l = both (eqb (length l) walArea) (leb n walArea)
+
+abbrev pub mainFine : ℕ → List ℕ → Bool
+mainFine n m = both (eqb (length m) mainArea) (leb n mainArea)
+
+abbrev pub stagingFine : List ℕ → Bool
+stagingFine g = eqb (length g) stagingArea
+
+-- and the length that the main file has once it is folded
+abbrev pub countFine : Pager → Bool
+countFine p = leb (countOf (headerOf p)) pageLimit
+
+-- by the lengths of table, log and main area
+abbrev pub fineBy : Pager → ℕ → ℕ → ℕ → Bool
+fineBy p t l m =
+    both (eqb t pageLimit)
+    (both (both (eqb l walArea) (leb (p .wal .len) walArea))
+    (both (both (eqb m mainArea) (leb (p .storage .len) mainArea)) (countFine p)))
+
+unfoldable pub fine : World → Bool
+fine w = fineBy (w .pager) (length (w .table)) (length (w .log)) (length (w .main))
+
+-- ---- refusal 9: "a commit or fold is part done"
+
+abbrev pub busyWith : Job → Bool
+busyWith job.Idle = false
+busyWith (job.Commit h salt page answer) = true
+busyWith (job.Fold salt page answer) = true
+busyWith (job.MainLength salt answer) = true
+busyWith (job.LogLength salt answer) = true
+busyWith (job.LogHeader salt answer) = true
+
+abbrev pub busy : Pager → Bool
+busy p = busyWith (p .job)
+
+-- ---- refusal 10: the kinds of opening that write nothing
+
+abbrev pub readOnlyBy : Opening → Bool
+readOnlyBy opening.Clean = false
+readOnlyBy opening.Plain = false
+readOnlyBy opening.ReadOnly = true
+readOnlyBy opening.NoLog = true
+
+abbrev pub readOnly : Pager → Bool
+readOnly p = readOnlyBy (p .opening)
+
+-- ---- the store with one part changed
+
+abbrev pub withJob : Pager → Job → Pager
+withJob p j =
+    record {
+      «current_header» = p .«current_header»;
+      wal = p .wal;
+      recovered = p .recovered;
+      storage = p .storage;
+      staged = p .staged;
+      job = j;
+      opening = p .opening;
+    }
+
+abbrev pub withWal : Pager → Wal → Pager
+withWal p v =
+    record {
+      «current_header» = p .«current_header»;
+      wal = v;
+      recovered = p .recovered;
+      storage = p .storage;
+      staged = p .staged;
+      job = p .job;
+      opening = p .opening;
+    }
+
+abbrev pub withStaged : Pager → Staged → Pager
+withStaged p g =
+    record {
+      «current_header» = p .«current_header»;
+      wal = p .wal;
+      recovered = p .recovered;
+      storage = p .storage;
+      staged = g;
+      job = p .job;
+      opening = p .opening;
+    }
+
+abbrev pub withStorage : Pager → FileStorage → Pager
+withStorage p s =
+    record {
+      «current_header» = p .«current_header»;
+      wal = p .wal;
+      recovered = p .recovered;
+      storage = s;
+      staged = p .staged;
+      job = p .job;
+      opening = p .opening;
+    }
+
+-- nothing staged
+abbrev pub noneStaged : Staged → Staged
+noneStaged g = record { count = 0; pages = g .pages }

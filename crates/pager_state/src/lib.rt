@@ -1,0 +1,466 @@
+// The open store: what it holds, and what its calls answer. The definitions of every call are this crate's specs.
+ghost use mathlib.Core.Path.{_≡_};
+ghost use mathlib.Core.List.{List};
+ghost use Prim.Native.Nat.{_+_};
+ghost use lib.Dec.{leb, eqb};
+ghost use lib.ListN.{take};
+ghost use Rattle.le.specs.Choice.{both};
+ghost use Rattle.pager_state.specs.World.{busyWith, readOnlyBy, fineBy, withJob, withWal};
+ghost use Rattle.pager_state.specs.Overlay.{pageFrom, findIn, slotOf, isStaged, frameOf, onMain};
+use header::DbHeader;
+use page::PAGE_SIZE;
+use wal::WAL_AREA;
+use wal::Wal;
+
+// The main file's area: 1,024 pages.
+pub const MAIN_AREA: usize = 4_194_304;
+
+// Pages that a store can have, and entries of the page table.
+pub const PAGES: usize = 1_024;
+
+// Pages that can be staged at a time.
+pub const STAGED_PAGES: usize = 64;
+
+// The staging area: a page for each.
+pub const STAGING_AREA: usize = 262_144;
+
+// Frames at which a commit folds.
+pub const AUTO_CHECKPOINT_THRESHOLD_FRAMES: usize = 100;
+
+pub enum AccessMode {
+    ReadWrite,
+    ReadOnly,
+}
+
+// How the store came to be open.
+pub enum Opening {
+    // Created, or opened cleanly.
+    Clean,
+    Plain,
+    ReadOnly,
+    // Read-only, and no log was there.
+    NoLog,
+}
+
+// The main file: its length, and its own header.
+pub struct FileStorage {
+    pub len: usize,
+    pub header: DbHeader,
+}
+
+// The numbers of the staged pages; slot i's bytes stand at 4,096 × i in the staging area.
+pub struct Staged {
+    pub count: usize,
+    pub pages: [u16; 64],
+}
+
+// What is part done: its arguments, the first page not looked at, and the answer that its last store gives.
+pub enum Job {
+    Idle,
+    Commit {
+        header: DbHeader,
+        salt: u32,
+        page: usize,
+        answer: usize,
+    },
+    Fold {
+        salt: u32,
+        page: usize,
+        answer: usize,
+    },
+    MainLength {
+        salt: u32,
+        answer: usize,
+    },
+    LogLength {
+        salt: u32,
+        answer: usize,
+    },
+    LogHeader {
+        salt: u32,
+        answer: usize,
+    },
+}
+
+// An open store. The page table is lent beside it: an entry for each page, twice the place of its frame in the log (0: none),
+// and 1 more if the main file has it.
+pub struct Pager {
+    // The header that counts.
+    pub current_header: DbHeader,
+    pub wal: Wal,
+    // Where the batches end that the opening found.
+    pub recovered: usize,
+    pub storage: FileStorage,
+    pub staged: Staged,
+    pub job: Job,
+    pub opening: Opening,
+}
+
+// What finding a page answers: the area and the first byte of its bytes there.
+pub enum PageFound {
+    Staged(usize),
+    Log(usize),
+    Main(usize),
+    Nothing,
+    Area,
+    Busy,
+}
+
+pub enum StageAnswer {
+    Staged,
+    Area,
+    Busy,
+    Page,
+    Staging,
+}
+
+pub struct PageStaged {
+    pub answer: StageAnswer,
+    pub pager: Pager,
+}
+
+pub enum ClearAnswer {
+    Cleared,
+    Busy,
+}
+
+pub struct StagedCleared {
+    pub answer: ClearAnswer,
+    pub pager: Pager,
+}
+
+pub enum HeaderRead {
+    Header(DbHeader),
+    Busy,
+}
+
+pub enum ModeRead {
+    Mode(AccessMode),
+    Busy,
+}
+
+pub enum ClockRead {
+    Clock(u64),
+    Busy,
+}
+
+pub enum ObserveAnswer {
+    Observed,
+    Busy,
+}
+
+pub struct ClockObserved {
+    pub answer: ObserveAnswer,
+    pub pager: Pager,
+}
+
+pub enum BatchAnswer {
+    Appended,
+    Area,
+    Short,
+    Magic,
+    Busy,
+    ReadOnly,
+    LogFull,
+    Truncated,
+    Tag,
+    Text,
+}
+
+pub struct PagerAppended {
+    pub answer: BatchAnswer,
+    pub pager: Pager,
+}
+
+// What walking the recovered batches answers: a batch's index among the frames and its frame's place.
+pub enum RecoveredFound {
+    Batch { index: usize, offset: usize },
+    Nothing,
+    Area,
+    Busy,
+}
+
+pub enum CreateAnswer {
+    Created,
+    Area,
+}
+
+// Where the answer is a refusal, the store is one without pages that writes nothing.
+pub struct PagerCreated {
+    pub answer: CreateAnswer,
+    pub pager: Pager,
+}
+
+pub enum OpenAnswer {
+    Opened,
+    Area,
+    Short,
+    Magic,
+    Version,
+    PageSize,
+    Limit,
+    MainShort,
+    PageZero,
+    ReadOnly,
+}
+
+// Where the answer is a refusal, the store is one without pages that writes nothing.
+pub struct PagerOpened {
+    pub answer: OpenAnswer,
+    pub pager: Pager,
+}
+
+pub enum FileKind {
+    Log,
+    Main,
+}
+
+// A store as it is named: its file, first byte and length (for a length store the new length, then 0), and whether a flush follows.
+pub struct Place {
+    pub file: FileKind,
+    pub at: usize,
+    pub len: usize,
+    pub flush: bool,
+}
+
+// What a next step answers: Last has the answer of the commit or fold besides.
+pub enum StepAnswer {
+    Idle,
+    Area,
+    Stored(Place),
+    Last(Place, usize),
+}
+
+pub struct Stepped {
+    pub answer: StepAnswer,
+    pub pager: Pager,
+}
+
+// What starting a commit answers.
+pub enum CommitStart {
+    Begun,
+    Area,
+    Busy,
+    ReadOnly,
+    NewHeader,
+    Joining(usize),
+    LogFull,
+}
+
+pub struct CommitStarted {
+    pub answer: CommitStart,
+    pub pager: Pager,
+}
+
+// What starting a fold answers; Nothing has no store to do.
+pub enum CheckpointStart {
+    Begun,
+    Nothing,
+    Area,
+    Busy,
+    ReadOnly,
+}
+
+pub struct CheckpointStarted {
+    pub answer: CheckpointStart,
+    pub pager: Pager,
+}
+
+// What a commit in one call answers: the number of differing pages.
+pub enum CommitAnswer {
+    Committed(usize),
+    Area,
+    Busy,
+    ReadOnly,
+    NewHeader,
+    Joining(usize),
+    LogFull,
+}
+
+pub struct Committed {
+    pub answer: CommitAnswer,
+    pub pager: Pager,
+}
+
+// What a fold in one call answers: the number of pages written.
+pub enum CheckpointAnswer {
+    Written(usize),
+    Area,
+    Busy,
+    ReadOnly,
+}
+
+pub struct Checkpointed {
+    pub answer: CheckpointAnswer,
+    pub pager: Pager,
+}
+
+// Whether a commit or fold is part done.
+pub fn is_busy(job: Job) -> bool
+    ensures { λ r. ⌜ r ≡ busyWith job ⌝ }
+{
+    match job {
+        Job::Idle => false,
+        Job::Commit {
+            header: _,
+            salt: _,
+            page: _,
+            answer: _,
+        } => true,
+        Job::Fold {
+            salt: _,
+            page: _,
+            answer: _,
+        } => true,
+        Job::MainLength { salt: _, answer: _ } => true,
+        Job::LogLength { salt: _, answer: _ } => true,
+        Job::LogHeader { salt: _, answer: _ } => true,
+    }
+}
+
+// Whether the store writes nothing.
+pub fn is_read_only(opening: Opening) -> bool
+    ensures { λ r. ⌜ r ≡ readOnlyBy opening ⌝ }
+{
+    match opening {
+        Opening::Clean => false,
+        Opening::Plain => false,
+        Opening::ReadOnly => true,
+        Opening::NoLog => true,
+    }
+}
+
+fn in_area(area: usize, size: usize, len: usize) -> bool
+    ensures { λ r. ⌜ r ≡ both (eqb area size) (leb len size) ⌝ }
+{
+    if area != size {
+        return false;
+    }
+    len <= size
+}
+
+// Whether the lent areas have the pager's lengths, and the store's own lengths lie inside them.
+pub fn is_fine(pager: Pager, table: usize, log: usize, main: usize) -> bool
+    ensures { λ r. ⌜ r ≡ fineBy pager table log main ⌝ }
+{
+    if table != PAGES {
+        return false;
+    }
+    let wal = pager.wal;
+    if !in_area(log, WAL_AREA, wal.len) {
+        return false;
+    }
+    let storage = pager.storage;
+    if !in_area(main, MAIN_AREA, storage.len) {
+        return false;
+    }
+    let header = pager.current_header;
+    header.page_count <= PAGES as u32
+}
+
+// The same, with the staging area's length.
+pub fn are_fine(pager: Pager, table: usize, log: usize, main: usize, staging: usize) -> bool
+    ensures { λ r. ⌜ r ≡ both (fineBy pager table log main) (eqb staging 262144) ⌝ }
+{
+    if !is_fine(pager, table, log, main) {
+        return false;
+    }
+    staging == STAGING_AREA
+}
+
+fn wide(x: u16) -> usize
+    ensures { λ r. ⌜ r ≡ x ⌝ }
+{
+    x as usize
+}
+
+fn widen(x: u32) -> usize
+    ensures { λ r. ⌜ r ≡ x ⌝ }
+{
+    x as usize
+}
+
+// The index of the first p among the first n, or their number.
+fn find_in(s: &[u16], n: usize, p: usize) -> usize
+    ensures { λ r. ⌜ r ≡ findIn (take n (now (s .entry))) p ⌝ }
+{
+    let mut i = 0;
+    while i < s.len() {
+        if n <= i {
+            return i;
+        }
+        if wide(s[i]) == p {
+            return i;
+        }
+        i += 1;
+    }
+    i
+}
+
+// The slot that has the page, else the next free one.
+pub fn slot_of(staged: Staged, page: usize) -> usize
+    ensures { λ r. ⌜ r ≡ slotOf staged page ⌝ }
+{
+    let n = staged.count;
+    find_in(&staged.pages, n, page)
+}
+
+pub fn is_staged(staged: Staged, page: usize) -> bool
+    ensures { λ r. ⌜ r ≡ isStaged staged page ⌝ }
+{
+    let i = slot_of(staged, page);
+    let n = staged.count;
+    if n < STAGED_PAGES {
+        i < n
+    } else {
+        i < STAGED_PAGES
+    }
+}
+
+// A page's length from a place on, or what there is of it.
+pub fn page_from(area: &[u8], at: usize) -> &[u8]
+    ensures { λ r. ⌜ now r ≡ pageFrom at (now (area .entry)) ⌝ }
+{
+    le::part(area, at, PAGE_SIZE)
+}
+
+// Where the log has a page; 0 if it does not.
+pub fn frame_of(table: &[u32], page: usize) -> usize
+    ensures { λ r. ⌜ r ≡ frameOf (now (table .entry)) page ⌝ }
+{
+    if table.len() <= page {
+        return 0;
+    }
+    let entry = table[page];
+    widen(entry) / 2
+}
+
+// Whether the main file has a page.
+pub fn on_main(table: &[u32], page: usize) -> bool
+    ensures { λ r. ⌜ r ≡ onMain (now (table .entry)) page ⌝ }
+{
+    if table.len() <= page {
+        return false;
+    }
+    let entry = table[page];
+    entry % 2 == 1
+}
+
+// The store with another log and the next job.
+pub fn with_wal(pager: Pager, wal: Wal, job: Job) -> Pager
+    ensures { λ r. ⌜ r ≡ withJob (withWal pager wal) job ⌝ }
+{
+    let current_header = pager.current_header;
+    let storage = pager.storage;
+    let staged = pager.staged;
+    let opening = pager.opening;
+    Pager {
+        current_header,
+        wal,
+        recovered: pager.recovered,
+        storage,
+        staged,
+        job,
+        opening,
+    }
+}
