@@ -1,0 +1,3 @@
+-- The root of the proofs of `pager`.
+pub mod Steps
+pub mod Whole

@@ -1,0 +1,86 @@
+-- A step of a commit or of a fold is the step; what the loop over steps keeps.
+use mathlib.Core.Path.{_≡_, refl, sym, ap, _∙_}
+use mathlib.Core.Bool.{Bool, true, false}
+use mathlib.Core.List.{List, [], _++_, append-nil}
+use Prim.Native.Nat.{ℕ, suc, _+_, _-_, _<_}
+use native.Mathlib.Omega.{arith}
+use Rattle.le.specs.Choice.{pick, both}
+use Rattle.le.proofs.Compare.{no-test}
+use Rattle.header.specs.declared.DbHeader.{DbHeader}
+use Rattle.pager_state.specs.World.{World, fine, stagingFine, busyWith}
+use Rattle.pager_state.specs.Fold.{foldTodo, foldAdvance}
+use Rattle.pager_state.specs.Commit.{commitTodo, commitAdvance}
+use Rattle.pager_state.specs.Steps.{stepFine, todo, advance, named, done, answerOf, stepAnswer, stepped, steps}
+use Rattle.pager_state.specs.declared.Job.{Job}
+use Rattle.pager_state.specs.declared.Job.the-variants as job
+use Rattle.pager_state.specs.declared.StepAnswer.the-variants as step
+use Rattle.pager_state.proofs.Begun.{not-busy}
+use Rattle.pager_state.proofs.Runs.{idle-stays}
+use Rattle.pager_fold.specs.FoldStep.{foldAnswer, foldStepped}
+use Rattle.pager_commit.specs.CommitStep.{commitStepAnswer, commitStepped}
+use Rattle.pager.specs.Jobs.{isCommit}
+
+-- ---- which stores are left
+
+module _ (g : List ℕ) (w : World) where
+  fold-none : (j : Job) → isCommit j ≡ true → foldTodo j w ≡ []
+  unfolding foldTodo
+  fold-none job.Idle e = no-test e
+  fold-none (job.Commit h salt page answer) e = refl
+  fold-none (job.Fold salt page answer) e = no-test e
+  fold-none (job.MainLength salt answer) e = no-test e
+  fold-none (job.LogLength salt answer) e = no-test e
+  fold-none (job.LogHeader salt answer) e = no-test e
+
+  fold-still : (j : Job) (v : World) → isCommit j ≡ true → foldAdvance j v ≡ v
+  unfolding foldAdvance
+  fold-still job.Idle v e = no-test e
+  fold-still (job.Commit h salt page answer) v e = refl
+  fold-still (job.Fold salt page answer) v e = no-test e
+  fold-still (job.MainLength salt answer) v e = no-test e
+  fold-still (job.LogLength salt answer) v e = no-test e
+  fold-still (job.LogHeader salt answer) v e = no-test e
+
+  commit-none : (j : Job) → isCommit j ≡ false → (commitTodo g j w ≡ []) × (commitAdvance g j w ≡ w)
+  unfolding commitTodo commitAdvance
+  commit-none job.Idle e = (refl, refl)
+  commit-none (job.Commit h salt page answer) e = no-test (sym e)
+  commit-none (job.Fold salt page answer) e = (refl, refl)
+  commit-none (job.MainLength salt answer) e = (refl, refl)
+  commit-none (job.LogLength salt answer) e = (refl, refl)
+  commit-none (job.LogHeader salt answer) e = (refl, refl)
+
+  pub by-commit : isCommit (w .pager .job) ≡ true → (commitStepAnswer g w ≡ stepAnswer g w) × (commitStepped g w ≡ stepped g w)
+  unfolding commitStepAnswer commitStepped stepAnswer stepped todo advance
+  by-commit e =
+      let n = fold-none (w .pager .job) e in
+      let s = fold-still (w .pager .job) (commitAdvance g (w .pager .job) w) e in
+      (rw (n, append-nil), rw (n, append-nil, s))
+
+  pub by-fold : stepFine g w ≡ true → isCommit (w .pager .job) ≡ false → (foldAnswer w ≡ stepAnswer g w) × (foldStepped w ≡ stepped g w)
+  unfolding foldAnswer foldStepped stepAnswer stepped todo advance
+  by-fold f e =
+      let n = commit-none (w .pager .job) e in
+      let b = both-first (fine w) (stagingFine g) f in
+      (rw (f, b, n .0), rw (f, b, n .0, n .1))
+    where
+      both-first : (a b : Bool) → both a b ≡ true → a ≡ true
+      both-first true b e = refl
+      both-first false b e = no-test e
+
+  pub no-step : stepFine g w ≡ false → (step.Area ≡ stepAnswer g w) × (w ≡ stepped g w)
+  unfolding stepAnswer stepped
+  no-step f = (rw f, rw f)
+
+-- ---- the loop
+
+-- one step of those that are left
+pub one-more : (g : List ℕ) (k : ℕ) (w v : World) → k < 2200 → v ≡ stepped g w → steps g (2200 - k) w ≡ steps g (2200 - (k + 1)) v
+unfolding steps
+one-more g k w v h e =
+    let n : 2200 - k ≡ suc (2200 - (k + 1)) = omega arith in
+    rw (n, e)
+
+-- nothing is part done
+pub at-rest : (g : List ℕ) (k : ℕ) (w : World) → busyWith (w .pager .job) ≡ false → w ≡ steps g k w
+at-rest g k w e = sym (idle-stays g k w (not-busy (w .pager .job) e))

@@ -1,0 +1,75 @@
+-- A commit or fold in one call: what its start comes to, refused or run to the end.
+use mathlib.Core.Path.{_≡_, refl, sym, ap, _∙_}
+use mathlib.Core.Bool.{Bool, true, false}
+use mathlib.Core.List.{List}
+use Prim.Native.Nat.{ℕ}
+use Rattle.le.proofs.Compare.{no-test}
+use Rattle.header.specs.declared.DbHeader.{DbHeader}
+use Rattle.pager_state.specs.World.{World}
+use Rattle.pager_state.specs.Steps.{commitStart, isBegun, beginCommit, checkpointStart, isFolding, beginCheckpoint, answerOf, steps, onStore, committedAs, commitAnswer, commitWorld, writtenAs, checkpointAnswer, checkpointWorld}
+use Rattle.pager_state.specs.declared.CommitStart.{CommitStart}
+use Rattle.pager_state.specs.declared.CommitStart.the-variants as commit
+use Rattle.pager_state.specs.declared.CommitStarted.{CommitStarted}
+use Rattle.pager_state.specs.declared.CommitAnswer.{CommitAnswer}
+use Rattle.pager_state.specs.declared.CheckpointStart.{CheckpointStart}
+use Rattle.pager_state.specs.declared.CheckpointStart.the-variants as checkpoint
+use Rattle.pager_state.specs.declared.CheckpointStarted.{CheckpointStarted}
+use Rattle.pager_state.specs.declared.CheckpointAnswer.{CheckpointAnswer}
+use Rattle.pager_state.proofs.Answers.{commit-answer, checkpoint-answer}
+
+-- a start that is not begun comes to the same with any number
+refused-alike : (a : CommitStart) (m n : ℕ) → isBegun a ≡ false → committedAs a m ≡ committedAs a n
+refused-alike commit.Begun m n e = no-test (sym e)
+refused-alike commit.Area m n e = refl
+refused-alike commit.Busy m n e = refl
+refused-alike commit.ReadOnly m n e = refl
+refused-alike commit.NewHeader m n e = refl
+refused-alike (commit.Joining p) m n e = refl
+refused-alike commit.LogFull m n e = refl
+
+module _ (g : List ℕ) (w : World) (h : DbHeader) (salt : ℕ) {b : CommitStarted} (k : b ≡ beginCommit g w h salt) where
+  start-is : b .answer ≡ commitStart g w h
+  unfolding beginCommit
+  start-is = ap (λ (x : CommitStarted). x .answer) k
+
+  pub commit-refused : {r : CommitAnswer} → isBegun (b .answer) ≡ false → r ≡ committedAs (b .answer) 0
+      → (r ≡ commitAnswer g w h) × (onStore w (b .pager) ≡ commitWorld g w h salt)
+  unfolding commitAnswer commitWorld beginCommit
+  commit-refused e f =
+      let n : isBegun (commitStart g w h) ≡ false = sym (ap isBegun start-is) ∙ e in
+      (f ∙ rw start-is (refused-alike (commitStart g w h) 0 _ n), rw k (rw n))
+
+  pub commit-run : {r : CommitAnswer} {m : ℕ} {v : World} → isBegun (b .answer) ≡ true → m ≡ answerOf (b .pager .job) → r ≡ committedAs (b .answer) m
+      → v ≡ steps g 2200 (onStore w (b .pager)) → (r ≡ commitAnswer g w h) × (v ≡ commitWorld g w h salt)
+  unfolding commitAnswer commitWorld
+  commit-run e a f s =
+      let n : isBegun (commitStart g w h) ≡ true = sym (ap isBegun start-is) ∙ e in
+      let d = a ∙ ap (λ (x : CommitStarted). answerOf (x .pager .job)) k ∙ commit-answer g w h salt n in
+      (f ∙ rw (start-is, d), s ∙ rw (k, n))
+
+written-alike : (a : CheckpointStart) (m n : ℕ) → isFolding a ≡ false → writtenAs a m ≡ writtenAs a n
+written-alike checkpoint.Begun m n e = no-test (sym e)
+written-alike checkpoint.Nothing m n e = refl
+written-alike checkpoint.Area m n e = refl
+written-alike checkpoint.Busy m n e = refl
+written-alike checkpoint.ReadOnly m n e = refl
+
+module _ (g : List ℕ) (w : World) (salt : ℕ) {b : CheckpointStarted} (k : b ≡ beginCheckpoint g w salt) where
+  fold-is : b .answer ≡ checkpointStart g w
+  unfolding beginCheckpoint
+  fold-is = ap (λ (x : CheckpointStarted). x .answer) k
+
+  pub fold-refused : {r : CheckpointAnswer} → isFolding (b .answer) ≡ false → r ≡ writtenAs (b .answer) 0
+      → (r ≡ checkpointAnswer g w) × (onStore w (b .pager) ≡ checkpointWorld g w salt)
+  unfolding checkpointAnswer checkpointWorld beginCheckpoint
+  fold-refused e f =
+      let n : isFolding (checkpointStart g w) ≡ false = sym (ap isFolding fold-is) ∙ e in
+      (f ∙ rw fold-is (written-alike (checkpointStart g w) 0 _ n), rw k (rw n))
+
+  pub fold-run : {r : CheckpointAnswer} {m : ℕ} {v : World} → isFolding (b .answer) ≡ true → m ≡ answerOf (b .pager .job) → r ≡ writtenAs (b .answer) m
+      → v ≡ steps g 2200 (onStore w (b .pager)) → (r ≡ checkpointAnswer g w) × (v ≡ checkpointWorld g w salt)
+  unfolding checkpointAnswer checkpointWorld
+  fold-run e a f s =
+      let n : isFolding (checkpointStart g w) ≡ true = sym (ap isFolding fold-is) ∙ e in
+      let d = a ∙ ap (λ (x : CheckpointStarted). answerOf (x .pager .job)) k ∙ checkpoint-answer g w salt n in
+      (f ∙ rw (fold-is, d), s ∙ rw (k, n))

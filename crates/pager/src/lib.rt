@@ -1,0 +1,230 @@
+// Commit and fold of the store: the next step, and either in one call, its steps run to the end.
+// A step does one store and names it, for a host to carry to the disk. Every public function is total.
+ghost use mathlib.Core.Path.{_≡_};
+ghost use mathlib.Core.Bool.{true};
+ghost use Rattle.pager_state.specs.World.{world};
+ghost use Rattle.pager_state.specs.Steps.{isBegun, isFolding, answerOf, stepAnswer, stepped, steps, committedAs, commitAnswer, commitWorld, writtenAs, checkpointAnswer, checkpointWorld};
+ghost use Rattle.pager.specs.Jobs.{isCommit};
+use header::DbHeader;
+use pager_state::CheckpointAnswer;
+use pager_state::CheckpointStart;
+use pager_state::Checkpointed;
+use pager_state::CommitAnswer;
+use pager_state::CommitStart;
+use pager_state::Committed;
+use pager_state::Job;
+use pager_state::Pager;
+use pager_state::StepAnswer;
+use pager_state::Stepped;
+
+// More steps than any commit or fold has.
+const MOST_STEPS: usize = 2_200;
+
+// Whether what is part done is a commit that has not sealed yet.
+fn is_commit(job: Job) -> bool
+    ensures { λ r. ⌜ r ≡ isCommit job ⌝ }
+{
+    match job {
+        Job::Idle => false,
+        Job::Commit {
+            header: _,
+            salt: _,
+            page: _,
+            answer: _,
+        } => true,
+        Job::Fold {
+            salt: _,
+            page: _,
+            answer: _,
+        } => false,
+        Job::MainLength { salt: _, answer: _ } => false,
+        Job::LogLength { salt: _, answer: _ } => false,
+        Job::LogHeader { salt: _, answer: _ } => false,
+    }
+}
+
+// Does the next store of the commit or fold that is part done, and no other.
+pub fn next_step<'a>(
+    pager: Pager,
+    table: &mut [u32],
+    log: &mut [u8],
+    main: &mut [u8],
+    staging: &'a [u8],
+) -> Stepped
+    ensures { λ r. ⌜ r .answer ≡ stepAnswer (now (staging .entry)) (world pager (now (table .entry)) (now (log .entry)) (now (main .entry))) ⌝ }
+    ensures { λ r. ⌜ world (r .pager) (now (table .exit)) (now (log .exit)) (now (main .exit)) ≡ stepped (now (staging .entry)) (world pager (now (table .entry)) (now (log .entry)) (now (main .entry))) ⌝ }
+{
+    if !pager_state::are_fine(pager, table.len(), log.len(), main.len(), staging.len()) {
+        return Stepped {
+            answer: StepAnswer::Area,
+            pager,
+        };
+    }
+    let job = pager.job;
+    if is_commit(job) {
+        return pager_commit::commit_step(pager, table, log, main, staging);
+    }
+    pager_fold::fold_step(pager, table, log, main)
+}
+
+// Runs the steps to the end.
+fn run_steps<'a>(
+    pager: Pager,
+    table: &mut [u32],
+    log: &mut [u8],
+    main: &mut [u8],
+    staging: &'a [u8],
+) -> Pager
+    ensures { λ r. ⌜ world r (now (table .exit)) (now (log .exit)) (now (main .exit)) ≡ steps (now (staging .entry)) 2200 (world pager (now (table .entry)) (now (log .entry)) (now (main .entry))) ⌝ }
+{
+    let mut p = pager;
+    let mut k: usize = 0;
+    while k < MOST_STEPS {
+        let job = p.job;
+        if !pager_state::is_busy(job) {
+            return p;
+        }
+        let r = next_step(p, table, log, main, staging);
+        p = r.pager;
+        k += 1;
+    }
+    p
+}
+
+// The answer that the last store gives.
+fn answer_of(job: Job) -> usize
+    ensures { λ r. ⌜ r ≡ answerOf job ⌝ }
+{
+    match job {
+        Job::Idle => 0,
+        Job::Commit {
+            header: _,
+            salt: _,
+            page: _,
+            answer,
+        } => answer,
+        Job::Fold {
+            salt: _,
+            page: _,
+            answer,
+        } => answer,
+        Job::MainLength { salt: _, answer } => answer,
+        Job::LogLength { salt: _, answer } => answer,
+        Job::LogHeader { salt: _, answer } => answer,
+    }
+}
+
+fn is_begun(answer: CommitStart) -> bool
+    ensures { λ r. ⌜ r ≡ isBegun answer ⌝ }
+{
+    match answer {
+        CommitStart::Begun => true,
+        CommitStart::Area => false,
+        CommitStart::Busy => false,
+        CommitStart::ReadOnly => false,
+        CommitStart::NewHeader => false,
+        CommitStart::Joining(_) => false,
+        CommitStart::LogFull => false,
+    }
+}
+
+// What the start of a commit comes to in one call.
+fn committed_as(answer: CommitStart, pages: usize) -> CommitAnswer
+    ensures { λ r. ⌜ r ≡ committedAs answer pages ⌝ }
+{
+    match answer {
+        CommitStart::Begun => CommitAnswer::Committed(pages),
+        CommitStart::Area => CommitAnswer::Area,
+        CommitStart::Busy => CommitAnswer::Busy,
+        CommitStart::ReadOnly => CommitAnswer::ReadOnly,
+        CommitStart::NewHeader => CommitAnswer::NewHeader,
+        CommitStart::Joining(page) => CommitAnswer::Joining(page),
+        CommitStart::LogFull => CommitAnswer::LogFull,
+    }
+}
+
+// A commit in one call.
+pub fn commit<'a>(
+    pager: Pager,
+    table: &mut [u32],
+    log: &mut [u8],
+    main: &mut [u8],
+    staging: &'a [u8],
+    new_header: DbHeader,
+    salt: u32,
+) -> Committed
+    ensures { λ r. ⌜ r .answer ≡ commitAnswer (now (staging .entry)) (world pager (now (table .entry)) (now (log .entry)) (now (main .entry))) «new_header» ⌝ }
+    ensures { λ r. ⌜ world (r .pager) (now (table .exit)) (now (log .exit)) (now (main .exit)) ≡ commitWorld (now (staging .entry)) (world pager (now (table .entry)) (now (log .entry)) (now (main .entry))) «new_header» salt ⌝ }
+{
+    let begun = pager_commit::begin_commit(pager, table, log, main, staging, new_header, salt);
+    let start = begun.answer;
+    let store = begun.pager;
+    if !is_begun(start) {
+        return Committed {
+            answer: committed_as(start, 0),
+            pager: store,
+        };
+    }
+    let job = store.job;
+    let pages = answer_of(job);
+    let end = run_steps(store, table, log, main, staging);
+    Committed {
+        answer: committed_as(start, pages),
+        pager: end,
+    }
+}
+
+fn is_folding(answer: CheckpointStart) -> bool
+    ensures { λ r. ⌜ r ≡ isFolding answer ⌝ }
+{
+    match answer {
+        CheckpointStart::Begun => true,
+        CheckpointStart::Nothing => false,
+        CheckpointStart::Area => false,
+        CheckpointStart::Busy => false,
+        CheckpointStart::ReadOnly => false,
+    }
+}
+
+// What the start of a fold comes to in one call.
+fn written_as(answer: CheckpointStart, pages: usize) -> CheckpointAnswer
+    ensures { λ r. ⌜ r ≡ writtenAs answer pages ⌝ }
+{
+    match answer {
+        CheckpointStart::Begun => CheckpointAnswer::Written(pages),
+        CheckpointStart::Nothing => CheckpointAnswer::Written(0),
+        CheckpointStart::Area => CheckpointAnswer::Area,
+        CheckpointStart::Busy => CheckpointAnswer::Busy,
+        CheckpointStart::ReadOnly => CheckpointAnswer::ReadOnly,
+    }
+}
+
+// A fold in one call.
+pub fn checkpoint<'a>(
+    pager: Pager,
+    table: &mut [u32],
+    log: &mut [u8],
+    main: &mut [u8],
+    staging: &'a [u8],
+    salt: u32,
+) -> Checkpointed
+    ensures { λ r. ⌜ r .answer ≡ checkpointAnswer (now (staging .entry)) (world pager (now (table .entry)) (now (log .entry)) (now (main .entry))) ⌝ }
+    ensures { λ r. ⌜ world (r .pager) (now (table .exit)) (now (log .exit)) (now (main .exit)) ≡ checkpointWorld (now (staging .entry)) (world pager (now (table .entry)) (now (log .entry)) (now (main .entry))) salt ⌝ }
+{
+    let begun = pager_fold::begin_checkpoint(pager, table, log, main, staging, salt);
+    let start = begun.answer;
+    let store = begun.pager;
+    if !is_folding(start) {
+        return Checkpointed {
+            answer: written_as(start, 0),
+            pager: store,
+        };
+    }
+    let job = store.job;
+    let pages = answer_of(job);
+    let end = run_steps(store, table, log, main, staging);
+    Checkpointed {
+        answer: written_as(start, pages),
+        pager: end,
+    }
+}

@@ -1,0 +1,237 @@
+-- A commit's steps, way by way, from what the code stored. Assumes nothing.
+use mathlib.Core.Path.{_≡_, refl, sym, ap, _∙_}
+use mathlib.Core.Bool.{Bool, true, false}
+use mathlib.Core.List.{List, [], _∷_, _++_}
+use mathlib.Core.Logic.{_⊎_, ⊎-elim}
+use Prim.Native.Nat.{ℕ, suc, _+_, _-_, _*_, _≤_, _<_}
+use native.Mathlib.Numerals.{add-one}
+use native.Mathlib.Omega.{arith}
+use borrow.Author.Tests.{eq-eqb, ne-eqb, le-leb, lt-leb, leb-true}
+use denote.Enum.Declared.{tagOf}
+use lib.Dec.{leb}
+use lib.ListN.{length, take, drop, length-take, length-drop}
+use lib.Seq.{drop-drop}
+use Rattle.le.specs.Choice.{pick, both}
+use Rattle.le.specs.Le.{put, store}
+use Rattle.le.proofs.Stores.{part-put, put-over, length-put}
+use Rattle.header.specs.Header.{encodeHeader, encodeAfter}
+use Rattle.header.specs.declared.DbHeader.{DbHeader}
+use Rattle.header.proofs.Encoding.{length-encodeHeader}
+use Rattle.frame.specs.Frame.{encodeFrame, frameAt, bodyOf}
+use Rattle.frame.proofs.Places.{body-there}
+use Rattle.frame.proofs.Stores.{length-encodeFrame}
+use Rattle.wal.specs.Write.{withFrame, hasRoom, appendAnswer, appendAfter, inPlaceAnswer, inPlaceAfter}
+use Rattle.wal.specs.declared.Wal.{Wal}
+use Rattle.wal.specs.declared.FrameAppended.{FrameAppended}
+use Rattle.wal.specs.declared.FrameAppended.the-variants as appended
+use Rattle.wal.proofs.FrameAppended as F
+use Rattle.wal.proofs.Writing.{frame-done, frame-full, place-done}
+use Rattle.pager_state.specs.World.{World, world, countOf, busyWith, withJob, withWal}
+use Rattle.pager_state.specs.Overlay.{pageFrom, slotOf, stagedBytes, frameOf, inLog, onMain, logBytes}
+use Rattle.pager_state.specs.Stores.{Act, Put, Sealed, Other, placeOf, inside, diskOf, putFile}
+use Rattle.pager_state.specs.Pages.{pagesFrom, differs}
+use Rattle.pager_state.specs.Fold.{foldTodo, pagesTodo}
+use Rattle.pager_state.specs.Commit.{saltOf, entered, frameAct, framed, sealAct, jobAfter, sealedPager, sealedWorld, framesTodo, framesAdvance}
+use Rattle.pager_state.specs.Steps.{namedBy, named, done}
+use Rattle.pager_state.specs.declared.FileKind.the-variants as file
+use Rattle.pager_state.specs.declared.Job.{Job}
+use Rattle.pager_state.specs.declared.Job.the-variants as job
+use Rattle.pager_state.specs.declared.Pager.{Pager}
+use Rattle.pager_state.specs.declared.StepAnswer.{StepAnswer}
+use Rattle.pager_state.specs.declared.StepAnswer.the-variants as step
+use Rattle.pager_state.proofs.Stored.{put-end}
+use Rattle.pager_commit.specs.CommitStep.{committedIn, sealedWith, framePut, sealPut}
+
+-- ---- the bytes that a page was committed with
+
+module _ (t l m : List ℕ) (n : ℕ) {at : ℕ} (f : at ≡ frameOf t n) where
+  pub body-of-page : {bs : List ℕ} → (at ≡ 0 → ⊥) → bs ≡ bodyOf (frameAt at l) → bs ≡ committedIn t l m n
+  unfolding committedIn inLog logBytes
+  body-of-page a e = e ∙ rw (f, ne-eqb (frameOf t n) 0 (λ z. a (f ∙ z))) (body-there (frameOf t n) l)
+
+  pub main-of-page : {bs : List ℕ} → at ≡ 0 → onMain t n ≡ true → bs ≡ pageFrom (4096 * n) m → bs ≡ committedIn t l m n
+  unfolding committedIn inLog
+  main-of-page a o e = e ∙ rw (eq-eqb (frameOf t n) 0 (sym f ∙ a), o)
+
+  pub no-page : at ≡ 0 → onMain t n ≡ false → [] ≡ committedIn t l m n
+  unfolding committedIn inLog
+  no-page a o = rw (eq-eqb (frameOf t n) 0 (sym f ∙ a), o)
+
+-- ---- storing a frame
+
+-- a slot holds a page
+pub body-size : (g : List ℕ) (index : ℕ) → length g ≡ 262144 → index < 64 → length (pageFrom (4096 * index) g) ≡ 4096
+body-size g index n h = simp (length-take, length-drop) (omega arith)
+
+module _ (l : List ℕ) (v : Wal) (q : ℕ) (body : List ℕ) (n : length l ≡ 4210720) (b : length body ≡ 4096) (h : v .len ≤ 4210720)
+    (s : q < 1024) where
+  -- what appending a page's frame leaves, by whether there is room for it
+  pub appended-as : (r : Bool) → hasRoom v ≡ r
+      → (appendAnswer l v q body 0 ≡ pick r (appended.Appended (withFrame v 0)) appended.LogFull) × (appendAfter l v q body 0 ≡ pick r (framePut l v q body) l)
+  appended-as true e = frame-done l v q body 0 b (λ (z : q ≡ 4294967295). omega (arith, z)) n (leb-true _ _ e)
+  appended-as false e = frame-full l v q body 0 b n h (borrow.Author.Tests.leb-false _ _ e)
+
+-- a frame that was not appended had no room
+pub no-room : (r : FrameAppended) (v : Wal) (o : Bool) → r ≡ pick o (appended.Appended v) appended.LogFull → (tagOf F.the-type r ≡ 1) ⊎ (tagOf F.the-type r ≡ 2)
+    → o ≡ false
+no-room r v true e k = let z : tagOf F.the-type r ≡ 0 = ap (tagOf F.the-type) e in ⊎-elim (λ (n : tagOf F.the-type r ≡ 1). absurd (omega arith)) (λ (n : tagOf F.the-type r ≡ 2). absurd (omega arith)) k
+no-room r v false e k = refl
+
+pub has-room : (r : FrameAppended) (u v : Wal) (o : Bool) → r ≡ pick o (appended.Appended v) appended.LogFull → r ≡ appended.Appended u → (o ≡ true) × (u ≡ v)
+has-room r u v true e f = (refl, cc)
+has-room r u v false e f = absurd (let z : _≡_ {A = ℕ} 0 1 = cc in omega arith)
+
+-- the header's page written behind the heading's place, then the heading around it
+module _ (l : List ℕ) (v : Wal) (h : DbHeader) (n : length l ≡ 4210720) (k : v .len + 4112 ≤ 4210720) where
+  seal-placed : {m : List ℕ} → m ≡ put l (v .len + 16) (encodeHeader h)
+      → (inPlaceAnswer m v 0 (countOf h) ≡ appended.Appended (withFrame v (countOf h))) × (inPlaceAfter m v 0 (countOf h) ≡ sealPut l v h)
+  seal-placed {m} e =
+      let z : length (encodeHeader h) ≡ 4096 = length-encodeHeader h in
+      let f : v .len + 16 + length (encodeHeader h) ≤ length l = rw (z, n) (omega arith) in
+      let c : length m ≡ 4210720 = rw e (length-put l (v .len + 16) (encodeHeader h) f ∙ n) in
+      let d = place-done m v 0 (countOf h) c k (λ (z : _≡_ {A = ℕ} 0 4294967295). omega (arith, z)) in
+      let b : bodyOf (frameAt (v .len) m) ≡ encodeHeader h =
+      rw (body-there (v .len) m, e) (part-put 4096 l (v .len + 16) (encodeHeader h) z (omega arith)) in
+      let y : length (encodeFrame 0 (countOf h) (v .header .salt) (encodeHeader h)) ≡ 4112 = length-encodeFrame 0 (countOf h) (v .header .salt) (encodeHeader h) z in
+      let o : v .len + 16 + length (encodeHeader h) ≤ v .len + length (encodeFrame 0 (countOf h) (v .header .salt) (encodeHeader h)) = rw (y, z) (omega arith) in (
+        d .0,
+        d .1 ∙ rw (b, e) (put-over l (v .len + 16) (v .len) (encodeHeader h) (encodeFrame 0 (countOf h) (v .header .salt) (encodeHeader h)) (omega arith) o (omega arith)),
+      )
+
+  -- m bytes of the log were lent to the header, and put back where they lay
+  lent : (m : ℕ) {x : List ℕ} → m ≡ 4096 → x ≡ encodeAfter h (take m (drop (v .len + 16) l)) → x ≡ encodeHeader h
+  lent m e f =
+      let t : length (take m (drop (v .len + 16) l)) ≡ 4096 = simp (length-take, length-drop) (omega arith) in
+      f ∙ rw (eq-eqb (length (take m (drop (v .len + 16) l))) 4096 t)
+
+  put-back : (m : ℕ) → m ≡ 4096 → take (v .len + 16) l ++ (encodeHeader h ++ drop m (drop (v .len + 16) l)) ≡ put l (v .len + 16) (encodeHeader h)
+  unfolding put
+  put-back m e = rw (length-encodeHeader h, ← e, drop-drop)
+
+  pub seal-stored : (m : ℕ) {x y : List ℕ} {r : FrameAppended} → m ≡ 4096 → x ≡ encodeAfter h (take m (drop (v .len + 16) l))
+      → r ≡ inPlaceAnswer (take (v .len + 16) l ++ (x ++ drop m (drop (v .len + 16) l))) v 0 (countOf h)
+      → y ≡ inPlaceAfter (take (v .len + 16) l ++ (x ++ drop m (drop (v .len + 16) l))) v 0 (countOf h)
+      → (r ≡ pick (hasRoom v) (appended.Appended (withFrame v (countOf h))) appended.LogFull) × (y ≡ pick (hasRoom v) (sealPut l v h) l)
+  seal-stored m {x} {y} {r} e f a b =
+      let p = seal-placed (put-back m e) in
+      let z : x ≡ encodeHeader h = lent m e f in
+      (a ∙ rw (z, le-leb _ _ k) (p .0), b ∙ rw (z, le-leb _ _ k) (p .1))
+
+-- ---- a page's frame
+
+-- behind a frame there is always a store
+more-frames : (n : ℕ) (a : Act) (g : List ℕ) (h : DbHeader) (salt answer : ℕ) (l : List ℕ) (v : World)
+    → namedBy n a (framesTodo g h salt answer l v) ≡ step.Stored (placeOf a)
+unfolding framesTodo
+more-frames n a g h salt answer [] v = refl
+more-frames n a g h salt answer (x ∷ xs) v = refl
+
+module _ (g : List ℕ) (h : DbHeader) (salt answer p : ℕ) (w : World) (q index : ℕ) (e : pagesFrom (differs g w) p ≡ q ∷ pagesFrom (differs g w) (suc q))
+    (i : index ≡ slotOf (w .pager .staged) q) (b : index < 64) (n : length g ≡ 262144) where
+  abbrev body : List ℕ
+  body = pageFrom (4096 * index) g
+
+  body-is : stagedBytes (w .pager .staged) g q ≡ body
+  unfolding stagedBytes
+  body-is = rw i
+
+  room-is : inside (frameAct g w q) ≡ hasRoom (w .pager .wal)
+  room-is =
+      let z : length (encodeFrame q 0 (saltOf w) body) ≡ 4112 = length-encodeFrame q 0 (saltOf w) body (body-size g index n b) in
+      rw (body-is, z)
+
+  pub frame-told : {a : StepAnswer}
+      → a ≡ pick (hasRoom (w .pager .wal)) (step.Stored (placeOf (Put Other file.Log (w .pager .wal .len) (encodeFrame q 0 (saltOf w) body) false))) step.Area
+      → a ≡ named answer (framesTodo g h salt answer (pagesFrom (differs g w) p) w)
+  unfolding framesTodo named
+  frame-told f =
+      f
+      ∙ sym
+      (ap (λ (l : List ℕ). named answer (framesTodo g h salt answer l w)) e
+      ∙ rw (room-is, more-frames answer (frameAct g w q) g h salt answer (pagesFrom (differs g w) (suc q)) (framed g h salt answer q w), body-is))
+
+  framed-by : {r : Pager} {t l : List ℕ} → r ≡ withJob (withWal (w .pager) (withFrame (w .pager .wal) 0)) (job.Commit h salt (q + 1) answer)
+      → t ≡ entered (w .table) q (w .pager .wal .len) → l ≡ framePut (w .log) (w .pager .wal) q body → world r t l (w .main) ≡ framed g h salt answer q w
+  unfolding framed
+  framed-by er et el =
+      rw (er, et, el, add-one q, put-end (diskOf w .log) (encodeFrame q 0 (saltOf w) (stagedBytes (w .pager .staged) g q)), body-is)
+
+  done-by : (o : Bool) {r : Pager} {t l : List ℕ} → r ≡ pick o (withJob (withWal (w .pager) (withFrame (w .pager .wal) 0)) (job.Commit h salt (q + 1) answer)) (w .pager)
+      → t ≡ pick o (entered (w .table) q (w .pager .wal .len)) (w .table) → l ≡ pick o (framePut (w .log) (w .pager .wal) q body) (w .log)
+      → world r t l (w .main) ≡ pick o (framed g h salt answer q w) w
+  done-by true er et el = framed-by er et el
+  done-by false er et el = rw (er, et, el)
+
+  pub frame-stepped : {r : Pager} {t l : List ℕ}
+      → r ≡ pick (hasRoom (w .pager .wal)) (withJob (withWal (w .pager) (withFrame (w .pager .wal) 0)) (job.Commit h salt (q + 1) answer)) (w .pager)
+      → t ≡ pick (hasRoom (w .pager .wal)) (entered (w .table) q (w .pager .wal .len)) (w .table)
+      → l ≡ pick (hasRoom (w .pager .wal)) (framePut (w .log) (w .pager .wal) q body) (w .log)
+      → world r t l (w .main)
+      ≡ done (framesTodo g h salt answer (pagesFrom (differs g w) p) w) (framesAdvance g h salt answer (pagesFrom (differs g w) p) w) w
+  unfolding framesTodo done
+  frame-stepped er et el =
+      done-by (hasRoom (w .pager .wal)) er et el
+      ∙ sym (ap (λ (l : List ℕ). done (framesTodo g h salt answer l w) (framesAdvance g h salt answer l w) w) e ∙ rw room-is)
+
+-- ---- the seal
+
+pages-follow : (n : ℕ) (a : Act) (salt answer : ℕ) (l : List ℕ) (v : World) → namedBy n a (pagesTodo salt answer l v) ≡ step.Stored (placeOf a)
+unfolding pagesTodo
+pages-follow n a salt answer [] v = refl
+pages-follow n a salt answer (x ∷ xs) v = refl
+
+seal-last : (a : Act) (salt answer : ℕ) (v : World) (b : Bool)
+    → pick (busyWith (pick b (job.Fold salt 0 answer) job.Idle)) (step.Stored (placeOf a)) (step.Last (placeOf a) answer)
+    ≡ namedBy answer a (foldTodo (pick b (job.Fold salt 0 answer) job.Idle) v)
+unfolding foldTodo
+seal-last a salt answer v true = sym (pages-follow answer a salt answer _ v)
+seal-last a salt answer v false = refl
+
+module _ (g : List ℕ) (h : DbHeader) (salt answer p : ℕ) (w : World) (e : pagesFrom (differs g w) p ≡ []) where
+  abbrev after : Wal
+  after = withFrame (w .pager .wal) (countOf h)
+
+  seal-room : inside (sealAct h w) ≡ hasRoom (w .pager .wal)
+  seal-room =
+      let z : length (encodeFrame 0 (countOf h) (saltOf w) (encodeHeader h)) ≡ 4112 =
+      length-encodeFrame 0 (countOf h) (saltOf w) (encodeHeader h) (length-encodeHeader h) in
+      rw z
+
+  job-is : sealedWorld h salt answer w .pager .job ≡ jobAfter after salt answer
+  unfolding sealedWorld sealedPager
+  job-is = refl
+
+  pub seal-told : {a : StepAnswer}
+      → a ≡ pick (hasRoom (w .pager .wal)) (pick (busyWith (jobAfter after salt answer)) (step.Stored (placeOf (sealAct h w))) (step.Last (placeOf (sealAct h w)) answer)) step.Area
+      → a ≡ named answer (framesTodo g h salt answer (pagesFrom (differs g w) p) w)
+  unfolding framesTodo named
+  seal-told f =
+      let v : World = sealedWorld h salt answer w in
+      let s = seal-last (sealAct h w) salt answer v (leb 100 (after .«frame_count»)) in
+      f
+      ∙ sym
+      (ap (λ (l : List ℕ). named answer (framesTodo g h salt answer l w)) e
+      ∙ ap (λ (b : Bool). pick b (namedBy answer (sealAct h w) (foldTodo (v .pager .job) v)) step.Area) seal-room
+      ∙ ap (λ (x : StepAnswer). pick (hasRoom (w .pager .wal)) x step.Area)
+      (ap (λ (j : Job). namedBy answer (sealAct h w) (foldTodo j v)) job-is ∙ sym s))
+
+  sealed-by : {r : Pager} {t l : List ℕ} → r ≡ sealedWith h salt answer after (w .pager) → t ≡ entered (w .table) 0 (w .pager .wal .len)
+      → l ≡ sealPut (w .log) (w .pager .wal) h → world r t l (w .main) ≡ sealedWorld h salt answer w
+  unfolding sealedWorld sealedPager
+  sealed-by er et el = rw (er, et, el, put-end (diskOf w .log) (encodeFrame 0 (countOf h) (saltOf w) (encodeHeader h)))
+
+  seal-by : (o : Bool) {r : Pager} {t l : List ℕ} → r ≡ pick o (sealedWith h salt answer after (w .pager)) (w .pager)
+      → t ≡ pick o (entered (w .table) 0 (w .pager .wal .len)) (w .table) → l ≡ pick o (sealPut (w .log) (w .pager .wal) h) (w .log)
+      → world r t l (w .main) ≡ pick o (sealedWorld h salt answer w) w
+  seal-by true er et el = sealed-by er et el
+  seal-by false er et el = rw (er, et, el)
+
+  pub seal-stepped : {r : Pager} {t l : List ℕ} → r ≡ pick (hasRoom (w .pager .wal)) (sealedWith h salt answer after (w .pager)) (w .pager)
+      → t ≡ pick (hasRoom (w .pager .wal)) (entered (w .table) 0 (w .pager .wal .len)) (w .table)
+      → l ≡ pick (hasRoom (w .pager .wal)) (sealPut (w .log) (w .pager .wal) h) (w .log)
+      → world r t l (w .main)
+      ≡ done (framesTodo g h salt answer (pagesFrom (differs g w) p) w) (framesAdvance g h salt answer (pagesFrom (differs g w) p) w) w
+  unfolding framesTodo done
+  seal-stepped er et el =
+      seal-by (hasRoom (w .pager .wal)) er et el
+      ∙ sym (ap (λ (l : List ℕ). done (framesTodo g h salt answer l w) (framesAdvance g h salt answer l w) w) e ∙ rw seal-room)

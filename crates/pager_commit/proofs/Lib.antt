@@ -1,0 +1,5 @@
+-- The root of the laws of a commit's steps.
+pub mod Least
+pub mod Differing
+pub mod Frames
+pub mod Starting

@@ -1,0 +1,151 @@
+-- A commit's step by the job that is part done, and the judgement of a starting call. Assumes nothing.
+use mathlib.Core.Path.{_≡_, refl, sym, ap, _∙_}
+use mathlib.Core.Bool.{Bool, true, false}
+use mathlib.Core.List.{List, [], _∷_}
+use mathlib.Core.Logic.{⊎-elim}
+use Prim.Native.Nat.{ℕ, _+_, _*_, _≤_, _<_}
+use native.Mathlib.Omega.{arith}
+use types.Run.{OneOf}
+use denote.Enum.Declared.{tagOf}
+use borrow.Author.Tests.{leb-true, lt-ltb, le-ltb, le-leb, lt-leb, eq-eqb, ne-eqb}
+use lib.Dec.{leb}
+use lib.ListN.{length}
+use Rattle.le.specs.Choice.{pick, both}
+use Rattle.le.proofs.Compare.{both-true}
+use Rattle.header.specs.Header.{isVersion}
+use Rattle.header.specs.declared.DbHeader.{DbHeader}
+use Rattle.pager_state.specs.World.{World, countOf, headerOf, fine, stagingFine, busy, readOnly, withJob, withWal}
+use Rattle.pager_state.specs.Pages.{pagesFrom, firstOf, differs, lacks}
+use Rattle.pager_state.specs.Commit.{framesTodo, framesAdvance, commitTodo, commitAdvance}
+use Rattle.pager_state.specs.Steps.{answerOf, named, done, stepFine, headerGood, differing, lacking, commitStart, isBegun, beginCommit}
+use Rattle.pager_state.specs.declared.Job.{Job}
+use Rattle.pager_state.specs.declared.Job.the-variants as job
+use Rattle.pager_state.specs.declared.Pager.{Pager}
+use Rattle.pager_state.specs.declared.StepAnswer.{StepAnswer}
+use Rattle.pager_state.specs.declared.StepAnswer.the-variants as step
+use Rattle.pager_state.specs.declared.CommitStart.{CommitStart}
+use Rattle.pager_state.specs.declared.CommitStart.the-variants as commit
+use Rattle.pager_state.proofs.Job as J
+use Rattle.pager_commit.specs.CommitStep.{commitStepAnswer, commitStepped, differsIn, startedAs}
+use Rattle.pager_commit.proofs.Differing.{differs-by}
+
+-- ---- refusal 1
+
+module _ (g : List ℕ) (w : World) where
+  pub areas-fine : fine w ≡ true → length g ≡ 262144 → stepFine g w ≡ true
+  areas-fine a n = rw (a, eq-eqb (length g) 262144 n)
+
+  pub area-wrong : fine w ≡ false → stepFine g w ≡ false
+  area-wrong a = rw a
+
+  pub staging-wrong : fine w ≡ true → (length g ≡ 262144 → ⊥) → stepFine g w ≡ false
+  staging-wrong a n = rw (a, ne-eqb (length g) 262144 n)
+
+-- ---- the step, by the job
+
+-- the jobs' numbers but a commit's
+abbrev pub others : List ℕ
+others = 0 ∷ 2 ∷ 3 ∷ 4 ∷ 5 ∷ []
+
+not-one : (x : ℕ) → OneOf others x → x ≡ 1 → ⊥
+not-one x k e =
+    ⊎-elim (λ (a : x ≡ 0). omega arith)
+    (⊎-elim (λ (a : x ≡ 2). omega arith)
+    (⊎-elim (λ (a : x ≡ 3). omega arith) (⊎-elim (λ (a : x ≡ 4). omega arith) (λ (a : x ≡ 5). omega arith))))
+    k
+
+module _ (g : List ℕ) (w : World) where
+  pub not-fine : stepFine g w ≡ false → (step.Area ≡ commitStepAnswer g w) × (w ≡ commitStepped g w)
+  unfolding commitStepAnswer commitStepped
+  not-fine e = (rw e, rw e)
+
+  module _ (fi : stepFine g w ≡ true) where
+    by-job : (j : Job) → w .pager .job ≡ j
+        → (commitStepAnswer g w ≡ named (answerOf j) (commitTodo g j w)) × (commitStepped g w ≡ done (commitTodo g j w) (commitAdvance g j w) w)
+    unfolding commitStepAnswer commitStepped
+    by-job j q = (rw (fi, q), rw (fi, q))
+
+    idle : (j : Job) → w .pager .job ≡ j → commitTodo g j w ≡ [] → (step.Idle ≡ commitStepAnswer g w) × (w ≡ commitStepped g w)
+    unfolding named done
+    idle j q e = let b = by-job j q in (sym (b .0 ∙ rw e), sym (b .1 ∙ rw e))
+
+    -- no store of a commit is left of another job
+    other : (j : Job) → OneOf others (tagOf J.the-type j) → commitTodo g j w ≡ []
+    unfolding commitTodo
+    other job.Idle k = refl
+    other (job.Commit h salt page answer) k = absurd (not-one 1 k refl)
+    other (job.Fold salt page answer) k = refl
+    other (job.MainLength salt answer) k = refl
+    other (job.LogLength salt answer) k = refl
+    other (job.LogHeader salt answer) k = refl
+
+    pub at-other : OneOf others (tagOf J.the-type (w .pager .job)) → (step.Idle ≡ commitStepAnswer g w) × (w ≡ commitStepped g w)
+    at-other k = idle (w .pager .job) refl (other (w .pager .job) k)
+
+    pub at-commit : (h : DbHeader) (salt page answer : ℕ) {a : StepAnswer} {v : World} → w .pager .job ≡ job.Commit h salt page answer
+        → a ≡ named answer (framesTodo g h salt answer (pagesFrom (differs g w) page) w)
+        → v ≡ done (framesTodo g h salt answer (pagesFrom (differs g w) page) w) (framesAdvance g h salt answer (pagesFrom (differs g w) page) w) w
+        → (a ≡ commitStepAnswer g w) × (v ≡ commitStepped g w)
+    unfolding commitTodo commitAdvance
+    at-commit h salt page answer q e f = let b = by-job (job.Commit h salt page answer) q in (e ∙ sym (b .0), f ∙ sym (b .1))
+
+-- ---- the judgement of a starting call
+
+pub count-most : (h : DbHeader) → headerGood h ≡ true → countOf h ≤ 1024
+count-most h e =
+    let a = both-true (leb 1 (countOf h)) (both (leb (countOf h) 1024) (isVersion (h .«format_version»))) e in
+    leb-true _ _ (both-true (leb (countOf h) 1024) (isVersion (h .«format_version»)) (a .1) .0)
+
+module _ (g : List ℕ) (w : World) (h : DbHeader) (salt : ℕ) where
+  -- a refusal leaves the store
+  refused : (a : CommitStart) → commitStart g w h ≡ a → isBegun a ≡ false → startedAs a (w .pager) ≡ beginCommit g w h salt
+  unfolding beginCommit
+  refused a e n = rw (e, n)
+
+  pub start-area : stepFine g w ≡ false → startedAs commit.Area (w .pager) ≡ beginCommit g w h salt
+  unfolding commitStart
+  start-area a = refused commit.Area (rw a) refl
+
+  module _ (a : stepFine g w ≡ true) where
+    pub start-busy : busy (w .pager) ≡ true → startedAs commit.Busy (w .pager) ≡ beginCommit g w h salt
+    unfolding commitStart
+    start-busy b = refused commit.Busy (rw (a, b)) refl
+
+    module _ (b : busy (w .pager) ≡ false) where
+      pub start-read-only : readOnly (w .pager) ≡ true → startedAs commit.ReadOnly (w .pager) ≡ beginCommit g w h salt
+      unfolding commitStart
+      start-read-only c = refused commit.ReadOnly (rw (a, b, c)) refl
+
+      module _ (c : readOnly (w .pager) ≡ false) where
+        pub start-header : headerGood h ≡ false → startedAs commit.NewHeader (w .pager) ≡ beginCommit g w h salt
+        unfolding commitStart
+        start-header d = refused commit.NewHeader (rw (a, b, c, d)) refl
+
+        module _ (d : headerGood h ≡ true) {n : ℕ} (j : n ≡ firstOf (pagesFrom (lacks (w .pager .staged) (countOf (headerOf (w .pager))) (countOf h)) 0)) where
+          lack-is : lacking w h ≡ n
+          unfolding lacking
+          lack-is = sym j
+
+          pub start-joining : n < 1024 → startedAs (commit.Joining n) (w .pager) ≡ beginCommit g w h salt
+          unfolding commitStart
+          start-joining l = refused (commit.Joining n) (rw (a, b, c, d, lack-is, lt-ltb n 1024 l)) refl
+
+          module _ (l : 1024 ≤ n) {k : ℕ} (e : k ≡ length (pagesFrom (differsIn (w .pager .staged) g (w .table) (w .log) (w .main)) 0)) where
+            count-is : differing g w ≡ k
+            unfolding differing
+            count-is = sym (e ∙ ap length (differs-by g w 0))
+
+            pub start-full : 4210720 < w .pager .wal .len + 4112 * (k + 1) → startedAs commit.LogFull (w .pager) ≡ beginCommit g w h salt
+            unfolding commitStart
+            start-full f =
+                refused commit.LogFull
+                (rw (a, b, c, d, lack-is, le-ltb n 1024 l, count-is, lt-leb (w .pager .wal .len + 4112 * (k + 1)) 4210720 f)) refl
+
+            begun : w .pager .wal .len + 4112 * (k + 1) ≤ 4210720 → commitStart g w h ≡ commit.Begun
+            unfolding commitStart
+            begun f = rw (a, b, c, d, lack-is, le-ltb n 1024 l, count-is, le-leb (w .pager .wal .len + 4112 * (k + 1)) 4210720 f)
+
+            pub start-begun : {r : Pager} → w .pager .wal .len + 4112 * (k + 1) ≤ 4210720
+                → r ≡ withJob (withWal (w .pager) (w .pager .wal)) (job.Commit h salt 0 k) → startedAs commit.Begun r ≡ beginCommit g w h salt
+            unfolding beginCommit
+            start-begun f er = rw (begun f, er, count-is)

@@ -1,0 +1,75 @@
+-- A step of a commit that is part done, and what its parts are by themselves. g is the staging area.
+use mathlib.Core.Bool.{Bool, true, false, not}
+use mathlib.Core.List.{List, [], _∷_}
+use Prim.Native.Nat.{ℕ, _+_, _*_}
+use lib.Dec.{ltb, eqb}
+use lib.ListN.{length}
+use Rattle.le.specs.Choice.{pick, both}
+use Rattle.le.specs.Le.{sameBytes, put}
+use Rattle.page.specs.Page.{pageSize}
+use Rattle.header.specs.Header.{encodeHeader}
+use Rattle.header.specs.declared.DbHeader.{DbHeader}
+use Rattle.frame.specs.Frame.{encodeFrame}
+use Rattle.wal.specs.declared.Wal.{Wal}
+use Rattle.pager_state.specs.World.{World, pageLimit, countOf, noneStaged}
+use Rattle.pager_state.specs.Overlay.{pageFrom, findIn, slotOf, isStaged, stagedBytes, inLog, onMain, mainAt, logBytes}
+use Rattle.pager_state.specs.Commit.{jobAfter, commitTodo, commitAdvance}
+use Rattle.pager_state.specs.Steps.{answerOf, named, done, stepFine}
+use Rattle.pager_state.specs.declared.Staged.{Staged}
+use Rattle.pager_state.specs.declared.Pager.{Pager}
+use Rattle.pager_state.specs.declared.CommitStart.{CommitStart}
+use Rattle.pager_state.specs.declared.CommitStarted.{CommitStarted}
+use Rattle.pager_state.specs.declared.StepAnswer.{StepAnswer}
+use Rattle.pager_state.specs.declared.StepAnswer.the-variants as step
+
+-- refusal 1, then "each next-step call does the next store .. and no other" of a commit; of another job nothing and Idle
+unfoldable pub commitStepAnswer : List ℕ → World → StepAnswer
+commitStepAnswer g w = pick (stepFine g w) (named (answerOf (w .pager .job)) (commitTodo g (w .pager .job) w)) step.Area
+
+unfoldable pub commitStepped : List ℕ → World → World
+commitStepped g w = pick (stepFine g w) (done (commitTodo g (w .pager .job) w) (commitAdvance g (w .pager .job) w) w) w
+
+-- ---- its parts
+
+-- a list has a page
+unfoldable pub isIn : List ℕ → ℕ → Bool
+isIn l n = ltb (findIn l n) (length l)
+
+-- "the log's, else the main file's", or no byte: by the page table and the areas alone
+unfoldable pub committedIn : List ℕ → List ℕ → List ℕ → ℕ → List ℕ
+committedIn t l m n = pick (inLog t n) (logBytes t l n) (pick (onMain t n) (pageFrom (mainAt n) m) [])
+
+-- the bytes of a slot of the staging area differ from a page's
+unfoldable pub slotDiffers : List ℕ → List ℕ → List ℕ → List ℕ → ℕ → ℕ → Bool
+slotDiffers g t l m n slot = not (sameBytes (pageFrom (pageSize * slot) g) (committedIn t l m n))
+
+-- "staged pages whose bytes differ from the log's, else the main file's .., or that are in neither"
+unfoldable pub differsIn : Staged → List ℕ → List ℕ → List ℕ → List ℕ → ℕ → Bool
+differsIn s g t l m n = both (isStaged s n) (slotDiffers g t l m n (slotOf s n))
+
+-- a slot has a page that differs, and no slot before it has that page
+unfoldable pub countsAt : Staged → List ℕ → List ℕ → List ℕ → List ℕ → ℕ → ℕ → Bool
+countsAt s g t l m n slot = both (ltb n pageLimit) (both (eqb (slotOf s n) slot) (slotDiffers g t l m n slot))
+
+-- the store once the seal stands and the log is v
+abbrev pub sealedWith : DbHeader → ℕ → ℕ → Wal → Pager → Pager
+sealedWith h salt answer v p =
+    record {
+      «current_header» = h;
+      wal = v;
+      recovered = p .recovered;
+      storage = p .storage;
+      staged = noneStaged (p .staged);
+      job = jobAfter v salt answer;
+      opening = p .opening;
+    }
+
+-- the log with a page's frame, and with the seal, at its length
+abbrev pub framePut : List ℕ → Wal → ℕ → List ℕ → List ℕ
+framePut l v n body = put l (v .len) (encodeFrame n 0 (v .header .salt) body)
+
+abbrev pub sealPut : List ℕ → Wal → DbHeader → List ℕ
+sealPut l v h = put l (v .len) (encodeFrame 0 (countOf h) (v .header .salt) (encodeHeader h))
+
+abbrev pub startedAs : CommitStart → Pager → CommitStarted
+startedAs a p = record { answer = a; pager = p }

@@ -1,0 +1,541 @@
+// The stores of a commit, one at a time, and the call that starts a commit.
+ghost use mathlib.Core.Path.{_≡_};
+ghost use mathlib.Core.Bool.{true, false};
+ghost use mathlib.Core.List.{List};
+ghost use Prim.Native.Nat.{_+_, _*_, _≤_, _<_, min, max};
+ghost use lib.Dec.{leb, ltb, eqb};
+ghost use lib.ListN.{length, take};
+ghost use Rattle.le.specs.Choice.{pick, both};
+ghost use Rattle.header.specs.Header.{encodeHeader};
+ghost use Rattle.frame.specs.Frame.{encodeFrame};
+ghost use Rattle.wal.specs.Write.{withFrame, hasRoom};
+ghost use Rattle.pager_state.specs.World.{world, countOf, headerOf, busyWith, withJob, withWal, noneStaged};
+ghost use Rattle.pager_state.specs.Overlay.{pageFrom, findIn, slotOf, isStaged, entry};
+ghost use Rattle.pager_state.specs.Stores.{Put, Sealed, Other, placeOf};
+ghost use Rattle.pager_state.specs.Pages.{pagesFrom, firstOf, differs, lacks};
+ghost use Rattle.pager_state.specs.Commit.{entered, jobAfter, framesTodo, framesAdvance};
+ghost use Rattle.pager_state.specs.Steps.{named, done, headerGood, beginCommit};
+ghost use Rattle.pager_commit.specs.CommitStep.{commitStepAnswer, commitStepped, isIn, committedIn, slotDiffers, differsIn, countsAt, sealedWith, framePut, sealPut, startedAs};
+use frame::FRAME_HEADER_SIZE;
+use frame::FRAME_SIZE;
+use header::DbHeader;
+use page::PAGE_SIZE;
+use pager_state::AUTO_CHECKPOINT_THRESHOLD_FRAMES;
+use pager_state::CommitStart;
+use pager_state::CommitStarted;
+use pager_state::FileKind;
+use pager_state::Job;
+use pager_state::PAGES;
+use pager_state::Pager;
+use pager_state::Place;
+use pager_state::STAGED_PAGES;
+use pager_state::STAGING_AREA;
+use pager_state::Staged;
+use pager_state::StepAnswer;
+use pager_state::Stepped;
+use wal::FrameAppended;
+use wal::WAL_AREA;
+use wal::Wal;
+
+// A staged page and its slot; page 1,024 is none.
+struct Slot {
+    page: usize,
+    index: usize,
+}
+
+fn wide(x: u16) -> usize
+    ensures { λ r. ⌜ r ≡ x ⌝ }
+{
+    x as usize
+}
+
+fn widen(x: u32) -> usize
+    ensures { λ r. ⌜ r ≡ x ⌝ }
+{
+    x as usize
+}
+
+fn lower(a: usize, b: usize) -> usize
+    ensures { λ r. ⌜ r ≡ min a b ⌝ }
+{
+    if a < b { a } else { b }
+}
+
+fn higher(a: usize, b: usize) -> usize
+    ensures { λ r. ⌜ r ≡ max a b ⌝ }
+{
+    if a < b { b } else { a }
+}
+
+fn choose(first: bool, a: usize, b: usize) -> usize
+    ensures { λ r. ⌜ r ≡ pick first a b ⌝ }
+{
+    if first { a } else { b }
+}
+
+// Whether a number lies from `low` to below `high`.
+fn is_between(low: usize, n: usize, high: usize) -> bool
+    ensures { λ r. ⌜ r ≡ both (leb low n) (ltb n high) ⌝ }
+{
+    if low <= n { n < high } else { false }
+}
+
+// The lowest page from `page` on among the first n, and where it stands first.
+fn lowest(s: &[u16], n: usize, page: usize) -> Slot
+    requires { ⌜ length (now s) ≡ 64 ⌝ }
+    ensures { λ r. ⌜ r .page ≡ firstOf (pagesFrom (isIn (take n (now (s .entry)))) page) ⌝ }
+    ensures { λ r. ⌜ (r .page < 1024 → r .index ≡ findIn (take n (now (s .entry))) (r .page)) ⌝ }
+    ensures { λ r. ⌜ r .index < 64 ⌝ }
+{
+    let end = lower(n, STAGED_PAGES);
+    let mut least = PAGES;
+    let mut index: usize = 0;
+    let mut i: usize = 0;
+    while i < end {
+        let p = wide(s[i]);
+        let is_lower = is_between(page, p, least);
+        least = choose(is_lower, p, least);
+        index = choose(is_lower, i, index);
+        i += 1;
+    }
+    Slot { page: least, index }
+}
+
+// The first staged page from `page` on.
+fn next_staged(staged: Staged, page: usize) -> Slot
+    ensures { λ r. ⌜ r .page ≡ firstOf (pagesFrom (isStaged staged) page) ⌝ }
+    ensures { λ r. ⌜ (r .page < 1024 → r .index ≡ slotOf staged (r .page)) ⌝ }
+    ensures { λ r. ⌜ r .index < 64 ⌝ }
+{
+    let n = staged.count;
+    lowest(&staged.pages, n, page)
+}
+
+// The bytes that a page was last committed with: the log's, else the main file's, else none.
+fn committed_page<'a>(table: &[u32], log: &'a [u8], main: &'a [u8], page: usize) -> &'a [u8]
+    requires { ⌜ page < 1024 ⌝ }
+    ensures { λ r. ⌜ now r ≡ committedIn (now (table .entry)) (now (log .entry)) (now (main .entry)) page ⌝ }
+{
+    let at = pager_state::frame_of(table, page);
+    if at != 0 {
+        return frame::frame_body(log, at);
+    }
+    if pager_state::on_main(table, page) {
+        return pager_state::page_from(main, PAGE_SIZE * page);
+    }
+    &log[..0]
+}
+
+// Whether a slot's bytes differ from those of a page.
+fn is_differing<'a>(
+    table: &[u32],
+    log: &'a [u8],
+    main: &'a [u8],
+    staging: &'a [u8],
+    page: usize,
+    slot: usize,
+) -> bool
+    requires { ⌜ (page < 1024) × (slot < 64) ⌝ }
+    ensures { λ r. ⌜ r ≡ slotDiffers (now (staging .entry)) (now (table .entry)) (now (log .entry)) (now (main .entry)) page slot ⌝ }
+{
+    let new = pager_state::page_from(staging, PAGE_SIZE * slot);
+    let old = committed_page(table, log, main, page);
+    !le::same(new, old)
+}
+
+// The first differing page from `page` on.
+fn next_differing<'a>(
+    staged: Staged,
+    table: &[u32],
+    log: &'a [u8],
+    main: &'a [u8],
+    staging: &'a [u8],
+    page: usize,
+) -> Slot
+    ensures { λ r. ⌜ r .page ≡ firstOf (pagesFrom (differsIn staged (now (staging .entry)) (now (table .entry)) (now (log .entry)) (now (main .entry))) page) ⌝ }
+    ensures { λ r. ⌜ (r .page < 1024 → r .index ≡ slotOf staged (r .page)) ⌝ }
+    ensures { λ r. ⌜ r .index < 64 ⌝ }
+{
+    let mut p = page;
+    while p < PAGES {
+        let found = next_staged(staged, p);
+        if PAGES <= found.page {
+            return found;
+        }
+        if is_differing(table, log, main, staging, found.page, found.index) {
+            return found;
+        }
+        p = found.page + 1;
+    }
+    Slot {
+        page: PAGES,
+        index: 0,
+    }
+}
+
+// Whether a slot has a differing page that no slot before it has.
+fn is_counted<'a>(
+    staged: Staged,
+    table: &[u32],
+    log: &'a [u8],
+    main: &'a [u8],
+    staging: &'a [u8],
+    page: usize,
+    slot: usize,
+) -> bool
+    requires { ⌜ slot < 64 ⌝ }
+    ensures { λ r. ⌜ r ≡ countsAt staged (now (staging .entry)) (now (table .entry)) (now (log .entry)) (now (main .entry)) page slot ⌝ }
+{
+    if PAGES <= page {
+        return false;
+    }
+    if pager_state::slot_of(staged, page) != slot {
+        return false;
+    }
+    is_differing(table, log, main, staging, page, slot)
+}
+
+fn tally(n: usize, yes: bool) -> usize
+    requires { ⌜ n < 64 ⌝ }
+    ensures { λ r. ⌜ r ≡ pick yes (n + 1) n ⌝ }
+{
+    if yes { n + 1 } else { n }
+}
+
+// How many pages differ.
+fn count_differing<'a>(
+    staged: Staged,
+    table: &[u32],
+    log: &'a [u8],
+    main: &'a [u8],
+    staging: &'a [u8],
+) -> usize
+    ensures { λ r. ⌜ r ≡ length (pagesFrom (differsIn staged (now (staging .entry)) (now (table .entry)) (now (log .entry)) (now (main .entry))) 0) ⌝ }
+    ensures { λ r. ⌜ r ≤ 64 ⌝ }
+{
+    let end = lower(staged.count, STAGED_PAGES);
+    let mut n: usize = 0;
+    let mut i: usize = 0;
+    while i < end {
+        let page = wide(staged.pages[i]);
+        let yes = is_counted(staged, table, log, main, staging, page, i);
+        n = tally(n, yes);
+        i += 1;
+    }
+    n
+}
+
+// The first page that joins and isn't staged; 1,024 if there is none.
+fn first_lacking(staged: Staged, old: u32, new: u32) -> usize
+    requires { ⌜ new ≤ 1024 ⌝ }
+    ensures { λ r. ⌜ r ≡ firstOf (pagesFrom (lacks staged old new) 0) ⌝ }
+{
+    let end = widen(new);
+    let mut p = higher(1, widen(old));
+    while p < end {
+        if !pager_state::is_staged(staged, p) {
+            return p;
+        }
+        p += 1;
+    }
+    PAGES
+}
+
+// A page's entry once its frame stands at `at`.
+fn entry_at(at: usize, on_main: bool) -> u32
+    requires { ⌜ at ≤ 4210720 ⌝ }
+    ensures { λ r. ⌜ r ≡ entry at «on_main» ⌝ }
+{
+    if on_main {
+        2 * (at as u32) + 1
+    } else {
+        2 * (at as u32)
+    }
+}
+
+// Enters a page's frame that stands at `at`.
+fn enter(table: &mut [u32], page: usize, at: usize)
+    requires { ⌜ (page < length (now table)) × (at ≤ 4210720) ⌝ }
+    ensures { λ _. ⌜ now (table .exit) ≡ entered (now (table .entry)) page at ⌝ }
+{
+    let on_main = pager_state::on_main(table, page);
+    table[page] = entry_at(at, on_main);
+}
+
+// Stores the frame of a staged page at the log's length.
+fn frame_step(
+    pager: Pager,
+    header: DbHeader,
+    salt: u32,
+    answer: usize,
+    found: Slot,
+    table: &mut [u32],
+    log: &mut [u8],
+    staging: &[u8],
+) -> Stepped
+    requires { ⌜ (found .page < 1024) × ((found .index < 64) × ((length (now table) ≡ 1024) × ((length (now log) ≡ 4210720) × ((length (now staging) ≡ 262144) × (pager .wal .len ≤ 4210720))))) ⌝ }
+    ensures { λ r. ⌜ r .answer ≡ pick (hasRoom (pager .wal)) (StepAnswer.Stored (placeOf (Put Other FileKind.Log (pager .wal .len) (encodeFrame (found .page) 0 (pager .wal .header .salt) (pageFrom (4096 * found .index) (now (staging .entry)))) false))) StepAnswer.Area ⌝ }
+    ensures { λ r. ⌜ r .pager ≡ pick (hasRoom (pager .wal)) (withJob (withWal pager (withFrame (pager .wal) 0)) (Job.Commit header salt (found .page + 1) answer)) pager ⌝ }
+    ensures { λ _. ⌜ now (table .exit) ≡ pick (hasRoom (pager .wal)) (entered (now (table .entry)) (found .page) (pager .wal .len)) (now (table .entry)) ⌝ }
+    ensures { λ _. ⌜ now (log .exit) ≡ pick (hasRoom (pager .wal)) (framePut (now (log .entry)) (pager .wal) (found .page) (pageFrom (4096 * found .index) (now (staging .entry)))) (now (log .entry)) ⌝ }
+{
+    let old = pager.wal;
+    let body = pager_state::page_from(staging, PAGE_SIZE * found.index);
+    let appended = wal::append_frame(log, old, found.page as u32, body, 0);
+    let FrameAppended::Appended(wal) = appended else {
+        return Stepped {
+            answer: StepAnswer::Area,
+            pager,
+        };
+    };
+    enter(table, found.page, old.len);
+    let job = Job::Commit {
+        header,
+        salt,
+        page: found.page + 1,
+        answer,
+    };
+    let next = pager_state::with_wal(pager, wal, job);
+    let place = Place {
+        file: FileKind::Log,
+        at: old.len,
+        len: FRAME_SIZE,
+        flush: false,
+    };
+    Stepped {
+        answer: StepAnswer::Stored(place),
+        pager: next,
+    }
+}
+
+// Stores the seal at the log's length: the header's page, and then the heading around it.
+fn store_seal(log: &mut [u8], wal: Wal, header: DbHeader) -> FrameAppended
+    requires { ⌜ (length (now log) ≡ 4210720) × (wal .len ≤ 4210720) ⌝ }
+    ensures { λ r. ⌜ r ≡ pick (hasRoom wal) (FrameAppended.Appended (withFrame wal (countOf header))) FrameAppended.LogFull ⌝ }
+    ensures { λ _. ⌜ now (log .exit) ≡ pick (hasRoom wal) (sealPut (now (log .entry)) wal header) (now (log .entry)) ⌝ }
+{
+    let at = wal.len;
+    if WAL_AREA - at < FRAME_SIZE {
+        return FrameAppended::LogFull;
+    }
+    let from = at + FRAME_HEADER_SIZE;
+    let to = at + FRAME_SIZE;
+    header::encode_header(header, &mut log[from..to]);
+    wal::append_in_place(log, wal, 0, header.page_count)
+}
+
+// What a commit has left after its seal.
+fn job_after(wal: Wal, salt: u32, answer: usize) -> Job
+    ensures { λ r. ⌜ r ≡ jobAfter wal salt answer ⌝ }
+{
+    if AUTO_CHECKPOINT_THRESHOLD_FRAMES <= wal.frame_count {
+        return Job::Fold {
+            salt,
+            page: 0,
+            answer,
+        };
+    }
+    Job::Idle
+}
+
+// The store once the seal stands: the new header counts and nothing is staged.
+fn sealed(pager: Pager, header: DbHeader, salt: u32, answer: usize, wal: Wal) -> Pager
+    ensures { λ r. ⌜ r ≡ sealedWith header salt answer wal pager ⌝ }
+{
+    let storage = pager.storage;
+    let staged = pager.staged;
+    let pages = staged.pages;
+    let opening = pager.opening;
+    Pager {
+        current_header: header,
+        wal,
+        recovered: pager.recovered,
+        storage,
+        staged: Staged { count: 0, pages },
+        job: job_after(wal, salt, answer),
+        opening,
+    }
+}
+
+// What a step that stored the seal answers: it is the last, or a fold follows.
+fn seal_answer(job: Job, place: Place, answer: usize) -> StepAnswer
+    ensures { λ r. ⌜ r ≡ pick (busyWith job) (StepAnswer.Stored place) (StepAnswer.Last place answer) ⌝ }
+{
+    if pager_state::is_busy(job) {
+        return StepAnswer::Stored(place);
+    }
+    StepAnswer::Last(place, answer)
+}
+
+// Stores the seal.
+fn seal_step(
+    pager: Pager,
+    header: DbHeader,
+    salt: u32,
+    answer: usize,
+    table: &mut [u32],
+    log: &mut [u8],
+) -> Stepped
+    requires { ⌜ (length (now table) ≡ 1024) × ((length (now log) ≡ 4210720) × (pager .wal .len ≤ 4210720)) ⌝ }
+    ensures { λ r. ⌜ r .answer ≡ pick (hasRoom (pager .wal)) (pick (busyWith (jobAfter (withFrame (pager .wal) (countOf header)) salt answer)) (StepAnswer.Stored (placeOf (Put Sealed FileKind.Log (pager .wal .len) (encodeFrame 0 (countOf header) (pager .wal .header .salt) (encodeHeader header)) true))) (StepAnswer.Last (placeOf (Put Sealed FileKind.Log (pager .wal .len) (encodeFrame 0 (countOf header) (pager .wal .header .salt) (encodeHeader header)) true)) answer)) StepAnswer.Area ⌝ }
+    ensures { λ r. ⌜ r .pager ≡ pick (hasRoom (pager .wal)) (sealedWith header salt answer (withFrame (pager .wal) (countOf header)) pager) pager ⌝ }
+    ensures { λ _. ⌜ now (table .exit) ≡ pick (hasRoom (pager .wal)) (entered (now (table .entry)) 0 (pager .wal .len)) (now (table .entry)) ⌝ }
+    ensures { λ _. ⌜ now (log .exit) ≡ pick (hasRoom (pager .wal)) (sealPut (now (log .entry)) (pager .wal) header) (now (log .entry)) ⌝ }
+{
+    let old = pager.wal;
+    let appended = store_seal(log, old, header);
+    let FrameAppended::Appended(wal) = appended else {
+        return Stepped {
+            answer: StepAnswer::Area,
+            pager,
+        };
+    };
+    enter(table, 0, old.len);
+    let next = sealed(pager, header, salt, answer, wal);
+    let place = Place {
+        file: FileKind::Log,
+        at: old.len,
+        len: FRAME_SIZE,
+        flush: true,
+    };
+    let job = next.job;
+    let told = seal_answer(job, place, answer);
+    Stepped {
+        answer: told,
+        pager: next,
+    }
+}
+
+// The next store of a commit.
+fn frames_step<'a>(
+    pager: Pager,
+    header: DbHeader,
+    salt: u32,
+    page: usize,
+    answer: usize,
+    table: &mut [u32],
+    log: &mut [u8],
+    main: &'a [u8],
+    staging: &'a [u8],
+) -> Stepped
+    requires { ⌜ (length (now table) ≡ 1024) × ((length (now log) ≡ 4210720) × ((length (now staging) ≡ 262144) × (pager .wal .len ≤ 4210720))) ⌝ }
+    ensures { λ r. ⌜ r .answer ≡ named answer (framesTodo (now (staging .entry)) header salt answer (pagesFrom (differs (now (staging .entry)) (world pager (now (table .entry)) (now (log .entry)) (now (main .entry)))) page) (world pager (now (table .entry)) (now (log .entry)) (now (main .entry)))) ⌝ }
+    ensures { λ r. ⌜ world (r .pager) (now (table .exit)) (now (log .exit)) (now (main .entry)) ≡ done (framesTodo (now (staging .entry)) header salt answer (pagesFrom (differs (now (staging .entry)) (world pager (now (table .entry)) (now (log .entry)) (now (main .entry)))) page) (world pager (now (table .entry)) (now (log .entry)) (now (main .entry)))) (framesAdvance (now (staging .entry)) header salt answer (pagesFrom (differs (now (staging .entry)) (world pager (now (table .entry)) (now (log .entry)) (now (main .entry)))) page) (world pager (now (table .entry)) (now (log .entry)) (now (main .entry)))) (world pager (now (table .entry)) (now (log .entry)) (now (main .entry))) ⌝ }
+{
+    let staged = pager.staged;
+    let found = next_differing(staged, table, log, main, staging, page);
+    if found.page < PAGES {
+        return frame_step(pager, header, salt, answer, found, table, log, staging);
+    }
+    seal_step(pager, header, salt, answer, table, log)
+}
+
+// Does the next store of a commit that is part done, and no other.
+pub fn commit_step<'a>(
+    pager: Pager,
+    table: &mut [u32],
+    log: &mut [u8],
+    main: &'a [u8],
+    staging: &'a [u8],
+) -> Stepped
+    ensures { λ r. ⌜ r .answer ≡ commitStepAnswer (now (staging .entry)) (world pager (now (table .entry)) (now (log .entry)) (now (main .entry))) ⌝ }
+    ensures { λ r. ⌜ world (r .pager) (now (table .exit)) (now (log .exit)) (now (main .entry)) ≡ commitStepped (now (staging .entry)) (world pager (now (table .entry)) (now (log .entry)) (now (main .entry))) ⌝ }
+{
+    if !pager_state::is_fine(pager, table.len(), log.len(), main.len()) {
+        return Stepped {
+            answer: StepAnswer::Area,
+            pager,
+        };
+    }
+    if staging.len() != STAGING_AREA {
+        return Stepped {
+            answer: StepAnswer::Area,
+            pager,
+        };
+    }
+    let job = pager.job;
+    let Job::Commit {
+        header,
+        salt,
+        page,
+        answer,
+    } = job
+    else {
+        return Stepped {
+            answer: StepAnswer::Idle,
+            pager,
+        };
+    };
+    frames_step(pager, header, salt, page, answer, table, log, main, staging)
+}
+
+// Whether a new header has a page count and a version that a store can have.
+fn is_header_good(header: DbHeader) -> bool
+    ensures { λ r. ⌜ r ≡ headerGood header ⌝ }
+{
+    if header.page_count < 1 {
+        return false;
+    }
+    if (PAGES as u32) < header.page_count {
+        return false;
+    }
+    if header.format_version < header::FORMAT_VERSION_V4 {
+        return false;
+    }
+    header.format_version <= header::FORMAT_VERSION_V6
+}
+
+fn started(answer: CommitStart, pager: Pager) -> CommitStarted
+    ensures { λ r. ⌜ r ≡ startedAs answer pager ⌝ }
+{
+    CommitStarted { answer, pager }
+}
+
+// Judges a commit; stores nothing.
+pub fn begin_commit<'a>(
+    pager: Pager,
+    table: &[u32],
+    log: &'a [u8],
+    main: &'a [u8],
+    staging: &'a [u8],
+    new_header: DbHeader,
+    salt: u32,
+) -> CommitStarted
+    ensures { λ r. ⌜ r ≡ beginCommit (now (staging .entry)) (world pager (now (table .entry)) (now (log .entry)) (now (main .entry))) «new_header» salt ⌝ }
+{
+    if !pager_state::is_fine(pager, table.len(), log.len(), main.len()) {
+        return started(CommitStart::Area, pager);
+    }
+    if staging.len() != STAGING_AREA {
+        return started(CommitStart::Area, pager);
+    }
+    let job = pager.job;
+    if pager_state::is_busy(job) {
+        return started(CommitStart::Busy, pager);
+    }
+    let opening = pager.opening;
+    if pager_state::is_read_only(opening) {
+        return started(CommitStart::ReadOnly, pager);
+    }
+    if !is_header_good(new_header) {
+        return started(CommitStart::NewHeader, pager);
+    }
+    let staged = pager.staged;
+    let old = pager.current_header;
+    let lacking = first_lacking(staged, old.page_count, new_header.page_count);
+    if lacking < PAGES {
+        return started(CommitStart::Joining(lacking), pager);
+    }
+    let answer = count_differing(staged, table, log, main, staging);
+    let wal = pager.wal;
+    if WAL_AREA < wal.len + FRAME_SIZE * (answer + 1) {
+        return started(CommitStart::LogFull, pager);
+    }
+    let begun = Job::Commit {
+        header: new_header,
+        salt,
+        page: 0,
+        answer,
+    };
+    started(CommitStart::Begun, pager_state::with_wal(pager, wal, begun))
+}

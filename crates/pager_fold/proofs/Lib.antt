@@ -1,0 +1,4 @@
+-- The root of the laws of a fold's steps.
+pub mod Areas
+pub mod Table
+pub mod Folding

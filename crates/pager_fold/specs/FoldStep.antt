@@ -1,0 +1,49 @@
+-- A step of a fold that is part done, and what its parts are by themselves.
+use mathlib.Core.Bool.{Bool, true, false}
+use mathlib.Core.List.{List, [], _∷_}
+use Prim.Native.Nat.{ℕ}
+use lib.Dec.{leb, ltb}
+use Rattle.le.specs.Choice.{pick, both}
+use Rattle.header.specs.Header.{encodeHeader}
+use Rattle.header.specs.declared.DbHeader.{DbHeader}
+use Rattle.pager_state.specs.World.{World, fine, withJob, withStorage}
+use Rattle.pager_state.specs.Overlay.{inLog, logBytes, mainAt}
+use Rattle.pager_state.specs.Stores.{File, putFile}
+use Rattle.pager_state.specs.Fold.{foldTodo, foldAdvance}
+use Rattle.pager_state.specs.Steps.{answerOf, named, done}
+use Rattle.pager_state.specs.declared.Job.{Job}
+use Rattle.pager_state.specs.declared.Pager.{Pager}
+use Rattle.pager_state.specs.declared.CheckpointStart.{CheckpointStart}
+use Rattle.pager_state.specs.declared.CheckpointStarted.{CheckpointStarted}
+use Rattle.pager_state.specs.declared.StepAnswer.{StepAnswer}
+use Rattle.pager_state.specs.declared.StepAnswer.the-variants as step
+
+-- refusal 1, then "each next-step call does the next store .. and no other" of a fold; of another job nothing and Idle
+unfoldable pub foldAnswer : World → StepAnswer
+foldAnswer w = pick (fine w) (named (answerOf (w .pager .job)) (foldTodo (w .pager .job) w)) step.Area
+
+unfoldable pub foldStepped : World → World
+foldStepped w = pick (fine w) (done (foldTodo (w .pager .job) w) (foldAdvance (w .pager .job) w) w) w
+
+-- ---- its parts
+
+-- "log pages from 1 below the page count", by the count and the page table alone
+unfoldable pub foldsBy : ℕ → List ℕ → ℕ → Bool
+foldsBy count t n = both (leb 1 n) (both (ltb n count) (inLog t n))
+
+abbrev pub fileOf : List ℕ → ℕ → File
+fileOf area len = record { area = area; len = len }
+
+-- the store with another main file and the next job
+abbrev pub withMain : Pager → ℕ → DbHeader → Job → Pager
+withMain p len h j = withJob (withStorage p (record { len = len; header = h })) j
+
+-- the store of a page, of the main header and of the main length, on the main file by itself
+abbrev pub pagePut : List ℕ → ℕ → List ℕ → List ℕ → ℕ → File
+pagePut main len t l n = putFile (fileOf main len) (mainAt n) (logBytes t l n)
+
+abbrev pub headerPut : List ℕ → ℕ → DbHeader → File
+headerPut main len h = putFile (fileOf main len) 0 (encodeHeader h)
+
+abbrev pub startedAs : CheckpointStart → Pager → CheckpointStarted
+startedAs a p = record { answer = a; pager = p }

@@ -1,0 +1,461 @@
+// The stores of a fold, one at a time, and the call that starts a fold.
+ghost use mathlib.Core.Path.{_≡_};
+ghost use mathlib.Core.Bool.{true, false};
+ghost use mathlib.Core.List.{List};
+ghost use Prim.Native.Nat.{_+_, _*_, _≤_, _<_, max};
+ghost use lib.Dec.{leb, eqb};
+ghost use lib.ListN.{length};
+ghost use Rattle.le.specs.Choice.{pick, both};
+ghost use Rattle.header.specs.Header.{encodeHeader};
+ghost use Rattle.wal.specs.Header.{encodeWalHeader};
+ghost use Rattle.wal.specs.Write.{emptyWal, truncatedHeader};
+ghost use Rattle.le.specs.Le.{put};
+ghost use Rattle.pager_state.specs.World.{world, headerOf, countOf, withJob, withWal};
+ghost use Rattle.pager_state.specs.Overlay.{logBytes, mainAt};
+ghost use Rattle.pager_state.specs.Stores.{Put, SetLen, Other, placeOf, grown, putFile};
+ghost use Rattle.pager_state.specs.Pages.{pagesFrom, firstOf, folds};
+ghost use Rattle.pager_state.specs.Fold.{foldedEntry, foldedFrom, withoutFrames, logLengthAct, pagesTodo, pagesAdvance};
+ghost use Rattle.pager_state.specs.Steps.{named, noLogPages, beginCheckpoint};
+ghost use Rattle.pager_fold.specs.FoldStep.{foldAnswer, foldStepped, foldsBy, fileOf, withMain, pagePut, headerPut, startedAs};
+use header::DbHeader;
+use page::PAGE_SIZE;
+use pager_state::CheckpointStart;
+use pager_state::CheckpointStarted;
+use pager_state::FileKind;
+use pager_state::FileStorage;
+use pager_state::Job;
+use pager_state::PAGES;
+use pager_state::Pager;
+use pager_state::Place;
+use pager_state::StepAnswer;
+use pager_state::Stepped;
+use wal::WAL_HEADER_SIZE;
+use wal::Wal;
+use wal::WalTruncated;
+
+fn widen(x: u32) -> usize
+    ensures { λ r. ⌜ r ≡ x ⌝ }
+{
+    x as usize
+}
+
+// Whether a fold stores a page.
+fn is_folding(count: u32, table: &[u32], page: usize) -> bool
+    ensures { λ r. ⌜ r ≡ foldsBy count (now (table .entry)) page ⌝ }
+{
+    if page < 1 {
+        return false;
+    }
+    if widen(count) <= page {
+        return false;
+    }
+    pager_state::frame_of(table, page) != 0
+}
+
+// The first page from `page` on that a fold stores; 1,024 if there is none.
+fn next_folding(count: u32, table: &[u32], page: usize) -> usize
+    ensures { λ r. ⌜ r ≡ firstOf (pagesFrom (foldsBy count (now (table .entry))) page) ⌝ }
+{
+    let mut p = page;
+    while p < PAGES {
+        if is_folding(count, table, p) {
+            return p;
+        }
+        p += 1;
+    }
+    PAGES
+}
+
+fn tally(n: usize, yes: bool) -> usize
+    requires { ⌜ n < 1024 ⌝ }
+    ensures { λ r. ⌜ r ≡ pick yes (n + 1) n ⌝ }
+{
+    if yes { n + 1 } else { n }
+}
+
+// How many pages a fold stores.
+fn count_folding(count: u32, table: &[u32]) -> usize
+    ensures { λ r. ⌜ r ≡ length (pagesFrom (foldsBy count (now (table .entry))) 0) ⌝ }
+{
+    let mut n: usize = 0;
+    let mut p: usize = 0;
+    while p < PAGES {
+        let yes = is_folding(count, table, p);
+        n = tally(n, yes);
+        p += 1;
+    }
+    n
+}
+
+// Makes a file of `len` bytes `to` bytes long, with zeros, if it is shorter.
+fn grow(area: &mut [u8], len: usize, to: usize)
+    requires { ⌜ to ≤ length (now area) ⌝ }
+    ensures { λ _. ⌜ now (area .exit) ≡ grown (fileOf (now (area .entry)) len) to ⌝ }
+{
+    if to <= len {
+        return;
+    }
+    le::write_zeros(area, len, to - len);
+}
+
+// The length of a file of `len` bytes once bytes that end at `end` are stored.
+fn reached(len: usize, end: usize) -> usize
+    ensures { λ r. ⌜ r ≡ max len end ⌝ }
+{
+    if len < end { end } else { len }
+}
+
+// Stores bytes in a file of `len` bytes, with zeros before them where they start past its end; answers its length.
+fn store_bytes(area: &mut [u8], len: usize, at: usize, bytes: &[u8]) -> usize
+    requires { ⌜ at + length (now bytes) ≤ length (now area) ⌝ }
+    ensures { λ r. ⌜ (r ≡ putFile (fileOf (now (area .entry)) len) at (now (bytes .entry)) .len) × (now (area .exit) ≡ putFile (fileOf (now (area .entry)) len) at (now (bytes .entry)) .area) ⌝ }
+{
+    grow(area, len, at);
+    le::write_bytes(area, at, bytes);
+    reached(len, at + bytes.len())
+}
+
+// Stores the main header where it lies; answers the file's length.
+fn store_header(main: &mut [u8], len: usize, header: DbHeader) -> usize
+    requires { ⌜ 4096 ≤ length (now main) ⌝ }
+    ensures { λ r. ⌜ (r ≡ headerPut (now (main .entry)) len header .len) × (now (main .exit) ≡ headerPut (now (main .entry)) len header .area) ⌝ }
+{
+    header::encode_header(header, &mut main[..PAGE_SIZE]);
+    reached(len, PAGE_SIZE)
+}
+
+// A page's entry once the log is folded.
+fn entry_after(count: usize, page: usize, entry: u32) -> u32
+    ensures { λ r. ⌜ r ≡ foldedEntry count page entry ⌝ }
+{
+    if page == 0 {
+        return 0;
+    }
+    if count <= page {
+        return 0;
+    }
+    if entry == 0 {
+        return 0;
+    }
+    1
+}
+
+// The table once the log is folded.
+fn fold_table(table: &mut [u32], count: u32)
+    ensures { λ _. ⌜ now (table .exit) ≡ foldedFrom count 0 (now (table .entry)) ⌝ }
+{
+    let n = widen(count);
+    let mut p = 0;
+    while p < table.len() {
+        let entry = table[p];
+        table[p] = entry_after(n, p, entry);
+        p += 1;
+    }
+}
+
+// The store with another main file and the next job.
+fn with_main(pager: Pager, len: usize, header: DbHeader, job: Job) -> Pager
+    ensures { λ r. ⌜ r ≡ withMain pager len header job ⌝ }
+{
+    let current_header = pager.current_header;
+    let wal = pager.wal;
+    let staged = pager.staged;
+    let opening = pager.opening;
+    Pager {
+        current_header,
+        wal,
+        recovered: pager.recovered,
+        storage: FileStorage { len, header },
+        staged,
+        job,
+        opening,
+    }
+}
+
+// The store with a log of its header alone, and without recovered batches.
+fn without_frames(pager: Pager, job: Job) -> Pager
+    ensures { λ r. ⌜ r ≡ withJob (withoutFrames pager) job ⌝ }
+{
+    let current_header = pager.current_header;
+    let old = pager.wal;
+    let header = old.header;
+    let storage = pager.storage;
+    let staged = pager.staged;
+    let opening = pager.opening;
+    Pager {
+        current_header,
+        wal: Wal::empty(header),
+        recovered: WAL_HEADER_SIZE,
+        storage,
+        staged,
+        job,
+        opening,
+    }
+}
+
+// Stores a page of the log in the main file.
+fn page_step(
+    pager: Pager,
+    salt: u32,
+    answer: usize,
+    page: usize,
+    last: bool,
+    table: &[u32],
+    log: &[u8],
+    main: &mut [u8],
+) -> Stepped
+    requires { ⌜ (page < 1024) × (length (now main) ≡ 4194304) ⌝ }
+    ensures { λ r. ⌜ r .answer ≡ StepAnswer.Stored (placeOf (Put Other FileKind.Main (mainAt page) (logBytes (now (table .entry)) (now (log .entry)) page) last)) ⌝ }
+    ensures { λ r. ⌜ r .pager ≡ withMain pager (pagePut (now (main .entry)) (pager .storage .len) (now (table .entry)) (now (log .entry)) page .len) (pager .storage .header) (Job.Fold salt (page + 1) answer) ⌝ }
+    ensures { λ _. ⌜ now (main .exit) ≡ pagePut (now (main .entry)) (pager .storage .len) (now (table .entry)) (now (log .entry)) page .area ⌝ }
+{
+    let at = PAGE_SIZE * page;
+    let bytes = frame::frame_body(log, pager_state::frame_of(table, page));
+    let storage = pager.storage;
+    let len = store_bytes(main, storage.len, at, bytes);
+    let header = storage.header;
+    let job = Job::Fold {
+        salt,
+        page: page + 1,
+        answer,
+    };
+    let next = with_main(pager, len, header, job);
+    let place = Place {
+        file: FileKind::Main,
+        at,
+        len: bytes.len(),
+        flush: last,
+    };
+    Stepped {
+        answer: StepAnswer::Stored(place),
+        pager: next,
+    }
+}
+
+// Stores the main header.
+fn header_step(pager: Pager, salt: u32, answer: usize, main: &mut [u8]) -> Stepped
+    requires { ⌜ 4096 ≤ length (now main) ⌝ }
+    ensures { λ r. ⌜ r .answer ≡ StepAnswer.Stored (placeOf (Put Other FileKind.Main 0 (encodeHeader (headerOf pager)) false)) ⌝ }
+    ensures { λ r. ⌜ r .pager ≡ withMain pager (headerPut (now (main .entry)) (pager .storage .len) (headerOf pager) .len) (headerOf pager) (Job.MainLength salt answer) ⌝ }
+    ensures { λ _. ⌜ now (main .exit) ≡ headerPut (now (main .entry)) (pager .storage .len) (headerOf pager) .area ⌝ }
+{
+    let header = pager.current_header;
+    let storage = pager.storage;
+    let len = store_header(main, storage.len, header);
+    let next = with_main(pager, len, header, Job::MainLength { salt, answer });
+    let place = Place {
+        file: FileKind::Main,
+        at: 0,
+        len: PAGE_SIZE,
+        flush: false,
+    };
+    Stepped {
+        answer: StepAnswer::Stored(place),
+        pager: next,
+    }
+}
+
+// The next store of a fold that has pages or the main header to do.
+fn pages_step(
+    pager: Pager,
+    salt: u32,
+    page: usize,
+    answer: usize,
+    table: &[u32],
+    log: &[u8],
+    main: &mut [u8],
+) -> Stepped
+    requires { ⌜ length (now main) ≡ 4194304 ⌝ }
+    ensures { λ r. ⌜ r .answer ≡ named answer (pagesTodo salt answer (pagesFrom (folds (world pager (now (table .entry)) (now (log .entry)) (now (main .entry)))) page) (world pager (now (table .entry)) (now (log .entry)) (now (main .entry)))) ⌝ }
+    ensures { λ r. ⌜ world (r .pager) (now (table .entry)) (now (log .entry)) (now (main .exit)) ≡ pagesAdvance salt answer (pagesFrom (folds (world pager (now (table .entry)) (now (log .entry)) (now (main .entry)))) page) (world pager (now (table .entry)) (now (log .entry)) (now (main .entry))) ⌝ }
+{
+    let header = pager.current_header;
+    let count = header.page_count;
+    let q = next_folding(count, table, page);
+    if q < PAGES {
+        let last = PAGES <= next_folding(count, table, q + 1);
+        return page_step(pager, salt, answer, q, last, table, log, main);
+    }
+    header_step(pager, salt, answer, main)
+}
+
+// Sets the main file's length.
+fn length_step(pager: Pager, salt: u32, answer: usize, main: &mut [u8]) -> Stepped
+    requires { ⌜ (countOf (headerOf pager) ≤ 1024) × (length (now main) ≡ 4194304) ⌝ }
+    ensures { λ r. ⌜ r .answer ≡ StepAnswer.Stored (placeOf (SetLen Other FileKind.Main (4096 * countOf (headerOf pager)) true)) ⌝ }
+    ensures { λ r. ⌜ r .pager ≡ withMain pager (4096 * countOf (headerOf pager)) (pager .storage .header) (Job.LogLength salt answer) ⌝ }
+    ensures { λ _. ⌜ now (main .exit) ≡ grown (fileOf (now (main .entry)) (pager .storage .len)) (4096 * countOf (headerOf pager)) ⌝ }
+{
+    let header = pager.current_header;
+    let to = PAGE_SIZE * widen(header.page_count);
+    let storage = pager.storage;
+    grow(main, storage.len, to);
+    let own = storage.header;
+    let next = with_main(pager, to, own, Job::LogLength { salt, answer });
+    let place = Place {
+        file: FileKind::Main,
+        at: to,
+        len: 0,
+        flush: true,
+    };
+    Stepped {
+        answer: StepAnswer::Stored(place),
+        pager: next,
+    }
+}
+
+// Sets the log's length to its header's.
+fn empty_step(pager: Pager, salt: u32, answer: usize, log: &mut [u8]) -> Stepped
+    requires { ⌜ 32 ≤ length (now log) ⌝ }
+    ensures { λ r. ⌜ r .answer ≡ StepAnswer.Stored (placeOf logLengthAct) ⌝ }
+    ensures { λ r. ⌜ r .pager ≡ withJob (withoutFrames pager) (Job.LogHeader salt answer) ⌝ }
+    ensures { λ _. ⌜ now (log .exit) ≡ grown (fileOf (now (log .entry)) (pager .wal .len)) 32 ⌝ }
+{
+    let wal = pager.wal;
+    grow(log, wal.len, WAL_HEADER_SIZE);
+    let next = without_frames(pager, Job::LogHeader { salt, answer });
+    let place = Place {
+        file: FileKind::Log,
+        at: WAL_HEADER_SIZE,
+        len: 0,
+        flush: false,
+    };
+    Stepped {
+        answer: StepAnswer::Stored(place),
+        pager: next,
+    }
+}
+
+// Stores the log's header; the table then tells of the main file alone.
+fn last_step(pager: Pager, salt: u32, answer: usize, table: &mut [u32], log: &mut [u8]) -> Stepped
+    requires { ⌜ length (now log) ≡ 4210720 ⌝ }
+    ensures { λ r. ⌜ r .answer ≡ StepAnswer.Last (placeOf (Put Other FileKind.Log 0 (encodeWalHeader (truncatedHeader (pager .wal .header) salt)) true)) answer ⌝ }
+    ensures { λ r. ⌜ r .pager ≡ withJob (withWal pager (emptyWal (truncatedHeader (pager .wal .header) salt))) Job.Idle ⌝ }
+    ensures { λ _. ⌜ now (table .exit) ≡ foldedFrom (countOf (headerOf pager)) 0 (now (table .entry)) ⌝ }
+    ensures { λ _. ⌜ now (log .exit) ≡ put (now (log .entry)) 0 (encodeWalHeader (truncatedHeader (pager .wal .header) salt)) ⌝ }
+{
+    let old = pager.wal;
+    let WalTruncated::Truncated(wal) = wal::truncate(log, old, salt) else {
+        return Stepped {
+            answer: StepAnswer::Area,
+            pager,
+        };
+    };
+    let header = pager.current_header;
+    fold_table(table, header.page_count);
+    let next = pager_state::with_wal(pager, wal, Job::Idle);
+    let place = Place {
+        file: FileKind::Log,
+        at: 0,
+        len: WAL_HEADER_SIZE,
+        flush: true,
+    };
+    Stepped {
+        answer: StepAnswer::Last(place, answer),
+        pager: next,
+    }
+}
+
+// Does the next store of a fold that is part done, and no other.
+pub fn fold_step(pager: Pager, table: &mut [u32], log: &mut [u8], main: &mut [u8]) -> Stepped
+    ensures { λ r. ⌜ r .answer ≡ foldAnswer (world pager (now (table .entry)) (now (log .entry)) (now (main .entry))) ⌝ }
+    ensures { λ r. ⌜ world (r .pager) (now (table .exit)) (now (log .exit)) (now (main .exit)) ≡ foldStepped (world pager (now (table .entry)) (now (log .entry)) (now (main .entry))) ⌝ }
+{
+    if !pager_state::is_fine(pager, table.len(), log.len(), main.len()) {
+        return Stepped {
+            answer: StepAnswer::Area,
+            pager,
+        };
+    }
+    let job = pager.job;
+    match job {
+        Job::Idle => Stepped {
+            answer: StepAnswer::Idle,
+            pager,
+        },
+        Job::Commit {
+            header: _,
+            salt: _,
+            page: _,
+            answer: _,
+        } => Stepped {
+            answer: StepAnswer::Idle,
+            pager,
+        },
+        Job::Fold { salt, page, answer } => {
+            pages_step(pager, salt, page, answer, table, log, main)
+        }
+        Job::MainLength { salt, answer } => length_step(pager, salt, answer, main),
+        Job::LogLength { salt, answer } => empty_step(pager, salt, answer, log),
+        Job::LogHeader { salt, answer } => last_step(pager, salt, answer, table, log),
+    }
+}
+
+// Whether no page is in the log.
+fn no_log_pages(table: &[u32]) -> bool
+    ensures { λ r. ⌜ r ≡ noLogPages (now (table .entry)) ⌝ }
+{
+    let mut i = 0;
+    while i < table.len() {
+        if 1 < table[i] {
+            return false;
+        }
+        i += 1;
+    }
+    true
+}
+
+// Whether there are 0 frames and no log pages.
+fn nothing_to_fold(frames: usize, table: &[u32]) -> bool
+    ensures { λ r. ⌜ r ≡ both (eqb frames 0) (noLogPages (now (table .entry))) ⌝ }
+{
+    if frames != 0 {
+        return false;
+    }
+    no_log_pages(table)
+}
+
+fn started(answer: CheckpointStart, pager: Pager) -> CheckpointStarted
+    ensures { λ r. ⌜ r ≡ startedAs answer pager ⌝ }
+{
+    CheckpointStarted { answer, pager }
+}
+
+// Judges a fold; stores nothing. Of the staging area only the length is looked at.
+pub fn begin_checkpoint(
+    pager: Pager,
+    table: &[u32],
+    log: &[u8],
+    main: &[u8],
+    staging: &[u8],
+    salt: u32,
+) -> CheckpointStarted
+    ensures { λ r. ⌜ r ≡ beginCheckpoint (now (staging .entry)) (world pager (now (table .entry)) (now (log .entry)) (now (main .entry))) salt ⌝ }
+{
+    if !pager_state::are_fine(pager, table.len(), log.len(), main.len(), staging.len()) {
+        return started(CheckpointStart::Area, pager);
+    }
+    let job = pager.job;
+    if pager_state::is_busy(job) {
+        return started(CheckpointStart::Busy, pager);
+    }
+    let opening = pager.opening;
+    if pager_state::is_read_only(opening) {
+        return started(CheckpointStart::ReadOnly, pager);
+    }
+    let wal = pager.wal;
+    if nothing_to_fold(wal.frame_count, table) {
+        return started(CheckpointStart::Nothing, pager);
+    }
+    let header = pager.current_header;
+    let answer = count_folding(header.page_count, table);
+    let begun = Job::Fold {
+        salt,
+        page: 0,
+        answer,
+    };
+    started(
+        CheckpointStart::Begun,
+        pager_state::with_wal(pager, wal, begun),
+    )
+}

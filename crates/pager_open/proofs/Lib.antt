@@ -1,0 +1,6 @@
+-- The root of the laws of `pager_open`.
+pub mod Table
+pub mod Found
+pub mod Judged
+pub mod Opened
+pub mod Created

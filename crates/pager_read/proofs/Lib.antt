@@ -1,0 +1,2 @@
+-- The root of the proofs of `pager_read`.
+pub mod Clock

@@ -1,0 +1,230 @@
+// Reading the open store: its header, access mode and clock, its pages, and the batches that the opening found.
+// A page is read where it lies. Every public function is total.
+ghost use mathlib.Core.Path.{_≡_};
+ghost use Prim.Native.Nat.{min};
+ghost use Rattle.le.specs.Choice.{pick};
+ghost use Rattle.pager_state.specs.World.{world};
+ghost use Rattle.pager_state.specs.Overlay.{isStaged, stagedAt, below, findPage, readPage};
+ghost use Rattle.pager_state.specs.Queries.{header, modeBy, accessMode, clockHighWater, raised, observedBy, observeClock};
+ghost use Rattle.pager_state.specs.Batches.{recoveredAs, nextRecovered};
+use frame::FRAME_HEADER_SIZE;
+use page::PAGE_SIZE;
+use pager_state::AccessMode;
+use pager_state::ClockObserved;
+use pager_state::ClockRead;
+use pager_state::HeaderRead;
+use pager_state::ModeRead;
+use pager_state::ObserveAnswer;
+use pager_state::Opening;
+use pager_state::PageFound;
+use pager_state::Pager;
+use pager_state::RecoveredFound;
+use pager_state::STAGED_PAGES;
+use pager_state::Staged;
+use wal::BatchFound;
+use wal::ClockSet;
+use wal::WAL_AREA;
+use wal::Wal;
+
+// The header that counts.
+pub fn header(pager: Pager) -> HeaderRead
+    ensures { λ r. ⌜ r ≡ header pager ⌝ }
+{
+    let job = pager.job;
+    if pager_state::is_busy(job) {
+        return HeaderRead::Busy;
+    }
+    let current = pager.current_header;
+    HeaderRead::Header(current)
+}
+
+fn mode_of(opening: Opening) -> AccessMode
+    ensures { λ r. ⌜ r ≡ modeBy opening ⌝ }
+{
+    match opening {
+        Opening::Clean => AccessMode::ReadWrite,
+        Opening::Plain => AccessMode::ReadWrite,
+        Opening::ReadOnly => AccessMode::ReadOnly,
+        Opening::NoLog => AccessMode::ReadOnly,
+    }
+}
+
+// Whether the store can be written.
+pub fn access_mode(pager: Pager) -> ModeRead
+    ensures { λ r. ⌜ r ≡ accessMode pager ⌝ }
+{
+    let job = pager.job;
+    if pager_state::is_busy(job) {
+        return ModeRead::Busy;
+    }
+    let opening = pager.opening;
+    ModeRead::Mode(mode_of(opening))
+}
+
+// The clock, as it was raised last.
+pub fn clock_high_water(pager: Pager) -> ClockRead
+    ensures { λ r. ⌜ r ≡ clockHighWater pager ⌝ }
+{
+    let job = pager.job;
+    if pager_state::is_busy(job) {
+        return ClockRead::Busy;
+    }
+    let wal = pager.wal;
+    let header = wal.header;
+    ClockRead::Clock(header.clock_high_water)
+}
+
+// The log with its clock raised; a lower one is ignored.
+fn raised(wal: Wal, value: u64) -> Wal
+    ensures { λ r. ⌜ r ≡ raised wal value ⌝ }
+{
+    let ClockSet::Set(higher) = wal::set_clock_high_water(wal, value) else {
+        return wal;
+    };
+    higher
+}
+
+// The same by the kind of opening: without a log the clock stays 0.
+fn observed(opening: Opening, wal: Wal, value: u64) -> Wal
+    ensures { λ r. ⌜ r ≡ observedBy opening wal value ⌝ }
+{
+    match opening {
+        Opening::Clean => raised(wal, value),
+        Opening::Plain => raised(wal, value),
+        Opening::ReadOnly => raised(wal, value),
+        Opening::NoLog => wal,
+    }
+}
+
+// Raises the clock in memory; it reaches the log's header at a fold.
+pub fn observe_clock_high_water(pager: Pager, value: u64) -> ClockObserved
+    ensures { λ r. ⌜ r ≡ observeClock pager value ⌝ }
+{
+    let job = pager.job;
+    if pager_state::is_busy(job) {
+        return ClockObserved {
+            answer: ObserveAnswer::Busy,
+            pager,
+        };
+    }
+    let opening = pager.opening;
+    let wal = pager.wal;
+    let mut later = pager;
+    later.wal = observed(opening, wal, value);
+    ClockObserved {
+        answer: ObserveAnswer::Observed,
+        pager: later,
+    }
+}
+
+// Where a page that isn't staged is found: none at or above the page count, else the log, else the main file.
+fn below(count: u32, table: &[u32], page_num: u32) -> PageFound
+    ensures { λ r. ⌜ r ≡ below count (now (table .entry)) «page_num» ⌝ }
+{
+    if count <= page_num {
+        return PageFound::Nothing;
+    }
+    let page = page_num as usize;
+    let frame = pager_state::frame_of(table, page);
+    if frame != 0 {
+        return PageFound::Log(frame + FRAME_HEADER_SIZE);
+    }
+    if pager_state::on_main(table, page) {
+        return PageFound::Main(PAGE_SIZE * page);
+    }
+    PageFound::Nothing
+}
+
+// The slots that a count says are taken, of those that there are.
+fn slots_taken(count: usize) -> usize
+    ensures { λ r. ⌜ r ≡ min count 64 ⌝ }
+{
+    if count < STAGED_PAGES {
+        count
+    } else {
+        STAGED_PAGES
+    }
+}
+
+// Where a page is found: staged before anything else, also at or above the page count.
+fn overlay(staged: Staged, count: u32, table: &[u32], page_num: u32) -> PageFound
+    ensures { λ r. ⌜ r ≡ pick (isStaged staged «page_num») (PageFound.Staged (stagedAt staged «page_num»)) (below count (now (table .entry)) «page_num») ⌝ }
+{
+    let slot = pager_state::slot_of(staged, page_num as usize);
+    if slot < slots_taken(staged.count) {
+        return PageFound::Staged(PAGE_SIZE * slot);
+    }
+    below(count, table, page_num)
+}
+
+// The area and place of a page's bytes: staged, else none if at or above the page count, else in the log, else in the main file.
+pub fn find_page(
+    pager: Pager,
+    table: &[u32],
+    log: &[u8],
+    main: &[u8],
+    staging: &[u8],
+    page_num: u32,
+) -> PageFound
+    ensures { λ r. ⌜ r ≡ findPage (world pager (now (table .entry)) (now (log .entry)) (now (main .entry))) (now (staging .entry)) «page_num» ⌝ }
+{
+    if !pager_state::are_fine(pager, table.len(), log.len(), main.len(), staging.len()) {
+        return PageFound::Area;
+    }
+    let job = pager.job;
+    if pager_state::is_busy(job) {
+        return PageFound::Busy;
+    }
+    let staged = pager.staged;
+    let header = pager.current_header;
+    overlay(staged, header.page_count, table, page_num)
+}
+
+// A page's own bytes inside the staging area, the log or the main file; no byte where there is no page.
+pub fn read_page<'a>(
+    pager: Pager,
+    table: &[u32],
+    log: &'a [u8],
+    main: &'a [u8],
+    staging: &'a [u8],
+    page_num: u32,
+) -> &'a [u8]
+    ensures { λ r. ⌜ now r ≡ readPage (world pager (now (table .entry)) (now (log .entry)) (now (main .entry))) (now (staging .entry)) «page_num» ⌝ }
+{
+    let found = find_page(pager, table, log, main, staging, page_num);
+    match found {
+        PageFound::Staged(at) => pager_state::page_from(staging, at),
+        PageFound::Log(at) => pager_state::page_from(log, at),
+        PageFound::Main(at) => pager_state::page_from(main, at),
+        PageFound::Nothing => &log[..0],
+        PageFound::Area => &log[..0],
+        PageFound::Busy => &log[..0],
+    }
+}
+
+fn recovered_as(found: BatchFound) -> RecoveredFound
+    ensures { λ r. ⌜ r ≡ recoveredAs found ⌝ }
+{
+    match found {
+        BatchFound::Batch { index, offset } => RecoveredFound::Batch { index, offset },
+        BatchFound::Nothing => RecoveredFound::Nothing,
+    }
+}
+
+// The next of the batches that the opening found, at a frame's index or behind it.
+pub fn recovered_mvcc_commits(pager: Pager, log: &[u8], index: usize) -> RecoveredFound
+    ensures { λ r. ⌜ r ≡ nextRecovered pager (now (log .entry)) index ⌝ }
+{
+    if log.len() != WAL_AREA {
+        return RecoveredFound::Area;
+    }
+    let wal = pager.wal;
+    if WAL_AREA < wal.len {
+        return RecoveredFound::Area;
+    }
+    let job = pager.job;
+    if pager_state::is_busy(job) {
+        return RecoveredFound::Busy;
+    }
+    recovered_as(wal::first_batch(le::part(log, 0, pager.recovered), index))
+}
