@@ -1,24 +1,24 @@
 -- The searches for differing and for lacking pages, and how many differ. Assumes nothing.
 use mathlib.Core.Path.{_≡_, refl, sym, ap, _∙_}
 use mathlib.Core.Bool.{Bool, true, false, not}
-use mathlib.Core.List.{List, [], _∷_}
+use mathlib.Core.List.{List, []}
 use mathlib.Core.Logic.{⊎-elim}
-use Prim.Native.Nat.{ℕ, zero, suc, _+_, _*_, _≤_, _<_, min, max}
+use Prim.Native.Nat.{ℕ, suc, _+_, _≤_, _<_, min, max}
 use native.Mathlib.Numerals.{add-one}
 use native.Mathlib.Omega.{arith}
-use borrow.Author.Tests.{eq-eqb, ne-eqb, le-leb, lt-leb, lt-ltb, le-ltb, eqb-true, ltb-true}
+use borrow.Author.Tests.{eq-eqb, le-leb, lt-leb, lt-ltb, le-ltb, eqb-true, ltb-true}
 use lib.Dec.{leb, ltb, eqb}
-use lib.ListN.{length, take, drop, getD, length-take}
+use lib.ListN.{length, take, getD, length-take}
 use lib.Seq.{getD-take}
 use Rattle.le.specs.Choice.{pick, both}
-use Rattle.le.specs.Le.{sameBytes}
 use Rattle.le.proofs.Tests.{le-or-lt, eq-or-not}
 use Rattle.le.proofs.Compare.{both-true}
-use Rattle.pager_state.specs.World.{World, world, pageLimit}
-use Rattle.pager_state.specs.Overlay.{pageFrom, findIn, stagedPages, slotOf, isStaged, stagedBytes, committedBytes}
+use Rattle.pager_state.specs.World.{World}
+use Rattle.pager_state.specs.Overlay.{findIn, stagedPages, slotOf, isStaged, stagedBytes, committedBytes}
 use Rattle.pager_state.specs.Pages.{pagesFrom, firstOf, differs, lacks}
 use Rattle.pager_state.specs.declared.Staged.{Staged}
-use Rattle.pager_state.proofs.Walks.{pages-hit, pages-miss, pages-end, Found, found, none-found, pages-skip, none-is, first-before, pages-same, pages-more}
+use Rattle.pager_state.proofs.Searches.{pages-hit, pages-miss, lowest, pages-same}
+use Rattle.pager_state.proofs.Walks.{none-found, pages-skip, none-is, first-before, pages-more}
 use Rattle.pager_commit.specs.CommitStep.{isIn, committedIn, slotDiffers, differsIn, countsAt}
 use Rattle.pager_commit.proofs.Least.{find-at}
 
@@ -60,13 +60,13 @@ module _ (s : Staged) (g t l m : List ℕ) where
 
   module _ (p q index : ℕ) (e : q ≡ firstOf (pagesFrom (isStaged s) p)) (h : q < 1024) (i : q < 1024 → index ≡ slotOf s q) where
     pub staged-from : p ≤ q
-    staged-from = found (isStaged s) p q e h .from
+    staged-from = lowest (isStaged s) p q e h .from
 
     over : pagesFrom D p ≡ pagesFrom D q
     over = pages-skip D p q staged-from (λ n a b. not-staged n (first-before (isStaged s) p q n e a b (omega arith)))
 
     at-slot : {r : Bool} → r ≡ slotDiffers g t l m q index → D q ≡ r
-    at-slot a = differs-at q index (found (isStaged s) p q e h .holds) (i h) a
+    at-slot a = differs-at q index (lowest (isStaged s) p q e h .holds) (i h) a
 
     -- it differs
     pub differs-here : {r : Bool} → r ≡ slotDiffers g t l m q index → r ≡ true → q ≡ firstOf (pagesFrom D p)

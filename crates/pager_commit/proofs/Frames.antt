@@ -6,12 +6,12 @@ use mathlib.Core.Logic.{_⊎_, ⊎-elim}
 use Prim.Native.Nat.{ℕ, suc, _+_, _-_, _*_, _≤_, _<_}
 use native.Mathlib.Numerals.{add-one}
 use native.Mathlib.Omega.{arith}
-use borrow.Author.Tests.{eq-eqb, ne-eqb, le-leb, lt-leb, leb-true}
+use borrow.Author.Tests.{eq-eqb, ne-eqb, le-leb, leb-true}
 use denote.Enum.Declared.{tagOf}
 use lib.Dec.{leb}
 use lib.ListN.{length, take, drop, length-take, length-drop}
 use lib.Seq.{drop-drop}
-use Rattle.le.specs.Choice.{pick, both}
+use Rattle.le.specs.Choice.{pick}
 use Rattle.le.specs.Le.{put, store}
 use Rattle.le.proofs.Stores.{part-put, put-over, length-put}
 use Rattle.header.specs.Header.{encodeHeader, encodeAfter}
@@ -28,7 +28,7 @@ use Rattle.wal.proofs.FrameAppended as F
 use Rattle.wal.proofs.Writing.{frame-done, frame-full, place-done}
 use Rattle.pager_state.specs.World.{World, world, countOf, busyWith, withJob, withWal}
 use Rattle.pager_state.specs.Overlay.{pageFrom, slotOf, stagedBytes, frameOf, inLog, onMain, logBytes}
-use Rattle.pager_state.specs.Stores.{Act, Put, Sealed, Other, placeOf, inside, diskOf, putFile}
+use Rattle.pager_state.specs.Stores.{Act, Put, Other, placeOf, inside, diskOf}
 use Rattle.pager_state.specs.Pages.{pagesFrom, differs}
 use Rattle.pager_state.specs.Fold.{foldTodo, pagesTodo}
 use Rattle.pager_state.specs.Commit.{saltOf, entered, frameAct, framed, sealAct, jobAfter, sealedPager, sealedWorld, framesTodo, framesAdvance}

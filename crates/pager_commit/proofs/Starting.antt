@@ -1,20 +1,20 @@
 -- A commit's step by the job that is part done, and the judgement of a starting call. Assumes nothing.
 use mathlib.Core.Path.{_≡_, refl, sym, ap, _∙_}
-use mathlib.Core.Bool.{Bool, true, false}
+use mathlib.Core.Bool.{true, false}
 use mathlib.Core.List.{List, [], _∷_}
 use mathlib.Core.Logic.{⊎-elim}
 use Prim.Native.Nat.{ℕ, _+_, _*_, _≤_, _<_}
 use native.Mathlib.Omega.{arith}
 use types.Run.{OneOf}
 use denote.Enum.Declared.{tagOf}
-use borrow.Author.Tests.{leb-true, lt-ltb, le-ltb, le-leb, lt-leb, eq-eqb, ne-eqb}
+use borrow.Author.Tests.{leb-true, lt-ltb, le-ltb, le-leb, lt-leb}
 use lib.Dec.{leb}
 use lib.ListN.{length}
-use Rattle.le.specs.Choice.{pick, both}
+use Rattle.le.specs.Choice.{both}
 use Rattle.le.proofs.Compare.{both-true}
 use Rattle.header.specs.Header.{isVersion}
 use Rattle.header.specs.declared.DbHeader.{DbHeader}
-use Rattle.pager_state.specs.World.{World, countOf, headerOf, fine, stagingFine, busy, readOnly, withJob, withWal}
+use Rattle.pager_state.specs.World.{World, countOf, headerOf, busy, readOnly, withJob, withWal}
 use Rattle.pager_state.specs.Pages.{pagesFrom, firstOf, differs, lacks}
 use Rattle.pager_state.specs.Commit.{framesTodo, framesAdvance, commitTodo, commitAdvance}
 use Rattle.pager_state.specs.Steps.{answerOf, named, done, stepFine, headerGood, differing, lacking, commitStart, isBegun, beginCommit}
@@ -28,18 +28,6 @@ use Rattle.pager_state.specs.declared.CommitStart.the-variants as commit
 use Rattle.pager_state.proofs.Job as J
 use Rattle.pager_commit.specs.CommitStep.{commitStepAnswer, commitStepped, differsIn, startedAs}
 use Rattle.pager_commit.proofs.Differing.{differs-by}
-
--- ---- refusal 1
-
-module _ (g : List ℕ) (w : World) where
-  pub areas-fine : fine w ≡ true → length g ≡ 262144 → stepFine g w ≡ true
-  areas-fine a n = rw (a, eq-eqb (length g) 262144 n)
-
-  pub area-wrong : fine w ≡ false → stepFine g w ≡ false
-  area-wrong a = rw a
-
-  pub staging-wrong : fine w ≡ true → (length g ≡ 262144 → ⊥) → stepFine g w ≡ false
-  staging-wrong a n = rw (a, ne-eqb (length g) 262144 n)
 
 -- ---- the step, by the job
 

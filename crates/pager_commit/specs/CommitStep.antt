@@ -1,7 +1,7 @@
 -- A step of a commit that is part done, and what its parts are by themselves. g is the staging area.
-use mathlib.Core.Bool.{Bool, true, false, not}
-use mathlib.Core.List.{List, [], _∷_}
-use Prim.Native.Nat.{ℕ, _+_, _*_}
+use mathlib.Core.Bool.{Bool, not}
+use mathlib.Core.List.{List, []}
+use Prim.Native.Nat.{ℕ, _*_}
 use lib.Dec.{ltb, eqb}
 use lib.ListN.{length}
 use Rattle.le.specs.Choice.{pick, both}
@@ -12,7 +12,7 @@ use Rattle.header.specs.declared.DbHeader.{DbHeader}
 use Rattle.frame.specs.Frame.{encodeFrame}
 use Rattle.wal.specs.declared.Wal.{Wal}
 use Rattle.pager_state.specs.World.{World, pageLimit, countOf, noneStaged}
-use Rattle.pager_state.specs.Overlay.{pageFrom, findIn, slotOf, isStaged, stagedBytes, inLog, onMain, mainAt, logBytes}
+use Rattle.pager_state.specs.Overlay.{pageFrom, findIn, slotOf, isStaged, inLog, onMain, mainAt, logBytes}
 use Rattle.pager_state.specs.Commit.{jobAfter, commitTodo, commitAdvance}
 use Rattle.pager_state.specs.Steps.{answerOf, named, done, stepFine}
 use Rattle.pager_state.specs.declared.Staged.{Staged}

@@ -29,7 +29,6 @@ use pager_state::PAGES;
 use pager_state::Pager;
 use pager_state::Place;
 use pager_state::STAGED_PAGES;
-use pager_state::STAGING_AREA;
 use pager_state::Staged;
 use pager_state::StepAnswer;
 use pager_state::Stepped;
@@ -441,13 +440,7 @@ pub fn commit_step<'a>(
     ensures { λ r. ⌜ r .answer ≡ commitStepAnswer (now (staging .entry)) (world pager (now (table .entry)) (now (log .entry)) (now (main .entry))) ⌝ }
     ensures { λ r. ⌜ world (r .pager) (now (table .exit)) (now (log .exit)) (now (main .entry)) ≡ commitStepped (now (staging .entry)) (world pager (now (table .entry)) (now (log .entry)) (now (main .entry))) ⌝ }
 {
-    if !pager_state::is_fine(pager, table.len(), log.len(), main.len()) {
-        return Stepped {
-            answer: StepAnswer::Area,
-            pager,
-        };
-    }
-    if staging.len() != STAGING_AREA {
+    if !pager_state::are_fine(pager, table.len(), log.len(), main.len(), staging.len()) {
         return Stepped {
             answer: StepAnswer::Area,
             pager,
@@ -503,10 +496,7 @@ pub fn begin_commit<'a>(
 ) -> CommitStarted
     ensures { λ r. ⌜ r ≡ beginCommit (now (staging .entry)) (world pager (now (table .entry)) (now (log .entry)) (now (main .entry))) «new_header» salt ⌝ }
 {
-    if !pager_state::is_fine(pager, table.len(), log.len(), main.len()) {
-        return started(CommitStart::Area, pager);
-    }
-    if staging.len() != STAGING_AREA {
+    if !pager_state::are_fine(pager, table.len(), log.len(), main.len(), staging.len()) {
         return started(CommitStart::Area, pager);
     }
     let job = pager.job;

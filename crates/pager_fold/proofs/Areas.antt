@@ -1,6 +1,6 @@
 -- What the stores of a fold leave in a file's area. Assumes nothing.
-use mathlib.Core.Path.{_≡_, refl, sym, ap, _∙_}
-use mathlib.Core.List.{List, [], _∷_, _++_}
+use mathlib.Core.Path.{_≡_, sym, ap, _∙_}
+use mathlib.Core.List.{List, _++_}
 use mathlib.Core.Logic.{⊎-elim}
 use Prim.Native.Nat.{ℕ, _+_, _-_, _≤_, _<_, max}
 use native.Mathlib.Omega.{arith}
@@ -13,7 +13,7 @@ use Rattle.le.proofs.Stores.{store-put}
 use Rattle.header.specs.Header.{encodeHeader, encodeAfter}
 use Rattle.header.specs.declared.DbHeader.{DbHeader}
 use Rattle.header.proofs.Encoding.{length-encodeHeader}
-use Rattle.pager_state.specs.Stores.{File, grown, putFile}
+use Rattle.pager_state.specs.Stores.{grown, putFile}
 use Rattle.pager_state.proofs.Stored.{grown-none, length-grown}
 use Rattle.pager_fold.specs.FoldStep.{fileOf, headerPut}
 

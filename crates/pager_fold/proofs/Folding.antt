@@ -9,7 +9,6 @@ use native.Mathlib.Omega.{arith}
 use borrow.Author.Tests.{le-leb, leb-true, leb-false}
 use lib.Dec.{leb}
 use lib.ListN.{length, length-take}
-use Rattle.le.specs.Choice.{pick}
 use Rattle.le.specs.Le.{put}
 use Rattle.le.proofs.Tests.{le-or-lt}
 use Rattle.frame.specs.Frame.{frameAt, bodyOf}
@@ -23,20 +22,19 @@ use Rattle.wal.specs.declared.Wal.{Wal}
 use Rattle.wal.specs.declared.WalTruncated.the-variants as truncated
 use Rattle.wal.proofs.Encoding.{length-encodeWalHeader}
 use Rattle.pager_state.specs.World.{World, world, countOf, headerOf, fine, busy, readOnly, withJob, withWal}
-use Rattle.pager_state.specs.Overlay.{frameOf, logBytes, mainAt}
-use Rattle.pager_state.specs.Stores.{Act, Put, SetLen, Other, placeOf, inside, diskOf, grown, putFile, lenFile}
+use Rattle.pager_state.specs.Overlay.{frameOf, logBytes}
+use Rattle.pager_state.specs.Stores.{Act, placeOf, inside, diskOf, grown, putFile, lenFile}
 use Rattle.pager_state.specs.Pages.{pagesFrom, firstOf, folds}
 use Rattle.pager_state.specs.Fold.{foldedFrom, logHeaderAct, nextHeader, folded, logLengthAct, withoutFrames, emptied, mainLengthAct, lengthened, mainHeaderAct, headed, none, pageAct, paged, headerTodo, emptyTodo, lengthTodo, pagesTodo, foldTodo, pagesAdvance, foldAdvance}
 use Rattle.pager_state.specs.Steps.{stepFine, answerOf, namedBy, named, done, nothingToFold, checkpointStart, folding, beginCheckpoint}
-use Rattle.pager_state.specs.declared.FileKind.the-variants as file
 use Rattle.pager_state.specs.declared.Job.{Job}
 use Rattle.pager_state.specs.declared.Job.the-variants as job
 use Rattle.pager_state.specs.declared.Pager.{Pager}
 use Rattle.pager_state.specs.declared.StepAnswer.{StepAnswer}
 use Rattle.pager_state.specs.declared.StepAnswer.the-variants as step
 use Rattle.pager_state.specs.declared.CheckpointStart.the-variants as checkpoint
-use Rattle.pager_state.specs.declared.CheckpointStarted.{CheckpointStarted}
-use Rattle.pager_state.proofs.Walks.{found, none-found}
+use Rattle.pager_state.proofs.Searches.{lowest}
+use Rattle.pager_state.proofs.Walks.{none-found}
 use Rattle.pager_state.proofs.Nexts.{named-in, done-in}
 use Rattle.pager_state.proofs.Made.{fine-parts}
 use Rattle.pager_fold.specs.FoldStep.{foldAnswer, foldStepped, foldsBy, fileOf, withMain, pagePut, headerPut, startedAs}
@@ -55,7 +53,7 @@ module _ (w : World) where
   first-by p q g = g ∙ ap firstOf (pages-by p)
 
   pub some-pages : (p q : ℕ) → q ≡ firstOf (pagesFrom by p) → q < 1024 → pagesFrom (folds w) p ≡ q ∷ pagesFrom (folds w) (suc q)
-  some-pages p q g h = found (folds w) p q (first-by p q g) h .split
+  some-pages p q g h = lowest (folds w) p q (first-by p q g) h .split
 
   pub no-pages : (p q : ℕ) → q ≡ firstOf (pagesFrom by p) → 1024 ≤ q → pagesFrom (folds w) p ≡ []
   no-pages p q g h = none-found (folds w) p q (first-by p q g) h
@@ -170,7 +168,7 @@ module _ (salt answer p : ℕ) (w : World) where
   pages-done : (v : World) → done (pagesTodo salt answer (pagesFrom (folds w) p) w) v w ≡ v
   pages-done v =
       let q : ℕ = firstOf (pagesFrom (folds w) p) in
-      ⊎-elim (λ h. none-done v (none-found (folds w) p q refl h)) (λ h. some-done v q (found (folds w) p q refl h .split) h) (le-or-lt 1024 q)
+      ⊎-elim (λ h. none-done v (none-found (folds w) p q refl h)) (λ h. some-done v q (lowest (folds w) p q refl h .split) h) (le-or-lt 1024 q)
 
 -- ---- the step, by the job
 

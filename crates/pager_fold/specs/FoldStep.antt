@@ -1,6 +1,6 @@
 -- A step of a fold that is part done, and what its parts are by themselves.
-use mathlib.Core.Bool.{Bool, true, false}
-use mathlib.Core.List.{List, [], _∷_}
+use mathlib.Core.Bool.{Bool}
+use mathlib.Core.List.{List}
 use Prim.Native.Nat.{ℕ}
 use lib.Dec.{leb, ltb}
 use Rattle.le.specs.Choice.{pick, both}

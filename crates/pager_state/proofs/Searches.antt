@@ -143,7 +143,7 @@ module _ (f : ℕ → Bool) where
 
 -- ---- two tests that agree
 
-among-same : (f g : ℕ → Bool) (k p : ℕ) → ((n : ℕ) → p ≤ n → n < p + k → f n ≡ g n) → among f k p ≡ among g k p
+pub among-same : (f g : ℕ → Bool) (k p : ℕ) → ((n : ℕ) → p ≤ n → n < p + k → f n ≡ g n) → among f k p ≡ among g k p
 unfolding among
 among-same f g zero p h = refl
 among-same f g (suc k) p h =

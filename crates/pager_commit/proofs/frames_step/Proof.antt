@@ -4,7 +4,8 @@ use Prim.Native.Nat.{_-_}
 use Rattle.pager_state.specs.Pages.{pagesFrom, firstOf, differs}
 use Rattle.pager_commit.proofs.Frames.{frame-told, frame-stepped, seal-told, seal-stepped}
 use Rattle.pager_state.specs.World.{world}
-use Rattle.pager_state.proofs.Walks.{found, none-found}
+use Rattle.pager_state.proofs.Searches.{lowest}
+use Rattle.pager_state.proofs.Walks.{none-found}
 use Rattle.pager_commit.proofs.Differing.{differs-by}
 use borrow.Author.Needs.{needs}
 use Rattle.pager_commit.proofs.frames_step.Statement.{statement}
@@ -28,7 +29,7 @@ returns c =
     let f = c9 .next-differing .ensures in
     let q = c9 .next-differing .result .page in
     let d : q ≡ firstOf (pagesFrom (differs g W) (c17 .args .page)) = f .0 ∙ ap firstOf (differs-by g W (c17 .args .page)) in
-    let e = found (differs g W) (c17 .args .page) q d (c7 .if1 .taken) .split in
+    let e = lowest (differs g W) (c17 .args .page) q d (c7 .if1 .taken) .split in
     let i = f .1 .0 (c7 .if1 .taken) in
     let s = c4 .frame-step .ensures in (
       frame-told g (c17 .args .header) (c17 .args .salt) (c17 .args .answer) (c17 .args .page) W q (c9 .next-differing .result .index) e i (f .1 .1) (c17 .pre .1 .1 .0) (s .0),

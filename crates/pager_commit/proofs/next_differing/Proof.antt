@@ -6,7 +6,7 @@ use Prim.Native.Nat.{_-_}
 use Rattle.pager_state.specs.Pages.{pagesFrom, firstOf}
 use Rattle.pager_commit.specs.CommitStep.{differsIn}
 use Rattle.pager_commit.proofs.Differing.{none-differs, staged-from, differs-here, same-here}
-use Rattle.pager_state.proofs.Walks.{pages-end}
+use Rattle.pager_state.proofs.Searches.{pages-end}
 use Rattle.pager_commit.proofs.next_differing.Statement.{statement}
 use Rattle.pager_commit.proofs.next_differing.Tie as tie
 

@@ -6,7 +6,8 @@ use Prim.Native.Nat.{_+_, _-_, _≤_}
 use lib.ListN.{length}
 use Rattle.pager_state.specs.Pages.{pagesFrom}
 use Rattle.pager_fold.specs.FoldStep.{foldsBy}
-use Rattle.pager_state.proofs.Walks.{pages-end, tally-step}
+use Rattle.pager_state.proofs.Searches.{pages-end}
+use Rattle.pager_state.proofs.Walks.{tally-step}
 use Rattle.pager_fold.proofs.count_folding.Statement.{statement}
 use Rattle.pager_fold.proofs.count_folding.Tie as tie
 

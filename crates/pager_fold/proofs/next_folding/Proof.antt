@@ -6,7 +6,7 @@ use borrow.Author.Needs.{needs}
 use Prim.Native.Nat.{_-_}
 use Rattle.pager_state.specs.Pages.{pagesFrom, firstOf}
 use Rattle.pager_fold.specs.FoldStep.{foldsBy}
-use Rattle.pager_state.proofs.Walks.{pages-hit, pages-miss, pages-end}
+use Rattle.pager_state.proofs.Searches.{pages-hit, pages-miss, pages-end}
 use Rattle.pager_fold.proofs.next_folding.Statement.{statement}
 use Rattle.pager_fold.proofs.next_folding.Tie as tie
 
