@@ -14,6 +14,7 @@ pub const FRAME_HEADER_SIZE: usize = 16;
 pub const FRAME_SIZE: usize = FRAME_HEADER_SIZE + PAGE_SIZE;
 
 // A frame's heading.
+#[repr(C)]
 pub struct FrameHeader {
     pub page_num: u32,
     pub commit_page_count: u32,

@@ -15,6 +15,7 @@ pub const FORMAT_VERSION_V6: u16 = 6;
 pub const FORMAT_VERSION_BASELINE: u16 = FORMAT_VERSION_V4;
 
 // What the header says. The page count includes page 0.
+#[repr(C)]
 pub struct DbHeader {
     pub page_count: u32,
     pub schema_root_page: u32,

@@ -14,7 +14,7 @@ use lib.Seq.{drop-cons}
 use Rattle.le.specs.Choice.{both}
 use Rattle.le.specs.Le.{leOf, field, sameBytes}
 use Rattle.le.proofs.Tests.{eq-or-not}
-use Rattle.le.proofs.Fields.{Bytes, field-cons}
+use Rattle.le.proofs.Fields.{Bytes, field-cons, field-one}
 
 -- ---- what the comparison means
 
@@ -93,6 +93,14 @@ module _ (a b : List ℕ) (ha : Bytes a) (hb : Bytes b) where
   pub same-off : (n i : ℕ) → i + n ≤ length a → i + n ≤ length b → (field n i a ≡ field n i b → ⊥)
       → false ≡ sameBytes (drop i a) (drop i b)
   same-off n i h k e = rw (same-fields n i h k, ne-eqb (field n i a) (field n i b) e)
+
+  -- one byte more of a block that starts at i; t tells of its first k
+  pub same-more : (i k : ℕ) (t : Bool) {u : Bool} → i + k < length a → i + k < length b → u ≡ both t (eqb (getD a (i + k) 0) (getD b (i + k) 0))
+      → both u (sameBytes (drop (i + (k + 1)) a) (drop (i + (k + 1)) b)) ≡ both t (sameBytes (drop (i + k) a) (drop (i + k) b))
+  same-more i k t h l e =
+      let s : i + k + 1 ≡ i + (k + 1) = omega arith in
+      let f = same-fields 1 (i + k) (omega arith) (omega arith) in
+      rw (e, both-assoc, f, field-one (i + k) a h, field-one (i + k) b l, s)
 
 -- nothing is left to compare
 pub same-end : (a b : List ℕ) (i : ℕ) → length a ≤ i → length b ≤ i → true ≡ sameBytes (drop i a) (drop i b)

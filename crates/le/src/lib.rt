@@ -7,6 +7,7 @@ ghost use lib.Dec.{leb};
 ghost use lib.ListN.{length, take, drop, replicate};
 ghost use Rattle.le.specs.Le.{leBytes, field, wholeField, put, store, sameBytes};
 ghost use Rattle.le.specs.Answers.{storedOf};
+ghost use Rattle.le.specs.Choice.{both};
 
 // Whether n bytes from `at` on lie within a length.
 pub fn fits_in(len: usize, at: usize, n: usize) -> bool
@@ -109,14 +110,12 @@ fn same_from(a: &[u8], b: &[u8], i: usize) -> bool
     true
 }
 
-// Whether two slices hold the same bytes, eight at a time.
-pub fn same(a: &[u8], b: &[u8]) -> bool
-    ensures { λ r. ⌜ r ≡ sameBytes (now (a .entry)) (now (b .entry)) ⌝ }
+// The same, eight at a time.
+fn same_words(a: &[u8], b: &[u8], start: usize) -> bool
+    requires { ⌜ (length (now a) ≡ length (now b)) × (start ≤ length (now a)) ⌝ }
+    ensures { λ r. ⌜ r ≡ sameBytes (drop start (now (a .entry))) (drop start (now (b .entry))) ⌝ }
 {
-    if a.len() != b.len() {
-        return false;
-    }
-    let mut i = 0;
+    let mut i = start;
     while 8 <= a.len() - i {
         if get_u64(a, i) != get_u64(b, i) {
             return false;
@@ -124,6 +123,43 @@ pub fn same(a: &[u8], b: &[u8]) -> bool
         i += 8;
     }
     same_from(a, b, i)
+}
+
+fn both(a: bool, b: bool) -> bool
+    ensures { λ r. ⌜ r ≡ both a b ⌝ }
+{
+    if a { b } else { false }
+}
+
+// Whether 64 bytes from `i` on are the same. Every byte is looked at: with no way out in between the compiler compares sixteen at once.
+fn same_block(a: &[u8], b: &[u8], i: usize) -> bool
+    requires { ⌜ (i + 64 ≤ length (now a)) × (i + 64 ≤ length (now b)) ⌝ }
+    ensures { λ r. ⌜ both r (sameBytes (drop (i + 64) (now (a .entry))) (drop (i + 64) (now (b .entry)))) ≡ sameBytes (drop i (now (a .entry))) (drop i (now (b .entry))) ⌝ }
+{
+    let mut yes = true;
+    let mut k: usize = 0;
+    while k < 64 {
+        yes = both(yes, a[i + k] == b[i + k]);
+        k += 1;
+    }
+    yes
+}
+
+// Whether two slices hold the same bytes.
+pub fn same(a: &[u8], b: &[u8]) -> bool
+    ensures { λ r. ⌜ r ≡ sameBytes (now (a .entry)) (now (b .entry)) ⌝ }
+{
+    if a.len() != b.len() {
+        return false;
+    }
+    let mut i = 0;
+    while 64 <= a.len() - i {
+        if !same_block(a, b, i) {
+            return false;
+        }
+        i += 64;
+    }
+    same_words(a, b, i)
 }
 
 // What a store answers.

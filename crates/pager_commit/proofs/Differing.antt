@@ -36,6 +36,30 @@ pub staged-by : (s : Staged) (p : ℕ) → pagesFrom (isIn (take (s .count) (s .
 unfolding isIn isStaged slotOf
 staged-by s p = refl
 
+-- whether a page is staged, by its slot
+module _ (s : Staged) (long : length (s .pages) ≡ 64) (q : ℕ) {r n : ℕ} (e : r ≡ findIn (stagedPages s) q) (f : n ≡ min (s .count) 64) where
+  size : length (stagedPages s) ≡ n
+  size = let c = length-take (s .count) (s .pages) in omega (arith, c, long, f)
+
+  pub without-slot : n ≤ r → isStaged s q ≡ false
+  unfolding isStaged slotOf
+  without-slot h = le-ltb (findIn (stagedPages s) q) (length (stagedPages s)) (omega (arith, e, size, h))
+
+  pub with-slot : r < n → isStaged s q ≡ true
+  unfolding isStaged slotOf
+  with-slot h = lt-ltb (findIn (stagedPages s) q) (length (stagedPages s)) (omega (arith, e, size, h))
+
+-- a page that is found has a slot
+within : (s : Staged) (q : ℕ) → length (s .pages) ≡ 64 → isStaged s q ≡ true → slotOf s q < 64
+unfolding isStaged
+within s q n e =
+    let h : slotOf s q < length (stagedPages s) = ltb-true (slotOf s q) (length (stagedPages s)) e in
+    let c : length (stagedPages s) ≡ min (s .count) (length (s .pages)) = length-take (s .count) (s .pages) in
+    omega (arith, h, c, n)
+
+pub slot-within : (s : Staged) (p q : ℕ) → length (s .pages) ≡ 64 → q ≡ firstOf (pagesFrom (isStaged s) p) → q < 1024 → slotOf s q < 64
+slot-within s p q n e h = within s q n (lowest (isStaged s) p q e h .holds)
+
 module _ (s : Staged) (g t l m : List ℕ) where
   abbrev pub D : ℕ → Bool
   D = differsIn s g t l m
@@ -107,7 +131,7 @@ module _ (s : Staged) (g t l m : List ℕ) where
     unfolding isStaged
     is-staged k = rw k (lt-ltb i (length (stagedPages s)) h)
 
-    counted : countsAt s g t l m page i ≡ true → length (pagesFrom (Upto (i + 1)) 0) ≡ suc (length (pagesFrom (Upto i) 0))
+    counted : countsAt (slotOf s page) g t l m page i ≡ true → length (pagesFrom (Upto (i + 1)) 0) ≡ suc (length (pagesFrom (Upto i) 0))
     unfolding countsAt
     counted c =
         let a = both-true (ltb page 1024) (both (eqb (slotOf s page) i) (slotDiffers g t l m page i)) c in
@@ -118,7 +142,7 @@ module _ (s : Staged) (g t l m : List ℕ) where
         let y : Upto (i + 1) page ≡ true = rw (d, lt-ltb (slotOf s page) (i + 1) (omega arith)) in
         pages-more (Upto i) (Upto (i + 1)) page x y (λ n z. upto-other i n (λ j. z (slot-page n j))) (ltb-true page 1024 (a .0))
 
-    not-counted : countsAt s g t l m page i ≡ false → (n : ℕ) → n < 1024 → slotOf s n ≡ i → Upto (i + 1) n ≡ Upto i n
+    not-counted : countsAt (slotOf s page) g t l m page i ≡ false → (n : ℕ) → n < 1024 → slotOf s n ≡ i → Upto (i + 1) n ≡ Upto i n
     unfolding countsAt
     not-counted c n b k =
         let f : n ≡ page = slot-page n k in
@@ -127,19 +151,22 @@ module _ (s : Staged) (g t l m : List ℕ) where
         let z : D n ≡ false = rw f (differs-at page i (is-staged j) (sym j) (sym d)) in
         rw z
 
-    passed : countsAt s g t l m page i ≡ false → pagesFrom (Upto (i + 1)) 0 ≡ pagesFrom (Upto i) 0
+    passed : countsAt (slotOf s page) g t l m page i ≡ false → pagesFrom (Upto (i + 1)) 0 ≡ pagesFrom (Upto i) 0
     passed c =
         pages-same (Upto (i + 1)) (Upto i) 0
         (λ n a b. ⊎-elim (λ k. not-counted c n b k) (λ k. upto-other i n k) (eq-or-not (slotOf s n) i))
 
-    count-by : (n : ℕ) (b : Bool) → countsAt s g t l m page i ≡ b → n ≡ length (pagesFrom (Upto i) 0) → pick b (n + 1) n ≡ length (pagesFrom (Upto (i + 1)) 0)
+    count-by : (n : ℕ) (b : Bool) → countsAt (slotOf s page) g t l m page i ≡ b → n ≡ length (pagesFrom (Upto i) 0) → pick b (n + 1) n ≡ length (pagesFrom (Upto (i + 1)) 0)
     count-by n true c f = let z = counted c in omega arith
     count-by n false c f = f ∙ sym (ap length (passed c))
 
     -- one slot more
-    pub count-step : {n k : ℕ} {yes : Bool} → yes ≡ countsAt s g t l m page i → k ≡ pick yes (n + 1) n → n ≡ length (pagesFrom (Upto i) 0)
-        → k ≡ length (pagesFrom (Upto (i + 1)) 0)
-    count-step {n} {k} {yes} a b c = b ∙ count-by n yes (sym a) c
+    pub count-step : {n k first : ℕ} {yes : Bool} → first ≡ findIn (stagedPages s) page → yes ≡ countsAt first g t l m page i → k ≡ pick yes (n + 1) n
+        → n ≡ length (pagesFrom (Upto i) 0) → k ≡ length (pagesFrom (Upto (i + 1)) 0)
+    unfolding slotOf
+    count-step {n} {k} {first} {yes} z a b c =
+        let d : yes ≡ countsAt (slotOf s page) g t l m page i = a ∙ ap (λ (f : ℕ). countsAt f g t l m page i) z in
+        b ∙ count-by n yes (sym d) c
 
   -- all of them
   upto-all : (n : ℕ) (b : Bool) → isStaged s n ≡ b → both (both b (slotDiffers g t l m n (slotOf s n))) b ≡ both b (slotDiffers g t l m n (slotOf s n))

@@ -3,15 +3,14 @@ use mathlib.Core.Path.{_≡_, refl, sym, ap, _∙_}
 use mathlib.Core.Bool.{Bool, true, false}
 use mathlib.Core.List.{List, [], _∷_}
 use mathlib.Core.Logic.{⊎-elim}
-use Prim.Native.Nat.{ℕ, zero, suc, _+_, _≤_, _<_, min}
+use Prim.Native.Nat.{ℕ, zero, suc, _+_, _%_, _≤_, _<_, min}
 use native.Mathlib.Omega.{arith}
-use borrow.Author.Tests.{eq-eqb, ne-eqb, eqb-true, lt-ltb, leb-true, ltb-true, ltb-false, le-leb}
-use lib.Dec.{leb, ltb, eqb}
+use borrow.Author.Tests.{eq-eqb, ne-eqb, eqb-true, lt-ltb, ltb-true}
+use lib.Dec.{ltb, eqb}
 use lib.ListN.{length, take, getD, length-take}
 use lib.Seq.{getD-take}
-use Rattle.le.specs.Choice.{pick, both}
+use Rattle.le.specs.Choice.{pick}
 use Rattle.le.proofs.Tests.{le-or-lt, eq-or-not}
-use Rattle.le.proofs.Compare.{both-true}
 use Rattle.pager_state.specs.Overlay.{findIn}
 use Rattle.pager_state.specs.Pages.{pagesFrom, firstOf}
 use Rattle.pager_state.proofs.Walks.{first-is, none-is}
@@ -19,13 +18,15 @@ use Rattle.pager_commit.specs.CommitStep.{isIn}
 
 -- ---- where a list has a page
 
--- the first place
-pub find-is : (l : List ℕ) (i x : ℕ) → i < length l → getD l i 0 ≡ x → ((j : ℕ) → j < i → getD l j 0 ≡ x → ⊥) → findIn l x ≡ i
-find-is [] i x h e a = absurd (omega arith)
-find-is (y ∷ l) zero x h e a = rw (eq-eqb y x e)
-find-is (y ∷ l) (suc i) x h e a =
-    let n : eqb y x ≡ false = ne-eqb y x (a 0 (omega arith)) in
-    rw n (ap suc (find-is l i x (omega arith) e (λ j k. a (suc j) (omega arith))))
+find-most-at : (y x : ℕ) (l : List ℕ) (j : ℕ) (b : Bool) → eqb y x ≡ b → findIn l x ≤ j → pick b 0 (suc (findIn l x)) ≤ suc j
+find-most-at y x l j true e h = omega arith
+find-most-at y x l j false e h = omega arith
+
+-- it is found there or before
+find-most : (l : List ℕ) (j x : ℕ) → j < length l → getD l j 0 ≡ x → findIn l x ≤ j
+find-most [] j x h e = absurd (omega arith)
+find-most (y ∷ l) zero x h e = rw (eq-eqb y x e) (omega arith)
+find-most (y ∷ l) (suc j) x h e = find-most-at y x l j (eqb y x) refl (find-most l j x (omega arith) e)
 
 find-later : (y x : ℕ) (l : List ℕ) (b : Bool) → eqb y x ≡ b → pick b 0 (suc (findIn l x)) < suc (length l)
     → (findIn l x < length l → getD l (findIn l x) 0 ≡ x) → getD (y ∷ l) (pick b 0 (suc (findIn l x))) 0 ≡ x
@@ -48,67 +49,56 @@ not-in l x a = not-by l x a (ltb (findIn l x) (length l)) refl
 
 -- ---- the search
 
--- `least` stands first at `index`, in front of i
-pub record Stands (s : List ℕ) (page i least index : ℕ) : Type 0 where
-  pub from : page ≤ least
+-- x is one of the first i
+pub record Stands (s : List ℕ) (i x : ℕ) : Type 0 where
+  pub index : ℕ
   pub front : index < i
-  pub there : getD s index 0 ≡ least
-  pub first : (j : ℕ) → j < index → getD s j 0 ≡ least → ⊥
+  pub there : getD s index 0 ≡ x
 
--- `least` is the lowest of the first i from `page` on, or 1,024
-pub record Lowest (s : List ℕ) (page i least index : ℕ) : Type 0 where
-  pub most : least ≤ 1024
-  pub low : (j : ℕ) → j < i → page ≤ getD s j 0 → least ≤ getD s j 0
-  pub slot : index < 64
-  pub stands : least < 1024 → Stands s page i least index
+-- of the first i from `page` on the lowest is `least` above it, if that is a page
+pub record Least (s : List ℕ) (page i least : ℕ) : Type 0 where
+  pub most : least < 65536
+  pub low : (j : ℕ) → j < i → page ≤ getD s j 0 → page + least ≤ getD s j 0
+  pub stands : page + least < 1024 → Stands s i (page + least)
 
-pub lowest-none : (s : List ℕ) (page : ℕ) → Lowest s page 0 1024 0
-lowest-none s page =
-    record { most = omega arith; low = λ j h k. absurd (omega arith); slot = omega arith; stands = λ h. absurd (omega arith) }
+pub least-none : (s : List ℕ) (page : ℕ) → Least s page 0 65535
+least-none s page = record { most = omega arith; low = λ j h k. absurd (omega arith); stands = λ h. absurd (omega (arith, h)) }
 
-module _ (s : List ℕ) (page i : ℕ) (h : i < 64) {least index : ℕ} (v : Lowest s page i least index) where
-  new-low : getD s i 0 < least → (j : ℕ) → j < i + 1 → page ≤ getD s j 0 → getD s i 0 ≤ getD s j 0
-  new-low l j k g =
-      ⊎-elim (λ (e : j ≡ i). omega (arith, ap (λ (n : ℕ). getD s n 0) e)) (λ e. let z = v .low j (omega (arith, e)) g in omega arith) (eq-or-not j i)
+module _ (s : List ℕ) (page i : ℕ) {least : ℕ} (v : Least s page i least) where
+  old-stands : page + least < 1024 → Stands s (i + 1) (page + least)
+  old-stands k = let u = v .stands k in record { index = u .index; front = omega (arith, u .front); there = u .there }
 
-  new-first : page ≤ getD s i 0 → getD s i 0 < least → (j : ℕ) → j < i → getD s j 0 ≡ getD s i 0 → ⊥
-  new-first g l j k e = let z = v .low j k (omega arith) in omega (arith, z)
-
-  old-low : (page ≤ getD s i 0 → least ≤ getD s i 0) → (j : ℕ) → j < i + 1 → page ≤ getD s j 0 → least ≤ getD s j 0
-  old-low l j k g = ⊎-elim (λ (e : j ≡ i). at e) (λ e. v .low j (omega (arith, e)) g) (eq-or-not j i)
+  -- with one more the least that both allow is at most either
+  low-with : (d : ℕ) → d ≤ least → (page ≤ getD s i 0 → page + d ≤ getD s i 0) → (j : ℕ) → j < i + 1 → page ≤ getD s j 0 → page + d ≤ getD s j 0
+  low-with d h l j k g = ⊎-elim (λ (e : j ≡ i). at e) (λ e. let z = v .low j (omega (arith, e)) g in omega arith) (eq-or-not j i)
     where
-      at : j ≡ i → least ≤ getD s j 0
+      at : j ≡ i → page + d ≤ getD s j 0
       at e = let z = ap (λ (n : ℕ). getD s n 0) e in let y = l (omega arith) in omega arith
 
-  old-stands : least < 1024 → Stands s page (i + 1) least index
-  old-stands k = let u = v .stands k in record { from = u .from; front = omega (arith, u .front); there = u .there; first = u .first }
+  module _ (rise : ℕ) (h : rise < 65536) (p : page < 1024) (e : (rise + page) % 65536 ≡ getD s i 0) where
+    rises : page ≤ getD s i 0 → page + rise ≡ getD s i 0
+    rises g = omega (arith, e)
 
-  passed : both (leb page (getD s i 0)) (ltb (getD s i 0) least) ≡ false → page ≤ getD s i 0 → least ≤ getD s i 0
-  passed e g =
-      let t : ltb (getD s i 0) least ≡ false = rw (le-leb page (getD s i 0) g) at e in
-      ltb-false (getD s i 0) least t
+    -- the page at i is the lowest now, or the old one is
+    new : rise < least → Least s page (i + 1) rise
+    new l =
+        record {
+          most = h;
+          low = low-with rise (omega arith) (λ g. omega (arith, rises g));
+          stands = λ k. record { index = i; front = omega arith; there = omega (arith, e) };
+        }
 
-  lowest-by : (b : Bool) → both (leb page (getD s i 0)) (ltb (getD s i 0) least) ≡ b → Lowest s page (i + 1) (pick b (getD s i 0) least) (pick b i index)
-  lowest-by true e =
-      let t = both-true (leb page (getD s i 0)) (ltb (getD s i 0) least) e in
-      let g = leb-true page (getD s i 0) (t .0) in
-      let l = ltb-true (getD s i 0) least (t .1) in
-      record {
-        most = omega (arith, v .most);
-        low = new-low l;
-        slot = h;
-        stands = λ k. record { from = g; front = omega arith; there = refl; first = new-first g l };
-      }
-  lowest-by false e = record { most = v .most; low = old-low (passed e); slot = v .slot; stands = old-stands }
+    old : least ≤ rise → Least s page (i + 1) least
+    old l = record { most = v .most; low = low-with least (omega arith) (λ g. omega (arith, rises g)); stands = old-stands }
 
   -- one more
-  pub lowest-step : {p least′ index′ : ℕ} {yes : Bool} → p ≡ getD s i 0 → yes ≡ both (leb page p) (ltb p least) → least′ ≡ pick yes p least
-      → index′ ≡ pick yes i index → Lowest s page (i + 1) least′ index′
-  lowest-step {p} {least′} {index′} {yes} e f a b =
-      let y : both (leb page (getD s i 0)) (ltb (getD s i 0) least) ≡ yes = sym (f ∙ rw e) in
-      rw (a, b, e) (lowest-by yes y)
+  pub least-step : (rise : ℕ) {next : ℕ} → rise < 65536 → page < 1024 → (rise + page) % 65536 ≡ getD s i 0 → next ≡ min rise least
+      → Least s page (i + 1) next
+  least-step rise {next} h p e f =
+      ⊎-elim (λ l. let z : next ≡ least = omega (arith, l) in rw z (old rise h p e l))
+      (λ l. let z : next ≡ rise = omega (arith, l) in rw z (new rise h p e l)) (le-or-lt least rise)
 
-module _ (s : List ℕ) (n page : ℕ) (long : length s ≡ 64) {i least index : ℕ} (all : i ≡ min n 64) (v : Lowest s page i least index) where
+module _ (s : List ℕ) (n page : ℕ) (long : length s ≡ 64) {i least : ℕ} (all : i ≡ min n 64) (p : page < 1024) (v : Least s page i least) where
   size : length (take n s) ≡ i
   size = simp length-take (omega arith)
 
@@ -116,33 +106,30 @@ module _ (s : List ℕ) (n page : ℕ) (long : length s ≡ 64) {i least index :
   same-at j h = getD-take n s j 0 (omega arith)
 
   -- no page from `page` to below the lowest is in the list
-  none-lower : (k : ℕ) → page ≤ k → k < least → isIn (take n s) k ≡ false
+  none-lower : (k : ℕ) → page ≤ k → k < page + least → isIn (take n s) k ≡ false
   none-lower k g l =
       not-in (take n s) k
       (λ j h e. let f : j < i = omega (arith, size, h) in let z = same-at j f in let y = v .low j f (omega arith) in omega arith)
 
-  place : least < 1024 → findIn (take n s) least ≡ index
-  place h =
-      let u = v .stands h in
-      find-is (take n s) index least (omega (arith, size, u .front)) (same-at index (u .front) ∙ u .there)
-      (λ j k e. u .first j k (sym (same-at j (omega (arith, k, u .front))) ∙ e))
-
-  is-in : least < 1024 → isIn (take n s) least ≡ true
+  is-in : page + least < 1024 → isIn (take n s) (page + least) ≡ true
   unfolding isIn
-  is-in h = let u = v .stands h in rw (place h) (lt-ltb index (length (take n s)) (omega (arith, size, u .front)))
+  is-in h =
+      let u = v .stands h in
+      let k : u .index < length (take n s) = omega (arith, size, u .front) in
+      let m = find-most (take n s) (u .index) (page + least) k (same-at (u .index) (u .front) ∙ u .there) in
+      lt-ltb (findIn (take n s) (page + least)) (length (take n s)) (omega (arith, m, k))
 
-  some : least < 1024 → least ≡ firstOf (pagesFrom (isIn (take n s)) page)
-  some h = sym (first-is (isIn (take n s)) page least (v .stands h .from) h (is-in h) none-lower)
+  some : page + least < 1024 → min (page + least) 1024 ≡ firstOf (pagesFrom (isIn (take n s)) page)
+  some h =
+      let m : min (page + least) 1024 ≡ page + least = omega arith in
+      m ∙ sym (first-is (isIn (take n s)) page (page + least) (omega arith) h (is-in h) none-lower)
 
-  none : 1024 ≤ least → least ≡ firstOf (pagesFrom (isIn (take n s)) page)
+  none : 1024 ≤ page + least → min (page + least) 1024 ≡ firstOf (pagesFrom (isIn (take n s)) page)
   none h =
       let e : pagesFrom (isIn (take n s)) page ≡ [] = none-is (isIn (take n s)) page (λ k g l. none-lower k g (omega (arith, h))) in
-      let m : least ≡ 1024 = omega (arith, v .most) in
+      let m : min (page + least) 1024 ≡ 1024 = omega arith in
       m ∙ sym (ap firstOf e)
 
   -- all of them
-  pub lowest-page : least ≡ firstOf (pagesFrom (isIn (take n s)) page)
-  lowest-page = ⊎-elim none some (le-or-lt 1024 least)
-
-  pub lowest-index : least < 1024 → index ≡ findIn (take n s) least
-  lowest-index h = sym (place h)
+  pub least-page : min (page + least) 1024 ≡ firstOf (pagesFrom (isIn (take n s)) page)
+  least-page = ⊎-elim none some (le-or-lt 1024 (page + least))

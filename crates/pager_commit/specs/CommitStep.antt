@@ -47,9 +47,9 @@ slotDiffers g t l m n slot = not (sameBytes (pageFrom (pageSize * slot) g) (comm
 unfoldable pub differsIn : Staged → List ℕ → List ℕ → List ℕ → List ℕ → ℕ → Bool
 differsIn s g t l m n = both (isStaged s n) (slotDiffers g t l m n (slotOf s n))
 
--- a slot has a page that differs, and no slot before it has that page
-unfoldable pub countsAt : Staged → List ℕ → List ℕ → List ℕ → List ℕ → ℕ → ℕ → Bool
-countsAt s g t l m n slot = both (ltb n pageLimit) (both (eqb (slotOf s n) slot) (slotDiffers g t l m n slot))
+-- a slot has a page that differs, and it is the first that has that page
+unfoldable pub countsAt : ℕ → List ℕ → List ℕ → List ℕ → List ℕ → ℕ → ℕ → Bool
+countsAt first g t l m n slot = both (ltb n pageLimit) (both (eqb first slot) (slotDiffers g t l m n slot))
 
 -- the store once the seal stands and the log is v
 abbrev pub sealedWith : DbHeader → ℕ → ℕ → Wal → Pager → Pager

@@ -2,9 +2,8 @@
 ghost use mathlib.Core.Path.{_≡_};
 ghost use mathlib.Core.Bool.{true, false};
 ghost use mathlib.Core.List.{List};
-ghost use Prim.Native.Nat.{_+_, _*_, _≤_, _<_, min, max};
-ghost use lib.Dec.{leb, ltb, eqb};
-ghost use lib.ListN.{length, take};
+ghost use Prim.Native.Nat.{ℕ, _+_, _*_, _≤_, _<_, min, max};
+ghost use lib.ListN.{length, take, drop, getD};
 ghost use Rattle.le.specs.Choice.{pick, both};
 ghost use Rattle.header.specs.Header.{encodeHeader};
 ghost use Rattle.frame.specs.Frame.{encodeFrame};
@@ -66,38 +65,28 @@ fn higher(a: usize, b: usize) -> usize
     if a < b { b } else { a }
 }
 
-fn choose(first: bool, a: usize, b: usize) -> usize
-    ensures { λ r. ⌜ r ≡ pick first a b ⌝ }
+fn lower_16(a: u16, b: u16) -> u16
+    ensures { λ r. ⌜ r ≡ min a b ⌝ }
 {
-    if first { a } else { b }
+    if a < b { a } else { b }
 }
 
-// Whether a number lies from `low` to below `high`.
-fn is_between(low: usize, n: usize, high: usize) -> bool
-    ensures { λ r. ⌜ r ≡ both (leb low n) (ltb n high) ⌝ }
-{
-    if low <= n { n < high } else { false }
-}
-
-// The lowest page from `page` on among the first n, and where it stands first.
-fn lowest(s: &[u16], n: usize, page: usize) -> Slot
-    requires { ⌜ length (now s) ≡ 64 ⌝ }
-    ensures { λ r. ⌜ r .page ≡ firstOf (pagesFrom (isIn (take n (now (s .entry)))) page) ⌝ }
-    ensures { λ r. ⌜ (r .page < 1024 → r .index ≡ findIn (take n (now (s .entry))) (r .page)) ⌝ }
-    ensures { λ r. ⌜ r .index < 64 ⌝ }
+// The lowest page from `page` on among the first n; 1,024 if there is none. It is the one that rises least above `page`, where those below
+// wrap round: the compiler takes the least of eight differences at once.
+fn lowest(s: &[u16], n: usize, page: usize) -> usize
+    requires { ⌜ (length (now s) ≡ 64) × (page < 1024) ⌝ }
+    ensures { λ r. ⌜ r ≡ firstOf (pagesFrom (isIn (take n (now (s .entry)))) page) ⌝ }
 {
     let end = lower(n, STAGED_PAGES);
-    let mut least = PAGES;
-    let mut index: usize = 0;
+    let from = page as u16;
+    let mut least = u16::MAX;
     let mut i: usize = 0;
     while i < end {
-        let p = wide(s[i]);
-        let is_lower = is_between(page, p, least);
-        least = choose(is_lower, p, least);
-        index = choose(is_lower, i, index);
+        let rise = std::num::wrapping_sub_u16(s[i], from);
+        least = lower_16(rise, least);
         i += 1;
     }
-    Slot { page: least, index }
+    lower(page + wide(least), PAGES)
 }
 
 // The first staged page from `page` on.
@@ -106,8 +95,22 @@ fn next_staged(staged: Staged, page: usize) -> Slot
     ensures { λ r. ⌜ (r .page < 1024 → r .index ≡ slotOf staged (r .page)) ⌝ }
     ensures { λ r. ⌜ r .index < 64 ⌝ }
 {
+    let none = Slot {
+        page: PAGES,
+        index: 0,
+    };
+    if PAGES <= page {
+        return none;
+    }
     let n = staged.count;
-    lowest(&staged.pages, n, page)
+    let found = lowest(&staged.pages, n, page);
+    if PAGES <= found {
+        return none;
+    }
+    Slot {
+        page: found,
+        index: pager_state::find_in(&staged.pages, n, found),
+    }
 }
 
 // The bytes that a page was last committed with: the log's, else the main file's, else none.
@@ -172,9 +175,9 @@ fn next_differing<'a>(
     }
 }
 
-// Whether a slot has a differing page that no slot before it has.
+// Whether a slot has a differing page; `first` is the slot in which that page stands first.
 fn is_counted<'a>(
-    staged: Staged,
+    first: usize,
     table: &[u32],
     log: &'a [u8],
     main: &'a [u8],
@@ -183,12 +186,12 @@ fn is_counted<'a>(
     slot: usize,
 ) -> bool
     requires { ⌜ slot < 64 ⌝ }
-    ensures { λ r. ⌜ r ≡ countsAt staged (now (staging .entry)) (now (table .entry)) (now (log .entry)) (now (main .entry)) page slot ⌝ }
+    ensures { λ r. ⌜ r ≡ countsAt first (now (staging .entry)) (now (table .entry)) (now (log .entry)) (now (main .entry)) page slot ⌝ }
 {
     if PAGES <= page {
         return false;
     }
-    if pager_state::slot_of(staged, page) != slot {
+    if first != slot {
         return false;
     }
     is_differing(table, log, main, staging, page, slot)
@@ -212,12 +215,14 @@ fn count_differing<'a>(
     ensures { λ r. ⌜ r ≡ length (pagesFrom (differsIn staged (now (staging .entry)) (now (table .entry)) (now (log .entry)) (now (main .entry))) 0) ⌝ }
     ensures { λ r. ⌜ r ≤ 64 ⌝ }
 {
-    let end = lower(staged.count, STAGED_PAGES);
+    let count = staged.count;
+    let end = lower(count, STAGED_PAGES);
     let mut n: usize = 0;
     let mut i: usize = 0;
     while i < end {
         let page = wide(staged.pages[i]);
-        let yes = is_counted(staged, table, log, main, staging, page, i);
+        let first = pager_state::find_in(&staged.pages, count, page);
+        let yes = is_counted(first, table, log, main, staging, page, i);
         n = tally(n, yes);
         i += 1;
     }
@@ -229,10 +234,12 @@ fn first_lacking(staged: Staged, old: u32, new: u32) -> usize
     requires { ⌜ new ≤ 1024 ⌝ }
     ensures { λ r. ⌜ r ≡ firstOf (pagesFrom (lacks staged old new) 0) ⌝ }
 {
+    let count = staged.count;
+    let slots = lower(count, STAGED_PAGES);
     let end = widen(new);
     let mut p = higher(1, widen(old));
     while p < end {
-        if !pager_state::is_staged(staged, p) {
+        if slots <= pager_state::find_in(&staged.pages, count, p) {
             return p;
         }
         p += 1;

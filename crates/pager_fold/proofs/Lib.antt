@@ -2,3 +2,4 @@
 pub mod Areas
 pub mod Table
 pub mod Folding
+pub mod Scan

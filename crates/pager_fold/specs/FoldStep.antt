@@ -1,12 +1,12 @@
 -- A step of a fold that is part done, and what its parts are by themselves.
 use mathlib.Core.Bool.{Bool}
 use mathlib.Core.List.{List}
-use Prim.Native.Nat.{ℕ}
+use Prim.Native.Nat.{ℕ, min}
 use lib.Dec.{leb, ltb}
 use Rattle.le.specs.Choice.{pick, both}
 use Rattle.header.specs.Header.{encodeHeader}
 use Rattle.header.specs.declared.DbHeader.{DbHeader}
-use Rattle.pager_state.specs.World.{World, fine, withJob, withStorage}
+use Rattle.pager_state.specs.World.{World, pageLimit, fine, withJob, withStorage}
 use Rattle.pager_state.specs.Overlay.{inLog, logBytes, mainAt}
 use Rattle.pager_state.specs.Stores.{File, putFile}
 use Rattle.pager_state.specs.Fold.{foldTodo, foldAdvance}
@@ -30,6 +30,10 @@ foldStepped w = pick (fine w) (done (foldTodo (w .pager .job) w) (foldAdvance (w
 -- "log pages from 1 below the page count", by the count and the page table alone
 unfoldable pub foldsBy : ℕ → List ℕ → ℕ → Bool
 foldsBy count t n = both (leb 1 n) (both (ltb n count) (inLog t n))
+
+-- the pages from there on are none of them
+abbrev pub foldingEnd : ℕ → ℕ → ℕ
+foldingEnd count len = min (min count pageLimit) len
 
 abbrev pub fileOf : List ℕ → ℕ → File
 fileOf area len = record { area = area; len = len }

@@ -2,7 +2,7 @@
 ghost use mathlib.Core.Path.{_≡_};
 ghost use mathlib.Core.Bool.{true, false};
 ghost use mathlib.Core.List.{List};
-ghost use Prim.Native.Nat.{_+_, _*_, _≤_, _<_, max};
+ghost use Prim.Native.Nat.{_+_, _*_, _≤_, _<_, min, max};
 ghost use lib.Dec.{leb, eqb};
 ghost use lib.ListN.{length};
 ghost use Rattle.le.specs.Choice.{pick, both};
@@ -16,7 +16,7 @@ ghost use Rattle.pager_state.specs.Stores.{Put, SetLen, Other, placeOf, grown, 
 ghost use Rattle.pager_state.specs.Pages.{pagesFrom, firstOf, folds};
 ghost use Rattle.pager_state.specs.Fold.{foldedEntry, foldedFrom, withoutFrames, logLengthAct, pagesTodo, pagesAdvance};
 ghost use Rattle.pager_state.specs.Steps.{named, noLogPages, beginCheckpoint};
-ghost use Rattle.pager_fold.specs.FoldStep.{foldAnswer, foldStepped, foldsBy, fileOf, withMain, pagePut, headerPut, startedAs};
+ghost use Rattle.pager_fold.specs.FoldStep.{foldAnswer, foldStepped, foldsBy, foldingEnd, fileOf, withMain, pagePut, headerPut, startedAs};
 use header::DbHeader;
 use page::PAGE_SIZE;
 use pager_state::CheckpointStart;
@@ -39,26 +39,27 @@ fn widen(x: u32) -> usize
     x as usize
 }
 
-// Whether a fold stores a page.
-fn is_folding(count: u32, table: &[u32], page: usize) -> bool
-    ensures { λ r. ⌜ r ≡ foldsBy count (now (table .entry)) page ⌝ }
+fn lesser(a: usize, b: usize) -> usize
+    ensures { λ r. ⌜ r ≡ min a b ⌝ }
 {
-    if page < 1 {
-        return false;
-    }
-    if widen(count) <= page {
-        return false;
-    }
-    pager_state::frame_of(table, page) != 0
+    if a < b { a } else { b }
+}
+
+// Where the pages end that a fold can store: those below the page count that the table has.
+fn folding_end(count: u32, len: usize) -> usize
+    ensures { λ r. ⌜ r ≡ foldingEnd count len ⌝ }
+{
+    lesser(lesser(widen(count), PAGES), len)
 }
 
 // The first page from `page` on that a fold stores; 1,024 if there is none.
 fn next_folding(count: u32, table: &[u32], page: usize) -> usize
     ensures { λ r. ⌜ r ≡ firstOf (pagesFrom (foldsBy count (now (table .entry))) page) ⌝ }
 {
-    let mut p = page;
-    while p < PAGES {
-        if is_folding(count, table, p) {
+    let end = folding_end(count, table.len());
+    let mut p = reached(page, 1);
+    while p < end {
+        if 1 < table[p] {
             return p;
         }
         p += 1;
@@ -77,11 +78,11 @@ fn tally(n: usize, yes: bool) -> usize
 fn count_folding(count: u32, table: &[u32]) -> usize
     ensures { λ r. ⌜ r ≡ length (pagesFrom (foldsBy count (now (table .entry))) 0) ⌝ }
 {
+    let end = folding_end(count, table.len());
     let mut n: usize = 0;
-    let mut p: usize = 0;
-    while p < PAGES {
-        let yes = is_folding(count, table, p);
-        n = tally(n, yes);
+    let mut p: usize = 1;
+    while p < end {
+        n = tally(n, 1 < table[p]);
         p += 1;
     }
     n

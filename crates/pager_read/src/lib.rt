@@ -7,6 +7,7 @@ ghost use Rattle.pager_state.specs.World.{world};
 ghost use Rattle.pager_state.specs.Overlay.{isStaged, stagedAt, below, findPage, readPage};
 ghost use Rattle.pager_state.specs.Queries.{header, modeBy, accessMode, clockHighWater, raised, observedBy, observeClock};
 ghost use Rattle.pager_state.specs.Batches.{recoveredAs, nextRecovered};
+ghost use Rattle.pager_read.specs.Reading.{placePage};
 use frame::FRAME_HEADER_SIZE;
 use page::PAGE_SIZE;
 use pager_state::AccessMode;
@@ -20,6 +21,7 @@ use pager_state::PageFound;
 use pager_state::Pager;
 use pager_state::RecoveredFound;
 use pager_state::STAGED_PAGES;
+use pager_state::STAGING_AREA;
 use pager_state::Staged;
 use wal::BatchFound;
 use wal::ClockSet;
@@ -178,6 +180,53 @@ pub fn find_page(
     let staged = pager.staged;
     let header = pager.current_header;
     overlay(staged, header.page_count, table, page_num)
+}
+
+// What reading a page takes of a store; the numbers of its staged pages are lent beside it.
+pub struct Reading {
+    pub page_count: u32,
+    // 0: nothing is part done.
+    pub job: u32,
+    pub log_len: usize,
+    pub main_len: usize,
+}
+
+// The same as find_page, for a host that reads often: the store is not handed over whole.
+pub fn place_page(
+    reading: Reading,
+    staged: &[u16],
+    table: &[u32],
+    log: &[u8],
+    main: &[u8],
+    staging: &[u8],
+    page_num: u32,
+) -> PageFound
+    ensures { λ r. ⌜ r ≡ placePage reading (now (staged .entry)) (now (table .entry)) (now (log .entry)) (now (main .entry)) (now (staging .entry)) «page_num» ⌝ }
+{
+    if !pager_state::is_inside(
+        reading.page_count,
+        reading.log_len,
+        reading.main_len,
+        table.len(),
+        log.len(),
+        main.len(),
+    ) {
+        return PageFound::Area;
+    }
+    if staging.len() != STAGING_AREA {
+        return PageFound::Area;
+    }
+    if STAGED_PAGES < staged.len() {
+        return PageFound::Area;
+    }
+    if reading.job != 0 {
+        return PageFound::Busy;
+    }
+    let slot = pager_state::find_in(staged, staged.len(), page_num as usize);
+    if slot < staged.len() {
+        return PageFound::Staged(PAGE_SIZE * slot);
+    }
+    below(reading.page_count, table, page_num)
 }
 
 // A page's own bytes inside the staging area, the log or the main file; no byte where there is no page.

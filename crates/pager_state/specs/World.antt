@@ -64,12 +64,15 @@ stagingFine g = eqb (length g) stagingArea
 abbrev pub countFine : Pager → Bool
 countFine p = leb (countOf (headerOf p)) pageLimit
 
--- by the lengths of table, log and main area
-abbrev pub fineBy : Pager → ℕ → ℕ → ℕ → Bool
-fineBy p t l m =
+-- by the page count and the files' lengths, and the lengths of table, log and main area
+abbrev pub fineIn : ℕ → ℕ → ℕ → ℕ → ℕ → ℕ → Bool
+fineIn count log main t l m =
     both (eqb t pageLimit)
-    (both (both (eqb l walArea) (leb (p .wal .len) walArea))
-    (both (both (eqb m mainArea) (leb (p .storage .len) mainArea)) (countFine p)))
+    (both (both (eqb l walArea) (leb log walArea))
+    (both (both (eqb m mainArea) (leb main mainArea)) (leb count pageLimit)))
+
+abbrev pub fineBy : Pager → ℕ → ℕ → ℕ → Bool
+fineBy p t l m = fineIn (countOf (headerOf p)) (p .wal .len) (p .storage .len) t l m
 
 unfoldable pub fine : World → Bool
 fine w = fineBy (w .pager) (length (w .table)) (length (w .log)) (length (w .main))

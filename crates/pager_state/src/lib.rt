@@ -1,12 +1,13 @@
 // The open store: what it holds, and what its calls answer. The definitions of every call are this crate's specs.
 ghost use mathlib.Core.Path.{_≡_};
+ghost use mathlib.Core.Bool.{true};
 ghost use mathlib.Core.List.{List};
-ghost use Prim.Native.Nat.{_+_};
+ghost use Prim.Native.Nat.{ℕ, _+_, _≤_, _<_};
 ghost use lib.Dec.{leb, eqb};
-ghost use lib.ListN.{take};
+ghost use lib.ListN.{length, take, drop, getD};
 ghost use Rattle.le.specs.Choice.{both};
-ghost use Rattle.pager_state.specs.World.{busyWith, readOnlyBy, fineBy, withJob, withWal};
-ghost use Rattle.pager_state.specs.Overlay.{pageFrom, findIn, slotOf, isStaged, frameOf, onMain};
+ghost use Rattle.pager_state.specs.World.{busyWith, readOnlyBy, fineIn, fineBy, withJob, withWal};
+ghost use Rattle.pager_state.specs.Overlay.{pageFrom, findIn, slotOf, frameOf, onMain};
 use header::DbHeader;
 use page::PAGE_SIZE;
 use wal::WAL_AREA;
@@ -43,12 +44,14 @@ pub enum Opening {
 }
 
 // The main file: its length, and its own header.
+#[repr(C)]
 pub struct FileStorage {
     pub len: usize,
     pub header: DbHeader,
 }
 
 // The numbers of the staged pages; slot i's bytes stand at 4,096 × i in the staging area.
+#[repr(C)]
 pub struct Staged {
     pub count: usize,
     pub pages: [u16; 64],
@@ -339,23 +342,37 @@ fn in_area(area: usize, size: usize, len: usize) -> bool
     len <= size
 }
 
-// Whether the lent areas have the pager's lengths, and the store's own lengths lie inside them.
-pub fn is_fine(pager: Pager, table: usize, log: usize, main: usize) -> bool
-    ensures { λ r. ⌜ r ≡ fineBy pager table log main ⌝ }
+// Whether the lent areas have the pager's lengths, and a store's page count and lengths lie inside them.
+pub fn is_inside(
+    page_count: u32,
+    log_len: usize,
+    main_len: usize,
+    table: usize,
+    log: usize,
+    main: usize,
+) -> bool
+    ensures { λ r. ⌜ r ≡ fineIn «page_count» «log_len» «main_len» table log main ⌝ }
 {
     if table != PAGES {
         return false;
     }
+    if !in_area(log, WAL_AREA, log_len) {
+        return false;
+    }
+    if !in_area(main, MAIN_AREA, main_len) {
+        return false;
+    }
+    page_count <= PAGES as u32
+}
+
+// The same of a store.
+pub fn is_fine(pager: Pager, table: usize, log: usize, main: usize) -> bool
+    ensures { λ r. ⌜ r ≡ fineBy pager table log main ⌝ }
+{
     let wal = pager.wal;
-    if !in_area(log, WAL_AREA, wal.len) {
-        return false;
-    }
     let storage = pager.storage;
-    if !in_area(main, MAIN_AREA, storage.len) {
-        return false;
-    }
     let header = pager.current_header;
-    header.page_count <= PAGES as u32
+    is_inside(header.page_count, wal.len, storage.len, table, log, main)
 }
 
 // The same, with the staging area's length.
@@ -380,11 +397,52 @@ fn widen(x: u32) -> usize
     x as usize
 }
 
-// The index of the first p among the first n, or their number.
-fn find_in(s: &[u16], n: usize, p: usize) -> usize
-    ensures { λ r. ⌜ r ≡ findIn (take n (now (s .entry))) p ⌝ }
+fn both(a: bool, b: bool) -> bool
+    ensures { λ r. ⌜ r ≡ both a b ⌝ }
+{
+    if a { b } else { false }
+}
+
+// Whether none of 8 numbers from `i` on is p. Every number is looked at: with no way out in between the compiler compares all at once.
+fn lacks_8(s: &[u16], i: usize, p: u16) -> bool
+    requires { ⌜ i + 8 ≤ length (now s) ⌝ }
+    ensures { λ r. ⌜ (r ≡ true → (k : ℕ) → k < 8 → getD (now (s .entry)) (i + k) 0 ≡ p → ⊥) ⌝ }
+{
+    let mut none = true;
+    let mut k: usize = 0;
+    while k < 8 {
+        none = both(none, s[i + k] != p);
+        k += 1;
+    }
+    none
+}
+
+// Where to look for p among the first n: behind blocks of 8 that lack it.
+fn look_from(s: &[u16], n: usize, p: usize) -> usize
+    ensures { λ r. ⌜ (r ≤ length (now (s .entry))) × ((r ≤ n) × (findIn (take n (now (s .entry))) p ≡ r + findIn (drop r (take n (now (s .entry)))) p)) ⌝ }
 {
     let mut i = 0;
+    if (u16::MAX as usize) < p {
+        return i;
+    }
+    let number = p as u16;
+    while 8 <= s.len() - i {
+        if n < i + 8 {
+            return i;
+        }
+        if !lacks_8(s, i, number) {
+            return i;
+        }
+        i += 8;
+    }
+    i
+}
+
+// The index of the first p among the first n, or their number.
+pub fn find_in(s: &[u16], n: usize, p: usize) -> usize
+    ensures { λ r. ⌜ r ≡ findIn (take n (now (s .entry))) p ⌝ }
+{
+    let mut i = look_from(s, n, p);
     while i < s.len() {
         if n <= i {
             return i;
@@ -403,18 +461,6 @@ pub fn slot_of(staged: Staged, page: usize) -> usize
 {
     let n = staged.count;
     find_in(&staged.pages, n, page)
-}
-
-pub fn is_staged(staged: Staged, page: usize) -> bool
-    ensures { λ r. ⌜ r ≡ isStaged staged page ⌝ }
-{
-    let i = slot_of(staged, page);
-    let n = staged.count;
-    if n < STAGED_PAGES {
-        i < n
-    } else {
-        i < STAGED_PAGES
-    }
 }
 
 // A page's length from a place on, or what there is of it.

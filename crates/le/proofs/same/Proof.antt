@@ -4,9 +4,9 @@ use native.Mathlib.Omega.{arith}
 use lib.ListN.{length, drop}
 use denote.Ref.{now}
 use borrow.Author.Needs.{needs}
+use borrow.Author.Tests.{not-true, not-false}
 use Rattle.le.specs.Le.{sameBytes}
-use Rattle.le.proofs.Fields.{Bytes}
-use Rattle.le.proofs.Compare.{same-on, same-off, differ-length}
+use Rattle.le.proofs.Compare.{differ-length}
 use Rattle.le.proofs.same.Statement.{statement}
 use Rattle.le.proofs.same.Tie as tie
 
@@ -26,28 +26,16 @@ loop-holds c = (omega arith, refl)
 
 returns-2 : tie.Need-returns-2 Inv-loop μ-loop
 returns-2 c =
-    let d = c .before .before .before .before .before .before in
-    let s = d .before .before .args in
-    let v = c .before .before .before .before .loop in
-    let ha : Bytes (now (s .a)) = λ i. omega (arith, d .before .shared-slice-known .given i) in
-    let hb : Bytes (now (s .b)) = λ i. omega (arith, d .shared-slice-known2 .given i) in
-    same-off (now (s .a)) (now (s .b)) ha hb 8 (v .i) (omega arith) (omega arith)
-    (λ e. c .if2 .taken (c .before .before .get-u64 .ensures ∙ e ∙ sym (c .before .get-u642 .ensures))) ∙ v .inv .1
+    let e = rw (not-true (c .before .same-block .result) (c .if2 .taken)) at (c .before .same-block .ensures) in
+    e ∙ c .before .before .before .loop .inv .1
 
 loop-again : tie.Need-loop-again Inv-loop μ-loop
 loop-again c =
-    let d = c .before .before .before .before .before .before in
-    let s = d .before .before .args in
-    let v = c .before .before .before .before .loop in
-    let ha : Bytes (now (s .a)) = λ i. omega (arith, d .before .shared-slice-known .given i) in
-    let hb : Bytes (now (s .b)) = λ i. omega (arith, d .shared-slice-known2 .given i) in (
-      omega arith,
-      sym (same-on (now (s .a)) (now (s .b)) ha hb 8 (v .i) (omega arith) (omega arith)
-          (sym (c .before .before .get-u64 .ensures) ∙ c .if2 .left ∙ c .before .get-u642 .ensures)) ∙ v .inv .1,
-    )
+    let e = rw (not-false (c .before .same-block .result) (c .if2 .left)) at (c .before .same-block .ensures) in
+    (omega arith, e ∙ c .before .before .before .loop .inv .1)
 
 returns-3 : tie.Need-returns-3 Inv-loop μ-loop
-returns-3 c = c .same-from .ensures ∙ c .before .before .loop .inv .1
+returns-3 c = c .same-words .ensures ∙ c .before .before .loop .inv .1
 
 pub same-spec : {M : Type 1} → statement M
-same-spec = tie.close (tie.spec Inv-loop μ-loop returns loop-holds (search needs) (search needs) (search needs) returns-2 (search needs) (search needs) loop-again (search needs) returns-3)
+same-spec = tie.close (tie.spec Inv-loop μ-loop returns loop-holds (search needs) (search needs) returns-2 (search needs) (search needs) loop-again (search needs) returns-3)

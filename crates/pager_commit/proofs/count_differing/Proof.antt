@@ -13,10 +13,10 @@ use Rattle.pager_commit.proofs.count_differing.Statement.{statement}
 use Rattle.pager_commit.proofs.count_differing.Tie as tie
 
 abbrev Inv-loop : tie.InvT-loop
-Inv-loop table log main staging staged end n₀ i₀ n i = (end ≡ min (staged .count) 64) × ((i ≤ end) × ((n ≤ i) × (n ≡ length (pagesFrom (Upto staged staging table log main i) 0))))
+Inv-loop table log main staging staged count end n₀ i₀ n i = (end ≡ min (staged .count) 64) × ((i ≤ end) × ((n ≤ i) × (n ≡ length (pagesFrom (Upto staged staging table log main i) 0))))
 
 abbrev μ-loop : tie.MeasureT-loop
-μ-loop table log main staging staged end n₀ i₀ n i = end - i
+μ-loop table log main staging staged count end n₀ i₀ n i = end - i
 
 loop-holds : tie.Need-loop-holds Inv-loop μ-loop
 loop-holds c =
@@ -42,14 +42,15 @@ loop-again : tie.Need-loop-again Inv-loop μ-loop
 loop-again c =
     let c1 = c .before in
     let c2 = c1 .before in
-    let c5 = c2 .before .before .before in
-    let c11 = c5 .before .before .before .before .before .before in
-    let s = c11 .args .t1 in
-    let z : length (s .pages) ≡ 64 = slots s _ (c11 .good .0) in
+    let c6 = c2 .before .before .before .before in
+    let c9 = c6 .before .before .before in
+    let c15 = c9 .before .before .before .before .before .before in
+    let s = c15 .args .t1 in
+    let z : length (s .pages) ≡ 64 = slots s _ (c15 .good .0) in
     let y : length (stagedPages s) ≡ min (s .count) 64 = simp (length-take, z) in
-    let h : c5 .loop .i < length (stagedPages s) = omega arith in
-    let k = count-step (c11 .args .t1) (now (c11 .args .staging)) (now (c11 .args .table)) (now (c11 .args .log)) (now (c11 .args .main)) (c5 .loop .i) (c2 .wide .result) h (c2 .wide .ensures) (c1 .is-counted .ensures) (c .tally .ensures) (c5 .loop .inv .1 .1 .1) in
-    (c5 .loop .inv .0, (omega arith, (tally-most (c5 .loop .n) (c1 .is-counted .result) (c .tally .ensures) (c5 .loop .inv .1 .1 .0), k)))
+    let h : c9 .loop .i < length (stagedPages s) = omega arith in
+    let k = count-step (c15 .args .t1) (now (c15 .args .staging)) (now (c15 .args .table)) (now (c15 .args .log)) (now (c15 .args .main)) (c9 .loop .i) (c6 .wide .result) h (c6 .wide .ensures) (c2 .find-in .ensures) (c1 .is-counted .ensures) (c .tally .ensures) (c9 .loop .inv .1 .1 .1) in
+    (c9 .loop .inv .0, (omega arith, (tally-most (c9 .loop .n) (c1 .is-counted .result) (c .tally .ensures) (c9 .loop .inv .1 .1 .0), k)))
 
 returns : tie.Need-returns Inv-loop μ-loop
 returns c =
@@ -64,4 +65,4 @@ returns c =
 pub count-differing-spec : {M : Type 1} → statement M
 count-differing-spec =
     tie.close
-    (tie.spec Inv-loop μ-loop (search needs) loop-holds (search needs) element-copy-out-wide (search needs) is-counted-requires tally-requires add-i loop-less loop-again returns)
+    (tie.spec Inv-loop μ-loop (search needs) loop-holds (search needs) element-copy-out-wide (search needs) (search needs) is-counted-requires tally-requires add-i loop-less loop-again returns)

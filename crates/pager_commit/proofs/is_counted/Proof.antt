@@ -15,21 +15,16 @@ returns-2 : tie.Need-returns-2
 unfolding countsAt
 returns-2 c =
     let c1 = c .before in
-    let c2 = c1 .before in
-    let c7 = c2 .before .before .before .before .before in
-    let e = ne-eqb _ _ (c .if2 .taken) in
-    rw (lt-ltb (c7 .args .page) 1024 (c2 .if1 .left), ← c1 .slot-of .ensures, e)
+    let c6 = c1 .before .before .before .before .before in
+    rw (lt-ltb (c6 .args .page) 1024 (c1 .if1 .left), ne-eqb (c6 .args .first) (c6 .args .slot) (c .if2 .taken))
 
 returns-3 : tie.Need-returns-3
 unfolding countsAt
 returns-3 c =
     let c1 = c .before in
     let c2 = c1 .before in
-    let c3 = c2 .before in
-    let c8 = c3 .before .before .before .before .before in
-    let e = eq-eqb _ _ (c1 .if2 .left) in
-    rw (lt-ltb (c8 .args .page) 1024 (c3 .if1 .left), ← c2 .slot-of .ensures, e) (c .is-differing .ensures)
+    let c7 = c2 .before .before .before .before .before in
+    rw (lt-ltb (c7 .args .page) 1024 (c2 .if1 .left), eq-eqb (c7 .args .first) (c7 .args .slot) (c1 .if2 .left)) (c .is-differing .ensures)
 
 pub is-counted-spec : {M : Type 1} → statement M
-is-counted-spec =
-    tie.close (tie.spec returns (search needs) returns-2 (search needs) returns-3)
+is-counted-spec = tie.close (tie.spec returns returns-2 (search needs) returns-3)

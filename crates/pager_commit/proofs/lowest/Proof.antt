@@ -1,53 +1,48 @@
 use native.Mathlib.Omega.{arith}
-use mathlib.Core.Path.{_≡_}
+use mathlib.Core.Path.{_≡_, _∙_}
 use denote.Ref.{now}
 use borrow.Author.Needs.{needs}
-use Prim.Native.Nat.{_-_, _≤_, _<_, min}
-use Rattle.pager_commit.proofs.Least.{Lowest, lowest-none, lowest-step, lowest-page, lowest-index}
+use Prim.Native.Nat.{_+_, _-_, _≤_, _<_, min}
+use Rattle.pager_commit.proofs.Least.{Least, least-none, least-step, least-page}
 use Rattle.pager_commit.proofs.lowest.Statement.{statement}
 use Rattle.pager_commit.proofs.lowest.Tie as tie
 
 abbrev Inv-loop : tie.InvT-loop
-Inv-loop s n page end least₀ index₀ i₀ least index i = (end ≡ min n 64) × ((i ≤ end) × Lowest s page i least index)
+Inv-loop s n page end from least₀ i₀ least i = (end ≡ min n 64) × ((i ≤ end) × Least s page i least)
 
 abbrev μ-loop : tie.MeasureT-loop
-μ-loop s n page end least₀ index₀ i₀ least index i = end - i
+μ-loop s n page end from least₀ i₀ least i = end - i
+
+cast-from : tie.Need-cast-from Inv-loop μ-loop
+cast-from c = omega (arith, c .before .before .pre .1)
 
 loop-holds : tie.Need-loop-holds Inv-loop μ-loop
 loop-holds c =
     let c2 = c .before .before in
-    (c .lower .ensures, (omega arith, lowest-none (now (c2 .args .s)) (c2 .args .page)))
+    (c .lower .ensures, (omega arith, least-none (now (c2 .args .s)) (c2 .args .page)))
 
-shared-slice-read-wide : tie.Need-shared-slice-read-wide Inv-loop μ-loop
-shared-slice-read-wide c =
-    let c5 = c .before .before .before .before .before in
-    omega (arith, c5 .pre)
-
-add-i : tie.Need-add-i Inv-loop μ-loop
-add-i c = omega arith
-
-loop-less : tie.Need-loop-less Inv-loop μ-loop
-loop-less c = omega arith
+shared-slice-read-wrapping-sub-u16 : tie.Need-shared-slice-read-wrapping-sub-u16 Inv-loop μ-loop
+shared-slice-read-wrapping-sub-u16 c = omega (arith, c .before .before .before .before .before .pre .0)
 
 loop-again : tie.Need-loop-again Inv-loop μ-loop
 loop-again c =
     let c1 = c .before in
-    let c2 = c1 .before in
-    let c3 = c2 .before in
-    let c6 = c3 .before .before .before in
-    let c9 = c6 .before .before .before in
-    let h : c6 .loop .i < 64 = omega arith in
-    (c6 .loop .inv .0, (omega arith, lowest-step (now (c9 .args .s)) (c9 .args .page) (c6 .loop .i) h (c6 .loop .inv .1 .1) (c3 .wide .ensures) (c2 .is-between .ensures) (c1 .choose .ensures) (c .choose2 .ensures)))
+    let c4 = c1 .before .before .before in
+    let c7 = c4 .before .before .before in
+    let h : c1 .wrapping-sub-u16 .result < 65536 = omega arith in
+    (c4 .loop .inv .0, (omega arith, least-step (now (c7 .args .s)) (c7 .args .page) (c4 .loop .i) (c4 .loop .inv .1 .1) (c1 .wrapping-sub-u16 .result) h (c7 .pre .1) (c1 .wrapping-sub-u16 .ensures) (c .lower-16 .ensures)))
+
+add-lower : tie.Need-add-lower Inv-loop μ-loop
+add-lower c = omega (arith, c .before .before .before .before .before .pre .1, c .before .before .loop .inv .1 .1 .most, c .wide .ensures)
 
 returns : tie.Need-returns Inv-loop μ-loop
 returns c =
-    let c1 = c .before in
-    let c4 = c1 .before .before .before in
-    let e : c1 .loop .i ≡ min (c4 .args .n) 64 = omega arith in
-    let v = c1 .loop .inv .1 .1 in
-    (lowest-page (now (c4 .args .s)) (c4 .args .n) (c4 .args .page) (c4 .pre) e v, (lowest-index (now (c4 .args .s)) (c4 .args .n) (c4 .args .page) (c4 .pre) e v, v .slot))
+    let c3 = c .before .before .before in
+    let c6 = c3 .before .before .before in
+    let e : c3 .loop .i ≡ min (c6 .args .n) 64 = omega arith in
+    c .lower2 .ensures ∙ rw (c .before .wide .ensures) (least-page (now (c6 .args .s)) (c6 .args .n) (c6 .args .page) (c6 .pre .0) e (c6 .pre .1) (c3 .loop .inv .1 .1))
 
 pub lowest-spec : {M : Type 1} → statement M
 lowest-spec =
     tie.close
-    (tie.spec Inv-loop μ-loop (search needs) loop-holds (search needs) shared-slice-read-wide (search needs) (search needs) (search needs) (search needs) add-i loop-less loop-again returns)
+    (tie.spec Inv-loop μ-loop (search needs) cast-from loop-holds (search needs) shared-slice-read-wrapping-sub-u16 (search needs) (search needs) (search needs) (search needs) loop-again (search needs) add-lower (search needs) returns)

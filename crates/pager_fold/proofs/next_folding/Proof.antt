@@ -3,55 +3,60 @@ use native.Mathlib.Numerals.{add-one}
 use mathlib.Core.Path.{_≡_, refl, sym, ap, _∙_}
 use denote.Ref.{now}
 use borrow.Author.Needs.{needs}
-use Prim.Native.Nat.{_-_}
+use Prim.Native.Nat.{_-_, _≤_}
 use Rattle.pager_state.specs.Pages.{pagesFrom, firstOf}
 use Rattle.pager_fold.specs.FoldStep.{foldsBy}
-use Rattle.pager_state.proofs.Searches.{pages-hit, pages-miss, pages-end}
+use Rattle.pager_state.proofs.Searches.{pages-hit, pages-miss}
+use Rattle.pager_fold.proofs.Scan.{hit, miss, scanned, from-one}
 use Rattle.pager_fold.proofs.next_folding.Statement.{statement}
 use Rattle.pager_fold.proofs.next_folding.Tie as tie
 
 abbrev Inv-loop : tie.InvT-loop
-Inv-loop count table page p₀ p = pagesFrom (foldsBy count table) page ≡ pagesFrom (foldsBy count table) p
+Inv-loop count table page end p₀ p = (1 ≤ p) × (pagesFrom (foldsBy count table) page ≡ pagesFrom (foldsBy count table) p)
 
 abbrev μ-loop : tie.MeasureT-loop
-μ-loop count table page p₀ p = 1024 - p
+μ-loop count table page end p₀ p = end - p
 
 loop-holds : tie.Need-loop-holds Inv-loop μ-loop
-loop-holds c = refl
+loop-holds c =
+    let S = c .before .before .before in
+    (omega (arith, c .reached .ensures), from-one (S .args .count) (now (S .args .table)) (S .args .page) ∙ ap (pagesFrom (foldsBy (S .args .count) (now (S .args .table)))) (sym (c .reached .ensures)))
 
 returns : tie.Need-returns Inv-loop μ-loop
 returns c =
-    let c1 = c .before in
-    let c2 = c1 .before in
-    let c3 = c2 .before in
-    let c5 = c3 .before .before in
-    sym (ap firstOf (c3 .loop .inv ∙ pages-hit (foldsBy (c5 .args .count) (now (c5 .args .table))) (c3 .loop .p) (c2 .loop-test .taken) (sym (c1 .is-folding .ensures) ∙ c .if1 .taken)))
+    let L = c .before .before .before in
+    let S = L .before .before .before .before in
+    let e = L .before .before .folding-end .ensures in
+    let t = c .before .before .loop-test .taken in
+    let p = L .loop .p in
+    sym (ap firstOf (L .loop .inv .1 ∙ pages-hit (foldsBy (S .args .count) (now (S .args .table))) p (omega arith) (hit (S .args .count) (now (S .args .table)) p (L .loop .inv .0) (omega arith) (c .if1 .taken))))
 
 add-p : tie.Need-add-p Inv-loop μ-loop
 add-p c =
-    let c2 = c .before .before in
-    omega (arith, c2 .loop-test .taken)
+    let L = c .before .before .before in
+    let e = L .before .before .folding-end .ensures in
+    omega (arith, c .before .before .loop-test .taken)
 
 loop-less : tie.Need-loop-less Inv-loop μ-loop
-loop-less c =
-    let c2 = c .before .before in
-    omega (arith, c2 .loop-test .taken)
+loop-less c = omega (arith, c .before .before .loop-test .taken)
 
 loop-again : tie.Need-loop-again Inv-loop μ-loop
 loop-again c =
-    let c1 = c .before in
-    let c2 = c1 .before in
-    let c3 = c2 .before in
-    let c5 = c3 .before .before in
-    c3 .loop .inv ∙ pages-miss (foldsBy (c5 .args .count) (now (c5 .args .table))) (c3 .loop .p) (c2 .loop-test .taken) (sym (c1 .is-folding .ensures) ∙ c .if1 .left) ∙ ap (pagesFrom (foldsBy (c5 .args .count) (now (c5 .args .table)))) (sym (add-one (c3 .loop .p)))
+    let L = c .before .before .before in
+    let S = L .before .before .before .before in
+    let e = L .before .before .folding-end .ensures in
+    let t = c .before .before .loop-test .taken in
+    let p = L .loop .p in
+    let f = foldsBy (S .args .count) (now (S .args .table)) in
+    (omega arith, L .loop .inv .1 ∙ pages-miss f p (omega arith) (miss (S .args .count) (now (S .args .table)) p (c .if1 .left)) ∙ ap (pagesFrom f) (sym (add-one p)))
 
 returns-2 : tie.Need-returns-2 Inv-loop μ-loop
 returns-2 c =
-    let c1 = c .before in
-    let c3 = c1 .before .before in
-    sym (ap firstOf (c1 .loop .inv ∙ pages-end (foldsBy (c3 .args .count) (now (c3 .args .table))) (c1 .loop .p) (omega arith)))
+    let L = c .before in
+    let S = L .before .before .before .before in
+    let e = L .before .before .folding-end .ensures in
+    sym (ap firstOf (L .loop .inv .1 ∙ scanned (S .args .count) (now (S .args .table)) (L .loop .p) (omega (arith, c .loop-test .left))))
 
 pub next-folding-spec : {M : Type 1} → statement M
 next-folding-spec =
-    tie.close
-    (tie.spec Inv-loop μ-loop loop-holds (search needs) returns add-p loop-less loop-again returns-2)
+    tie.close (tie.spec Inv-loop μ-loop (search needs) (search needs) loop-holds (search needs) (search needs) returns add-p loop-less loop-again returns-2)

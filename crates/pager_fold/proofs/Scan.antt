@@ -1,0 +1,68 @@
+-- The scan for a fold's pages: only those from 1 on, below the page count, that the table has need be looked at. Assumes nothing.
+use mathlib.Core.Path.{_≡_, refl, sym, ap, _∙_}
+use mathlib.Core.Bool.{Bool, true, false}
+use mathlib.Core.List.{List, [], _∷_}
+use mathlib.Core.Logic.{⊎-elim}
+use Prim.Native.Nat.{ℕ, zero, suc, _+_, _-_, _/_, _≤_, _<_, max}
+use native.Mathlib.Omega.{arith}
+use borrow.Author.Tests.{le-leb, lt-ltb, le-ltb, eq-eqb, ne-eqb}
+use lib.Dec.{leb, ltb}
+use lib.ListN.{length, getD}
+use Rattle.le.specs.Choice.{pick, both}
+use Rattle.le.proofs.Tests.{le-or-lt}
+use Rattle.pager_state.specs.Overlay.{frameOf, inLog}
+use Rattle.pager_state.specs.Pages.{pagesFrom}
+use Rattle.pager_state.proofs.Searches.{pages-miss, pages-end}
+use Rattle.pager_fold.specs.FoldStep.{foldsBy, foldingEnd}
+
+getD-past : (l : List ℕ) (n : ℕ) → length l ≤ n → getD l n 0 ≡ 0
+getD-past [] n h = refl
+getD-past (a ∷ l) zero h = absurd (omega arith)
+getD-past (a ∷ l) (suc n) h = getD-past l n (omega arith)
+
+both-false : (a b : Bool) → b ≡ false → both a b ≡ false
+both-false true b e = e
+both-false false b e = refl
+
+module _ (count : ℕ) (t : List ℕ) where
+  pub hit : (p : ℕ) → 1 ≤ p → p < count → 1 < getD t p 0 → foldsBy count t p ≡ true
+  unfolding foldsBy inLog frameOf
+  hit p h k e =
+      let z : getD t p 0 / 2 ≡ 0 → ⊥ = λ q. omega (arith, q) in
+      rw (le-leb 1 p h, lt-ltb p count k, ne-eqb _ _ z)
+
+  pub miss : (p : ℕ) → getD t p 0 ≤ 1 → foldsBy count t p ≡ false
+  unfolding foldsBy inLog frameOf
+  miss p e =
+      let z : getD t p 0 / 2 ≡ 0 = omega arith in
+      both-false (leb 1 p) _ (both-false (ltb p count) _ (rw (eq-eqb _ _ z)))
+
+  above : (p : ℕ) → count ≤ p → foldsBy count t p ≡ false
+  unfolding foldsBy
+  above p h = both-false (leb 1 p) _ (rw (le-ltb p count h))
+
+  beyond : (p : ℕ) → p < 1024 → foldingEnd count (length t) ≤ p → foldsBy count t p ≡ false
+  beyond p l h = ⊎-elim (above p) (λ k. miss p (let e = getD-past t p (omega arith) in omega (arith, e))) (le-or-lt count p)
+
+  none-from : (k p : ℕ) → k ≡ 1024 - p → foldingEnd count (length t) ≤ p → pagesFrom (foldsBy count t) p ≡ []
+  none-from zero p m h = pages-end (foldsBy count t) p (omega arith)
+  none-from (suc k) p m h =
+      pages-miss (foldsBy count t) p (omega arith) (beyond p (omega arith) h) ∙ none-from k (suc p) (omega arith) (omega arith)
+
+  -- the end: no page is left
+  pub scanned : (p : ℕ) → foldingEnd count (length t) ≤ p → pagesFrom (foldsBy count t) p ≡ []
+  scanned p h = none-from (1024 - p) p refl h
+
+  -- the start: page 0 is none of them
+  pub from-one : (p : ℕ) → pagesFrom (foldsBy count t) p ≡ pagesFrom (foldsBy count t) (max p 1)
+  unfolding foldsBy
+  from-one zero = pages-miss (foldsBy count t) 0 (omega arith) refl
+  from-one (suc p) = let e : max (suc p) 1 ≡ suc p = omega arith in rw e
+
+  -- a page in between, by its entry
+  pub seen : (p : ℕ) → 1 ≤ p → p < count → ltb 1 (getD t p 0) ≡ foldsBy count t p
+  seen p h k =
+      ⊎-elim
+      (λ e. le-ltb 1 (getD t p 0) e ∙ sym (miss p e))
+      (λ e. lt-ltb 1 (getD t p 0) e ∙ sym (hit p h k e))
+      (le-or-lt (getD t p 0) 1)

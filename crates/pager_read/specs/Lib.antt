@@ -1,0 +1,2 @@
+-- The root of the definitions of `pager_read`.
+pub mod Reading
