@@ -16,6 +16,7 @@ pub const MVCC_FRAME_MARKER: u32 = 0xffff_ffff;
 pub const MVCC_BODY_MAGIC: u64 = 0x3130_3030_4343_564d;
 
 // Where a text stands in the body.
+#[repr(C)]
 pub struct TextPlace {
     pub start: usize,
     pub len: usize,
@@ -38,6 +39,7 @@ pub struct Column {
     pub value: Value,
 }
 
+#[repr(C)]
 pub struct RowID {
     pub table: TextPlace,
     pub rowid: i64,

@@ -5,7 +5,7 @@ use mathlib.Core.List.{List, [], _∷_, _++_, append-assoc, append-nil}
 use Prim.Native.Nat.{ℕ, zero, suc, _+_, _-_, _*_, _/_, _%_, _^_, _≤_, _<_}
 use native.Mathlib.Omega.{arith}
 use borrow.Author.Tests.{not-false, leb-true, eq-eqb, ne-eqb, ltb-true, le-ltb}
-use lib.Dec.{leb, T}
+use lib.Dec.{leb, eqb, T}
 use lib.Ieee.{Float, nan, inf, fin, eq, isNan, level, up, down}
 use lib.ListN.{length, take, drop, set, replicate, length-append, length-replicate, replicate-append-replicate}
 use lib.Seq.{take-add, take-length, drop-drop}
@@ -15,12 +15,12 @@ use mir.Val.{ofZ, SFits}
 use mir.Syntax.{w64}
 use Rattle.le.specs.Choice.{pick, both}
 use Rattle.le.specs.Le.{leBytes, put, store}
-use Rattle.le.proofs.Fields.{Bytes, length-leBytes, leBytes-mod, leBytes-field}
-use Rattle.le.proofs.Stores.{put-none, put-all, put-next, length-put, set-put, put-more, store-put, store-next}
+use Rattle.le.proofs.Fields.{Bytes, length-leBytes, leBytes-field}
+use Rattle.le.proofs.Stores.{put-all, put-next, length-put, set-put, put-more, store-put, store-next}
 use Rattle.text.specs.Utf8.{wellFormed, utf8Of}
 use Rattle.text.specs.declared.Utf8.{Utf8}
 use Rattle.text.specs.declared.Utf8.the-variants.{WellFormed, IllFormed}
-use Rattle.mvcc.specs.Batch.{Val, null, integer, real, text, bool, vector, Col, tombstone, present, all, encodeText, encodeValue, encodeColumn, encodeRecord, encodeBatch, encodeBody, padded}
+use Rattle.mvcc.specs.Batch.{Val, null, integer, real, text, bool, vector, tombstone, present, all, encodeText, encodeValue, encodeColumn, encodeRecord, encodeBatch, encodeBody, padded}
 use Rattle.text.proofs.Answers.{well-is, ill-is}
 use Rattle.mvcc.proofs.Trip.{length-encodeText}
 use Rattle.mvcc.proofs.Sound.{words-length}
@@ -107,13 +107,13 @@ unfolding leBytes
 number-more l at k v h = rw (set-put l at (v % 256) h) (put-next 1 l at (v % 256 ∷ []) (leBytes k (v / 256)) refl (omega arith))
 
 module _ (l : List ℕ) (at : ℕ) (full : length l ≡ 4096) where
-  pub text-stored : (t : List ℕ) {m r : List ℕ} → at + (2 + length t) ≤ 4096 → m ≡ store l at (leBytes 2 (length t)) → r ≡ store m (at + 2) t
+  pub text-stored : (t : List ℕ) {m r : List ℕ} → at + (2 + length t) ≤ 4096 → m ≡ store l at (leBytes 2 (length t)) → r ≡ put m (at + 2) t
       → r ≡ put l at (encodeText 2 t)
   unfolding encodeText
   text-stored t h e f =
       let k = length-leBytes 2 (length t) in
       let p = e ∙ store-put l at (leBytes 2 (length t)) (rw (k, full) (omega arith)) in
-      store-next 2 (length t) l at (leBytes 2 (length t)) t k refl (rw full (omega arith)) p f
+      f ∙ rw p (put-next 2 l at (leBytes 2 (length t)) t k (rw full (omega arith)))
 
   -- a store that was judged to fit
   pub one-stored : (bs : List ℕ) {r : List ℕ} → at + length bs ≤ 4096 → r ≡ store l at bs → r ≡ put l at bs
@@ -143,24 +143,33 @@ module _ (l : List ℕ) (at : ℕ) (full : length l ≡ 4096) where
       store-next (11 + length t) z l at ((op ∷ T) ++ R) Z (rw length-append (omega arith)) w (rw full (omega arith)) p3 e4 in
       p4 ∙ ap (put l at) (append-assoc (op ∷ T) R Z)
 
-  pub column-stored : (t : List ℕ) (tag k v : ℕ) (bs : List ℕ) {l1 l3 l4 : List ℕ}
-      → at + (3 + k + length t + length bs) ≤ 4096
-      → l1 ≡ put l at (encodeText 2 t) → l3 ≡ put (set l1 (at + (2 + length t)) tag) (at + (3 + length t)) (leBytes k v)
-      → l4 ≡ store l3 (at + (3 + length t + k)) bs → l4 ≡ put l at (tagged t tag k v bs)
-  unfolding tagged
-  column-stored t tag k v bs {l1} {l3} {l4} h e1 e3 e4 =
-      let T = encodeText 2 t in
-      let N = leBytes k v in
-      let m : length N ≡ k = length-leBytes k v in
-      let n : length T ≡ 2 + length t = length-encodeText 2 t in
-      let n3 : length (T ++ (tag ∷ [])) ≡ 3 + length t = rw length-append (omega arith) in
-      let p2 : set l1 (at + (2 + length t)) tag ≡ put l at (T ++ (tag ∷ [])) =
-      rw e1 (put-more (2 + length t) l at T tag n (rw full (omega arith))) in
-      let p3 : l3 ≡ put l at ((T ++ (tag ∷ [])) ++ N) =
-      e3 ∙ rw p2 (put-next (3 + length t) l at (T ++ (tag ∷ [])) N n3 (rw full (omega arith))) in
-      let p4 : l4 ≡ put l at (((T ++ (tag ∷ [])) ++ N) ++ bs) =
-      store-next (3 + length t + k) (length bs) l at ((T ++ (tag ∷ [])) ++ N) bs (rw length-append (omega arith)) refl (rw full (omega arith)) p3 e4 in
-      p4 ∙ ap (put l at) (simp append-assoc)
+  module _ (t : List ℕ) (tag k v : ℕ) {l1 l3 : List ℕ} (h : at + (3 + k + length t) ≤ 4096)
+      (e1 : l1 ≡ put l at (encodeText 2 t)) (e3 : l3 ≡ put (set l1 (at + (2 + length t)) tag) (at + (3 + length t)) (leBytes k v)) where
+    abbrev front : List ℕ
+    front = (encodeText 2 t ++ (tag ∷ [])) ++ leBytes k v
+
+    -- a column's bytes up to its value's number
+    front-long : length front ≡ 3 + length t + k
+    front-long = simp (length-append, length-encodeText, length-leBytes) (omega arith)
+
+    front-stored : l3 ≡ put l at front
+    front-stored =
+        let T = encodeText 2 t in
+        let n : length T ≡ 2 + length t = length-encodeText 2 t in
+        let m : length (T ++ (tag ∷ [])) ≡ 3 + length t = rw length-append (omega arith) in
+        let p : set l1 (at + (2 + length t)) tag ≡ put l at (T ++ (tag ∷ [])) =
+        rw e1 (put-more (2 + length t) l at T tag n (rw full (omega arith))) in
+        e3 ∙ rw p (put-next (3 + length t) l at (T ++ (tag ∷ [])) (leBytes k v) m (rw full (omega arith)))
+
+    pub front-kept : length l3 ≡ 4096
+    front-kept = kept front (rw front-long (omega arith)) front-stored ∙ full
+
+    pub column-stored : (bs : List ℕ) {l4 : List ℕ} → at + (3 + k + length t + length bs) ≤ 4096
+        → l4 ≡ put l3 (at + (3 + length t + k)) bs → l4 ≡ put l at (tagged t tag k v bs)
+    unfolding tagged
+    column-stored bs {l4} i e4 =
+        let p : l4 ≡ put l at (front ++ bs) = e4 ∙ rw front-stored (put-next (3 + length t + k) l at front bs front-long (rw full (omega arith))) in
+        p ∙ ap (put l at) (simp append-assoc)
 
 -- ---- what an addition answers
 
@@ -168,10 +177,6 @@ module _ (b : BatchBuilder) (body : List ℕ) (texts : Bool) (bs : List ℕ) (mo
   pub judged-area : (length body ≡ 4096 → ⊥) → Area ≡ judged b body texts bs more
   unfolding judged
   judged-area h = rw (ne-eqb _ _ h)
-
-  pub judged-text : length body ≡ 4096 → texts ≡ false → Text ≡ judged b body texts bs more
-  unfolding judged
-  judged-text h t = rw (eq-eqb _ _ h, t)
 
   pub judged-fit : length body ≡ 4096 → texts ≡ true → leb (b .at + length bs) 4096 ≡ false → Fit ≡ judged b body texts bs more
   unfolding judged
@@ -181,30 +186,36 @@ module _ (b : BatchBuilder) (body : List ℕ) (texts : Bool) (bs : List ℕ) (mo
   unfolding judged
   judged-in h t f = rw (eq-eqb _ _ h, t, f)
 
--- ---- the ways of an addition with the text t and the bytes bs: what it answers and leaves
+-- ---- the ways of an addition with the bytes bs: what it answers and leaves
 
-module _ (count : BatchBuilder → List ℕ → List ℕ) (b : BatchBuilder) (body t bs : List ℕ) (more : Added) where
+module _ (count : BatchBuilder → List ℕ → List ℕ) (b : BatchBuilder) (body : List ℕ) (texts : Bool) (bs : List ℕ) (more : Added) where
   abbrev Says : Added → List ℕ → Type 0
-  Says r l = (r ≡ judged b body (wellFormed t) bs more) × (l ≡ laid count b body bs r)
+  Says r l = (r ≡ judged b body texts bs more) × (l ≡ laid count b body bs r)
 
   pub way-area : (length body ≡ 4096 → ⊥) → Says Area body
   unfolding laid
-  way-area h = (judged-area b body (wellFormed t) bs more h, refl)
+  way-area h = (judged-area b body texts bs more h, refl)
 
-  module _ (full : length body ≡ 4096) {u : Utf8} (e : u ≡ utf8Of t) where
-    pub way-text : u ≡ IllFormed → Says Text body
-    unfolding laid
-    way-text f = (judged-text b body (wellFormed t) bs more full (no-text t e f), refl)
+  kept-so : (t : Bool) → body ≡ laid count b body bs (pick t Text Area)
+  unfolding laid
+  kept-so true = refl
+  kept-so false = refl
 
-    module _ (f : u ≡ WellFormed) {n : ℕ} (m : length bs ≡ n) {r : Bool} (g : r ≡ leb (b .at + n) 4096) where
+  -- a text is not UTF-8; the body's length comes first
+  pub way-text : {r : Added} → texts ≡ false → r ≡ pick (eqb (length body) 4096) Text Area → Says r body
+  unfolding judged
+  way-text f e = (rw (e, f), rw e (kept-so (eqb (length body) 4096)))
+
+  module _ (full : length body ≡ 4096) where
+    module _ (f : texts ≡ true) {n : ℕ} (m : length bs ≡ n) {r : Bool} (g : r ≡ leb (b .at + n) 4096) where
       pub way-fit : r ≡ false → Says Fit body
       unfolding laid
-      way-fit h = (judged-fit b body (wellFormed t) bs more full (is-text t e f) (rw m (sym g ∙ h)), refl)
+      way-fit h = (judged-fit b body texts bs more full f (rw m (sym g ∙ h)), refl)
 
       pub way-more : r ≡ true → {x : Added} {l : List ℕ} → x ≡ more → l ≡ laid count b body bs x → Says x l
-      way-more h p q = (p ∙ sym (judged-in b body (wellFormed t) bs more full (is-text t e f) (rw m (sym g ∙ h))), q)
+      way-more h p q = (p ∙ sym (judged-in b body texts bs more full f (rw m (sym g ∙ h))), q)
 
-module _ (b : BatchBuilder) (body : List ℕ) (op : ℕ) (t : List ℕ) (row : ℤ) (z : ℕ) where
+module _ (b : BatchBuilder) (body : List ℕ) (texts : Bool) (op : ℕ) (t : List ℕ) (row : ℤ) (z : ℕ) where
   abbrev H : List ℕ
   H = headBytes op t row z
 
@@ -212,28 +223,28 @@ module _ (b : BatchBuilder) (body : List ℕ) (op : ℕ) (t : List ℕ) (row : �
   end = lastOf op (b .at + (11 + length t))
 
   abbrev Heads : Added → List ℕ → Type 0
-  Heads r l = (r ≡ headTold b body op t row z) × (l ≡ laid recordCount b body H r)
+  Heads r l = (r ≡ headTold b body texts op t row z) × (l ≡ laid recordCount b body H r)
 
   size : length H ≡ 11 + z + length t + 0
   size = rw length-head (omega arith)
 
   pub head-area : (length body ≡ 4096 → ⊥) → Heads Area body
   unfolding headTold
-  head-area h = way-area recordCount b body t H (recordIn b (length H) end) h
+  head-area h = way-area recordCount b body texts H (recordIn b (length H) end) h
 
-  module _ (full : length body ≡ 4096) {u : Utf8} (e : u ≡ utf8Of t) where
-    pub head-text : u ≡ IllFormed → Heads Text body
-    unfolding headTold
-    head-text f = way-text recordCount b body t H (recordIn b (length H) end) full e f
+  pub head-text : {r : Added} → texts ≡ false → r ≡ pick (eqb (length body) 4096) Text Area → Heads r body
+  unfolding headTold
+  head-text f e = way-text recordCount b body texts H (recordIn b (length H) end) f e
 
-    module _ (f : u ≡ WellFormed) {r : Bool} (g : r ≡ leb (b .at + (11 + z + length t + 0)) 4096) where
+  module _ (full : length body ≡ 4096) where
+    module _ (f : texts ≡ true) {r : Bool} (g : r ≡ leb (b .at + (11 + z + length t + 0)) 4096) where
       pub head-fit : r ≡ false → Heads Fit body
       unfolding headTold
-      head-fit h = way-fit recordCount b body t H (recordIn b (length H) end) full e f size g h
+      head-fit h = way-fit recordCount b body texts H (recordIn b (length H) end) full f size g h
 
       pub head-many : r ≡ true → b .records ≡ 0xffff → Heads Fit body
       unfolding headTold recordIn laid
-      head-many h k = way-more recordCount b body t H (recordIn b (length H) end) full e f size g h (rw (eq-eqb _ _ k)) refl
+      head-many h k = way-more recordCount b body texts H (recordIn b (length H) end) full f size g h (rw (eq-eqb _ _ k)) refl
 
       pub head-done : r ≡ true → (b .records ≡ 0xffff → ⊥) → {l m : List ℕ} {w : Last} → w ≡ end
           → l ≡ put body (b .at) H → m ≡ store l 16 (leBytes 2 (b .records + 1))
@@ -241,47 +252,47 @@ module _ (b : BatchBuilder) (body : List ℕ) (op : ℕ) (t : List ℕ) (row : �
       unfolding headTold recordIn laid recordCount
       head-done h k {l} {m} {w} o p q =
           let i : b .at + (11 + length t) + z ≡ b .at + length H = rw length-head (omega arith) in
-          way-more recordCount b body t H (recordIn b (length H) end) full e f size g h
+          way-more recordCount b body texts H (recordIn b (length H) end) full f size g h
           (rw (ne-eqb _ _ k, i, o)) (rw p at q)
 
-module _ (b : BatchBuilder) (body t : List ℕ) (tag k v : ℕ) (bs : List ℕ) where
+module _ (b : BatchBuilder) (body : List ℕ) (texts : Bool) (t : List ℕ) (tag k v : ℕ) (bs : List ℕ) where
   abbrev C : List ℕ
   C = tagged t tag k v bs
 
   abbrev Cols : Added → List ℕ → Type 0
-  Cols r l = (r ≡ columnTold b body (wellFormed t) C) × (l ≡ laid columnCount b body C r)
+  Cols r l = (r ≡ columnTold b body texts C) × (l ≡ laid columnCount b body C r)
 
   pub col-area : (length body ≡ 4096 → ⊥) → Cols Area body
   unfolding columnTold
-  col-area h = way-area columnCount b body t C (columnIn b (length C) (b .last)) h
+  col-area h = way-area columnCount b body texts C (columnIn b (length C) (b .last)) h
 
-  module _ (full : length body ≡ 4096) {u : Utf8} (e : u ≡ utf8Of t) where
-    pub col-text : u ≡ IllFormed → Cols Text body
-    unfolding columnTold
-    col-text f = way-text columnCount b body t C (columnIn b (length C) (b .last)) full e f
+  pub col-text : {r : Added} → texts ≡ false → r ≡ pick (eqb (length body) 4096) Text Area → Cols r body
+  unfolding columnTold
+  col-text f e = way-text columnCount b body texts C (columnIn b (length C) (b .last)) f e
 
-    module _ (f : u ≡ WellFormed) {r : Bool} (g : r ≡ leb (b .at + (3 + k + length t + length bs)) 4096) where
+  module _ (full : length body ≡ 4096) where
+    module _ (f : texts ≡ true) {r : Bool} (g : r ≡ leb (b .at + (3 + k + length t + length bs)) 4096) where
       sized : length C ≡ 3 + k + length t + length bs
       sized = length-tagged t tag k v bs
 
       pub col-fit : r ≡ false → Cols Fit body
       unfolding columnTold
-      col-fit h = way-fit columnCount b body t C (columnIn b (length C) (b .last)) full e f sized g h
+      col-fit h = way-fit columnCount b body texts C (columnIn b (length C) (b .last)) full f sized g h
 
       pub col-none : r ≡ true → b .last ≡ Closed → Cols NoRecord body
       unfolding columnTold columnIn laid
-      col-none h o = way-more columnCount b body t C (columnIn b (length C) (b .last)) full e f sized g h (rw o) refl
+      col-none h o = way-more columnCount b body texts C (columnIn b (length C) (b .last)) full f sized g h (rw o) refl
 
       module _ (h : r ≡ true) {counted columns : ℕ} (o : b .last ≡ Open counted columns) where
         pub col-many : columns ≡ 0xffff → Cols Fit body
         unfolding columnTold columnIn laid
-        col-many i = way-more columnCount b body t C (columnIn b (length C) (b .last)) full e f sized g h (rw (o, eq-eqb _ _ i)) refl
+        col-many i = way-more columnCount b body texts C (columnIn b (length C) (b .last)) full f sized g h (rw (o, eq-eqb _ _ i)) refl
 
         pub col-done : (columns ≡ 0xffff → ⊥) → {l m : List ℕ} → l ≡ put body (b .at) C → m ≡ store l counted (leBytes 2 (columns + 1))
             → Cols (Done (record { at = b .at + (3 + k + length t + length bs); records = b .records; last = Open counted (columns + 1) })) m
         unfolding columnTold columnIn laid columnCount recounted
         col-done i p q =
-            way-more columnCount b body t C (columnIn b (length C) (b .last)) full e f sized g h
+            way-more columnCount b body texts C (columnIn b (length C) (b .last)) full f sized g h
             (rw (o, ne-eqb _ _ i, sized)) (rw p at q)
 
 -- ---- the public additions
@@ -294,19 +305,19 @@ present-head : (t : List ℕ) (row : ℤ) → headBytes 1 t row 2 ≡ encodeReco
 unfolding headBytes encodeRecord leBytes all
 present-head t row = refl
 
-module _ (b : BatchBuilder) (body t : List ℕ) (row : ℤ) {r : Added} {l : List ℕ} where
-  pub tombstone-way : r ≡ headTold b body 0 t row 0 → l ≡ laid recordCount b body (headBytes 0 t row 0) r
+module _ (b : BatchBuilder) (body t : List ℕ) (row : ℤ) {texts : Bool} {r : Added} {l : List ℕ} (u : texts ≡ wellFormed t) where
+  pub tombstone-way : r ≡ headTold b body texts 0 t row 0 → l ≡ laid recordCount b body (headBytes 0 t row 0) r
       → (r ≡ recordAdded b body (tombstone t row)) × (l ≡ recordBytes b body (tombstone t row))
   unfolding headTold recordAdded recordBytes
   tombstone-way p q =
-      let e : r ≡ recordAdded b body (tombstone t row) = rw tombstone-head at p in
+      let e : r ≡ recordAdded b body (tombstone t row) = rw (u, tombstone-head) at p in
       (e, rw (tombstone-head, e) at q)
 
-  pub present-way : r ≡ headTold b body 1 t row 2 → l ≡ laid recordCount b body (headBytes 1 t row 2) r
+  pub present-way : r ≡ headTold b body texts 1 t row 2 → l ≡ laid recordCount b body (headBytes 1 t row 2) r
       → (r ≡ recordAdded b body (present t row [])) × (l ≡ recordBytes b body (present t row []))
   unfolding headTold recordAdded recordBytes
   present-way p q =
-      let e : r ≡ recordAdded b body (present t row []) = rw present-head at p in
+      let e : r ≡ recordAdded b body (present t row []) = rw (u, present-head) at p in
       (e, rw (present-head, e) at q)
 
 -- a column of any kind, by the tag, number and bytes of its value
@@ -315,28 +326,13 @@ module _ (b : BatchBuilder) (body n : List ℕ) (tag k v : ℕ) (bs : List ℕ) 
   unfolding tagged encodeColumn
   same-column = rw e
 
-  pub column-way : {r : Added} {l : List ℕ} → texted x ≡ true → r ≡ columnTold b body (wellFormed n) (tagged n tag k v bs)
+  pub column-way : {texts : Bool} {r : Added} {l : List ℕ} → texts ≡ both (texted x) (wellFormed n) → r ≡ columnTold b body texts (tagged n tag k v bs)
       → l ≡ laid columnCount b body (tagged n tag k v bs) r
       → (r ≡ columnAdded b body (column n x)) × (l ≡ columnBytes b body (column n x))
   unfolding columnAdded columnBytes
-  column-way {r} t p q =
-      let f : r ≡ columnTold b body (both (texted x) (wellFormed n)) (encodeColumn (column n x)) = rw (t, ← same-column) p in
+  column-way {texts} {r} t p q =
+      let f : r ≡ columnTold b body (both (texted x) (wellFormed n)) (encodeColumn (column n x)) = rw (← t, ← same-column) p in
       (f, rw (same-column, f) at q)
-
--- a text value that is not UTF-8, and any value where the body's length is wrong
-module _ (b : BatchBuilder) (body : List ℕ) (c : Col) where
-  pub column-area : (length body ≡ 4096 → ⊥) → (Area ≡ columnAdded b body c) × (body ≡ columnBytes b body c)
-  unfolding columnAdded columnBytes columnTold laid
-  column-area h =
-      let e = judged-area b body (both (texted (c .val)) (wellFormed (c .name))) (encodeColumn c) (columnIn b (length (encodeColumn c)) (b .last)) h in
-      (e, rw (← e))
-
-  pub column-text : length body ≡ 4096 → texted (c .val) ≡ false → (Text ≡ columnAdded b body c) × (body ≡ columnBytes b body c)
-  unfolding columnAdded columnBytes columnTold laid
-  column-text h t =
-      let k : both (texted (c .val)) (wellFormed (c .name)) ≡ false = rw t in
-      let e = judged-text b body (both (texted (c .val)) (wellFormed (c .name))) (encodeColumn c) (columnIn b (length (encodeColumn c)) (b .last)) h k in
-      (e, rw (← e))
 
 -- ---- the bytes of each kind of value
 

@@ -84,9 +84,10 @@ headBytes op t row z = op ∷ (encodeText 2 t ++ (leBytes 8 (ofZ w64 row) ++ rep
 abbrev pub lastOf : ℕ → ℕ → Last
 lastOf op counted = pick (eqb op 0) Closed (Open counted 0)
 
-unfoldable pub headTold : BatchBuilder → List ℕ → ℕ → List ℕ → ℤ → ℕ → Added
-headTold b body op t row z =
-    judged b body (wellFormed t) (headBytes op t row z) (recordIn b (length (headBytes op t row z)) (lastOf op (b .at + (11 + length t))))
+-- what such a record answers; `texts`: its table is UTF-8
+unfoldable pub headTold : BatchBuilder → List ℕ → Bool → ℕ → List ℕ → ℤ → ℕ → Added
+headTold b body texts op t row z =
+    judged b body texts (headBytes op t row z) (recordIn b (length (headBytes op t row z)) (lastOf op (b .at + (11 + length t))))
 
 -- ---- columns
 

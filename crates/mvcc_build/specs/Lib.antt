@@ -2,3 +2,4 @@
 pub mod Build
 pub mod Built
 pub mod Run
+pub mod Words

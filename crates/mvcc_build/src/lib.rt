@@ -3,16 +3,21 @@
 // and the caller's builder still tells the batch.
 ghost use mathlib.Core.Path.{_≡_};
 ghost use mathlib.Core.List.{[], _∷_, _++_};
-ghost use Prim.Native.Nat.{_+_, _≤_};
-ghost use lib.Dec.{leb};
+ghost use mathlib.Core.Bool.{true};
+ghost use Prim.Native.Nat.{_+_, _*_, _≤_, _<_};
+ghost use lib.Bits.{bitAnd};
+ghost use lib.Dec.{leb, eqb};
 ghost use lib.Ieee.{binary64, toBits};
 ghost use lib.ListN.{length};
 ghost use mir.Val.{ofZ};
 ghost use mir.Syntax.{w64};
 ghost use Rattle.le.specs.Choice.{pick};
-ghost use Rattle.le.specs.Le.{leBytes, put};
+ghost use Rattle.le.specs.Le.{leBytes, field, put};
 ghost use Rattle.text.specs.Utf8.{wellFormed};
+ghost use Rattle.text.specs.Walk.{Ascii};
 ghost use Rattle.mvcc.specs.Batch.{null, integer, real, text, bool, tombstone, present, encodeText};
+ghost use Rattle.mvcc_build.specs.Words.{Wide};
+ghost use Rattle.mvcc_build.specs.declared.Added.the-variants.{Area, Text};
 ghost use Rattle.mvcc_build.specs.Build.{headBytes, lastOf, tagged, started, startedBytes, laid, recordCount, headTold, recordAdded, recordBytes, columnCount, columnTold, column, columnAdded, columnBytes, vectorAdded, vectorBytes};
 
 // The record that was added last.
@@ -42,6 +47,121 @@ pub enum Added {
     Fit,
     // A column, and no present record is last.
     NoRecord,
+}
+
+// ---- texts: a short one is looked at and stored as two words, its first bytes and its last, which may overlap
+
+// The widest word, of 8, 4, 2 or 1 bytes, that fits into n.
+fn width(n: usize) -> usize
+    requires { ⌜ (0 < n) × (n ≤ 16) ⌝ }
+    ensures { λ r. ⌜ (r ≤ n) × (n ≤ 2 * r) × Wide r ⌝ }
+{
+    if 8 <= n {
+        return 8;
+    }
+    if 4 <= n {
+        return 4;
+    }
+    if 2 <= n {
+        return 2;
+    }
+    1
+}
+
+// The word of w bytes at `at`.
+fn word(s: &[u8], at: usize, w: usize) -> u64
+    requires { ⌜ (at + w ≤ length (now s)) × Wide w ⌝ }
+    ensures { λ r. ⌜ r ≡ field w at (now (s .entry)) ⌝ }
+{
+    if w == 8 {
+        return le::read_u64(s, at);
+    }
+    if w == 4 {
+        return le::read_u32(s, at) as u64;
+    }
+    if w == 2 {
+        return le::read_u16(s, at) as u64;
+    }
+    s[at] as u64
+}
+
+// Whether a word has ASCII bytes only.
+fn is_ascii(w: u64) -> bool
+    ensures { λ r. ⌜ r ≡ eqb (bitAnd w 0x8080_8080_8080_8080) 0 ⌝ }
+{
+    w & 0x8080_8080_8080_8080 == 0
+}
+
+// Whether s has at most 16 bytes, all ASCII, as most names of tables and columns have.
+fn is_short_ascii(s: &[u8]) -> bool
+    ensures { λ r. ⌜ (r ≡ true → Ascii (now (s .entry)) 0 (length (now (s .entry)))) ⌝ }
+{
+    let n = s.len();
+    if n == 0 {
+        return true;
+    }
+    if 16 < n {
+        return false;
+    }
+    let w = width(n);
+    is_ascii(word(s, 0, w)) & is_ascii(word(s, n - w, w))
+}
+
+// Whether s is UTF-8.
+fn is_text(s: &[u8]) -> bool
+    ensures { λ r. ⌜ r ≡ wellFormed (now (s .entry)) ⌝ }
+{
+    if is_short_ascii(s) {
+        return true;
+    }
+    let text::Utf8::WellFormed = text::from_utf8(s) else {
+        return false;
+    };
+    true
+}
+
+// Stores the k lowest bytes of a number.
+fn put_number(body: &mut [u8], at: usize, k: usize, v: u64)
+    requires { ⌜ (length (now body) ≡ 4096) × (at + k ≤ 4096) ⌝ }
+    ensures { λ _. ⌜ now (body .exit) ≡ put (now (body .entry)) at (leBytes k v) ⌝ }
+{
+    if k == 8 {
+        le::write_u64(body, at, v);
+        return;
+    }
+    if k == 4 {
+        le::write_u32(body, at, (v % 4294967296) as u32);
+        return;
+    }
+    if k == 2 {
+        le::write_u16(body, at, (v % 65536) as u16);
+        return;
+    }
+    let mut left = v;
+    let mut i: usize = 0;
+    while i < k {
+        body[at + i] = (left % 256) as u8;
+        left = left / 256;
+        i += 1;
+    }
+}
+
+// Stores all of s.
+fn put_bytes(body: &mut [u8], at: usize, s: &[u8])
+    requires { ⌜ (length (now body) ≡ 4096) × (at + length (now s) ≤ 4096) ⌝ }
+    ensures { λ _. ⌜ now (body .exit) ≡ put (now (body .entry)) at (now (s .entry)) ⌝ }
+{
+    let n = s.len();
+    if n == 0 {
+        return;
+    }
+    if 16 < n {
+        le::write_bytes(body, at, s);
+        return;
+    }
+    let w = width(n);
+    put_number(body, at, w, word(s, 0, w));
+    put_number(body, at + (n - w), w, word(s, n - w, w));
 }
 
 // ---- parts of a record or column
@@ -75,7 +195,7 @@ fn unsigned_of(z: i64) -> u64
 }
 
 // A float's bits. The one NaN that there is to a function is written as the quiet one.
-fn bits_of(x: f64) -> u64
+pub fn bits_of(x: f64) -> u64
     ensures { λ r. ⌜ r ≡ toBits binary64 x ⌝ }
 {
     if x == x {
@@ -85,27 +205,23 @@ fn bits_of(x: f64) -> u64
     }
 }
 
+// What an addition to a body of this length answers where a text of it is not UTF-8.
+fn no_text(len: usize) -> Added
+    ensures { λ r. ⌜ r ≡ pick (eqb len 4096) Text Area ⌝ }
+{
+    if len != 4096 {
+        return Added::Area;
+    }
+    Added::Text
+}
+
 // Stores a text with a length of two bytes.
 fn put_text(body: &mut [u8], at: usize, t: &[u8])
     requires { ⌜ (length (now body) ≡ 4096) × (at + (2 + length (now t)) ≤ 4096) ⌝ }
     ensures { λ _. ⌜ now (body .exit) ≡ put (now (body .entry)) at (encodeText 2 (now (t .entry))) ⌝ }
 {
     le::write_u16(body, at, t.len() as u16);
-    le::write_bytes(body, at + 2, t);
-}
-
-// Stores the k lowest bytes of a number.
-fn put_number(body: &mut [u8], at: usize, k: usize, v: u64)
-    requires { ⌜ (length (now body) ≡ 4096) × (at + k ≤ 4096) ⌝ }
-    ensures { λ _. ⌜ now (body .exit) ≡ put (now (body .entry)) at (leBytes k v) ⌝ }
-{
-    let mut left = v;
-    let mut i: usize = 0;
-    while i < k {
-        body[at + i] = (left % 256) as u8;
-        left = left / 256;
-        i += 1;
-    }
+    put_bytes(body, at + 2, t);
 }
 
 // ---- starting a batch and adding records
@@ -153,27 +269,28 @@ fn put_record(body: &mut [u8], at: usize, op: u8, table: &[u8], rowid: i64, zero
     le::write_zeros(body, at + (11 + n), zeros);
 }
 
-// Adds a record, and counts it.
+// Adds a record, and counts it. `texts`: its table is UTF-8.
 fn add_record(
     body: &mut [u8],
     b: BatchBuilder,
+    texts: bool,
     op: u8,
     table: &[u8],
     rowid: i64,
     zeros: usize,
 ) -> Added
     requires { ⌜ zeros ≤ 2 ⌝ }
-    ensures { λ r. ⌜ r ≡ headTold b (now (body .entry)) op (now (table .entry)) rowid zeros ⌝ }
+    ensures { λ r. ⌜ r ≡ headTold b (now (body .entry)) texts op (now (table .entry)) rowid zeros ⌝ }
     ensures { λ r. ⌜ now (body .exit) ≡ laid recordCount b (now (body .entry)) (headBytes op (now (table .entry)) rowid zeros) r ⌝ }
 {
     let at = b.at;
     let records = b.records;
+    if !texts {
+        return no_text(body.len());
+    }
     if body.len() != 4096 {
         return Added::Area;
     }
-    let text::Utf8::WellFormed = text::from_utf8(table) else {
-        return Added::Text;
-    };
     if !fits(at, 11 + zeros, table.len(), 0) {
         return Added::Fit;
     }
@@ -195,7 +312,7 @@ pub fn add_tombstone(body: &mut [u8], b: BatchBuilder, table: &[u8], rowid: i64)
     ensures { λ r. ⌜ r ≡ recordAdded b (now (body .entry)) (tombstone (now (table .entry)) rowid) ⌝ }
     ensures { λ _. ⌜ now (body .exit) ≡ recordBytes b (now (body .entry)) (tombstone (now (table .entry)) rowid) ⌝ }
 {
-    add_record(body, b, 0, table, rowid, 0)
+    add_record(body, b, is_text(table), 0, table, rowid, 0)
 }
 
 // Adds a present record with no columns yet.
@@ -203,7 +320,7 @@ pub fn begin_present(body: &mut [u8], b: BatchBuilder, table: &[u8], rowid: i64)
     ensures { λ r. ⌜ r ≡ recordAdded b (now (body .entry)) (present (now (table .entry)) rowid []) ⌝ }
     ensures { λ _. ⌜ now (body .exit) ≡ recordBytes b (now (body .entry)) (present (now (table .entry)) rowid []) ⌝ }
 {
-    add_record(body, b, 1, table, rowid, 2)
+    add_record(body, b, is_text(table), 1, table, rowid, 2)
 }
 
 // ---- adding columns
@@ -217,13 +334,14 @@ fn put_column(body: &mut [u8], at: usize, name: &[u8], tag: u8, k: usize, v: u64
     put_text(body, at, name);
     body[at + (2 + n)] = tag;
     put_number(body, at + (3 + n), k, v);
-    le::write_bytes(body, at + (3 + n + k), bytes);
+    put_bytes(body, at + (3 + n + k), bytes);
 }
 
-// Adds a column to the last record, and counts it.
+// Adds a column to the last record, and counts it. `texts`: its texts are UTF-8.
 fn add_column(
     body: &mut [u8],
     b: BatchBuilder,
+    texts: bool,
     name: &[u8],
     tag: u8,
     k: usize,
@@ -231,17 +349,17 @@ fn add_column(
     bytes: &[u8],
 ) -> Added
     requires { ⌜ k ≤ 8 ⌝ }
-    ensures { λ r. ⌜ r ≡ columnTold b (now (body .entry)) (wellFormed (now (name .entry))) (tagged (now (name .entry)) tag k v (now (bytes .entry))) ⌝ }
+    ensures { λ r. ⌜ r ≡ columnTold b (now (body .entry)) texts (tagged (now (name .entry)) tag k v (now (bytes .entry))) ⌝ }
     ensures { λ r. ⌜ now (body .exit) ≡ laid columnCount b (now (body .entry)) (tagged (now (name .entry)) tag k v (now (bytes .entry))) r ⌝ }
 {
     let at = b.at;
     let last = b.last;
+    if !texts {
+        return no_text(body.len());
+    }
     if body.len() != 4096 {
         return Added::Area;
     }
-    let text::Utf8::WellFormed = text::from_utf8(name) else {
-        return Added::Text;
-    };
     if !fits(at, 3 + k, name.len(), bytes.len()) {
         return Added::Fit;
     }
@@ -267,14 +385,14 @@ pub fn add_null(body: &mut [u8], b: BatchBuilder, name: &[u8]) -> Added
     ensures { λ r. ⌜ r ≡ columnAdded b (now (body .entry)) (column (now (name .entry)) null) ⌝ }
     ensures { λ _. ⌜ now (body .exit) ≡ columnBytes b (now (body .entry)) (column (now (name .entry)) null) ⌝ }
 {
-    add_column(body, b, name, 0, 0, 0, b"")
+    add_column(body, b, is_text(name), name, 0, 0, 0, b"")
 }
 
 pub fn add_integer(body: &mut [u8], b: BatchBuilder, name: &[u8], value: i64) -> Added
     ensures { λ r. ⌜ r ≡ columnAdded b (now (body .entry)) (column (now (name .entry)) (integer value)) ⌝ }
     ensures { λ _. ⌜ now (body .exit) ≡ columnBytes b (now (body .entry)) (column (now (name .entry)) (integer value)) ⌝ }
 {
-    add_column(body, b, name, 1, 8, unsigned_of(value), b"")
+    add_column(body, b, is_text(name), name, 1, 8, unsigned_of(value), b"")
 }
 
 // A real by its bits, NaNs too.
@@ -282,7 +400,7 @@ pub fn add_real_bits(body: &mut [u8], b: BatchBuilder, name: &[u8], bits: u64) -
     ensures { λ r. ⌜ r ≡ columnAdded b (now (body .entry)) (column (now (name .entry)) (real bits)) ⌝ }
     ensures { λ _. ⌜ now (body .exit) ≡ columnBytes b (now (body .entry)) (column (now (name .entry)) (real bits)) ⌝ }
 {
-    add_column(body, b, name, 2, 8, bits, b"")
+    add_column(body, b, is_text(name), name, 2, 8, bits, b"")
 }
 
 pub fn add_real(body: &mut [u8], b: BatchBuilder, name: &[u8], value: f64) -> Added
@@ -296,13 +414,8 @@ pub fn add_text(body: &mut [u8], b: BatchBuilder, name: &[u8], value: &[u8]) -> 
     ensures { λ r. ⌜ r ≡ columnAdded b (now (body .entry)) (column (now (name .entry)) (text (now (value .entry)))) ⌝ }
     ensures { λ _. ⌜ now (body .exit) ≡ columnBytes b (now (body .entry)) (column (now (name .entry)) (text (now (value .entry)))) ⌝ }
 {
-    if body.len() != 4096 {
-        return Added::Area;
-    }
-    let text::Utf8::WellFormed = text::from_utf8(value) else {
-        return Added::Text;
-    };
-    add_column(body, b, name, 3, 4, value.len() as u64, value)
+    let texts = is_text(value) & is_text(name);
+    add_column(body, b, texts, name, 3, 4, value.len() as u64, value)
 }
 
 fn byte_of(value: bool) -> u64
@@ -315,7 +428,7 @@ pub fn add_bool(body: &mut [u8], b: BatchBuilder, name: &[u8], value: bool) -> A
     ensures { λ r. ⌜ r ≡ columnAdded b (now (body .entry)) (column (now (name .entry)) (bool value)) ⌝ }
     ensures { λ _. ⌜ now (body .exit) ≡ columnBytes b (now (body .entry)) (column (now (name .entry)) (bool value)) ⌝ }
 {
-    add_column(body, b, name, 4, 1, byte_of(value), b"")
+    add_column(body, b, is_text(name), name, 4, 1, byte_of(value), b"")
 }
 
 // A vector, from its elements' little-endian bytes, four each.
@@ -329,5 +442,14 @@ pub fn add_vector(body: &mut [u8], b: BatchBuilder, name: &[u8], bytes: &[u8]) -
     if bytes.len() % 4 != 0 {
         return Added::Truncated;
     }
-    add_column(body, b, name, 5, 4, (bytes.len() / 4) as u64, bytes)
+    add_column(
+        body,
+        b,
+        is_text(name),
+        name,
+        5,
+        4,
+        (bytes.len() / 4) as u64,
+        bytes,
+    )
 }

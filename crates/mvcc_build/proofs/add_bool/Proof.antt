@@ -1,8 +1,5 @@
 -- `mvcc_build::add_bool` meets its contract. Assumes nothing.
-use mathlib.Core.Path.{refl}
 use mathlib.Core.List.{[]}
-use denote.Ref.{now}
-use Prim.Native.Nat.{_-_}
 use Rattle.mvcc_build.proofs.Laws.{column-way, bool-bytes}
 use Rattle.mvcc.specs.Batch.{bool}
 use borrow.Author.Needs.{needs}
@@ -11,10 +8,10 @@ use Rattle.mvcc_build.proofs.add_bool.Tie as tie
 
 returns : tie.Need-returns
 returns c =
-    let a = c .before .before .before .before .before .before .before .before .args in
-    column-way (a .b) (a .body .now) (a .name .now) 4 1 (c .before .before .before .before .byte-of .result) [] (bool (a .value)) (bool-bytes (a .value) (c .before .before .before .before .byte-of .ensures)) refl (c .before .before .add-column .ensures .0) (c .before .before .add-column .ensures .1)
+    let a = c .before .before .before .before .before .before .before .before .before .args in
+    column-way (a .b) (a .body .now) (a .name .now) 4 1 (c .before .before .before .before .byte-of .result) [] (bool (a .value)) (bool-bytes (a .value) (c .before .before .before .before .byte-of .ensures)) (c .before .before .before .before .before .is-text .ensures) (c .before .before .add-column .ensures .0) (c .before .before .add-column .ensures .1)
 
 pub add-bool-spec : {M : Type 1} → statement M
 add-bool-spec =
     tie.close
-    (tie.spec (search needs) (search needs) (search needs) (search needs) returns)
+    (tie.spec (search needs) (search needs) (search needs) (search needs) (search needs) returns)

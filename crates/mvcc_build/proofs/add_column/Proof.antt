@@ -2,7 +2,7 @@
 use Rattle.mvcc_build.proofs.Laws.{col-area, col-text, col-fit, col-none, col-many, col-done, within}
 use native.Mathlib.Omega.{arith}
 use borrow.Author.Tests.{not-true, not-false}
-use Prim.Native.Nat.{_+_, _-_, _≤_}
+use Prim.Native.Nat.{_+_, _≤_}
 use lib.ListN.{length}
 use borrow.Author.Needs.{needs}
 use Rattle.mvcc_build.proofs.add_column.Statement.{statement}
@@ -10,63 +10,64 @@ use Rattle.mvcc_build.proofs.add_column.Tie as tie
 
 returns : tie.Need-returns
 returns c =
-    let a = c .before .before .before .before .args in col-area (a .b) (a .body .now) (a .name .now) (a .tag) (a .k) (a .v) (a .bytes .now) (c .if1 .taken)
+    let f = c .before in
+    let a = f .before .before .before .before .args in
+    col-text (a .b) (a .body .now) (a .texts) (a .name .now) (a .tag) (a .k) (a .v) (a .bytes .now) (not-true _ (f .if1 .taken)) (c .no-text .ensures)
 
 returns-2 : tie.Need-returns-2
 returns-2 c =
-    let f = c .before .before .before in
-    let a = f .before .before .before .before .args in
-    col-text (a .b) (a .body .now) (a .name .now) (a .tag) (a .k) (a .v) (a .bytes .now) (f .if1 .left) (c .before .before .from-utf8 .ensures) (c .enum-told2 .given .1)
+    let a = c .before .before .before .before .before .args in
+    col-area (a .b) (a .body .now) (a .texts) (a .name .now) (a .tag) (a .k) (a .v) (a .bytes .now) (c .if2 .taken)
 
 returns-3 : tie.Need-returns-3
 returns-3 c =
     let e = c .before .before in
-    let f = e .before .before .before in
+    let f = e .before in
     let a = f .before .before .before .before .args in
-    col-fit (a .b) (a .body .now) (a .name .now) (a .tag) (a .k) (a .v) (a .bytes .now) (f .if1 .left) (e .before .before .from-utf8 .ensures) (e .enum-told .given .1) (c .before .fits2 .ensures) (not-true _ (c .if2 .taken))
+    col-fit (a .b) (a .body .now) (a .texts) (a .name .now) (a .tag) (a .k) (a .v) (a .bytes .now) (e .if2 .left) (not-false _ (f .if1 .left)) (c .before .fits2 .ensures) (not-true _ (c .if3 .taken))
 
 returns-4 : tie.Need-returns-4
 returns-4 c =
     let j = c .before .before in
     let e = j .before .before in
-    let f = e .before .before .before in
+    let f = e .before in
     let a = f .before .before .before .before .args in
-    col-none (a .b) (a .body .now) (a .name .now) (a .tag) (a .k) (a .v) (a .bytes .now) (f .if1 .left) (e .before .before .from-utf8 .ensures) (e .enum-told .given .1) (j .before .fits2 .ensures) (not-false _ (j .if2 .left)) (c .enum-told3 .given .1)
+    col-none (a .b) (a .body .now) (a .texts) (a .name .now) (a .tag) (a .k) (a .v) (a .bytes .now) (e .if2 .left) (not-false _ (f .if1 .left)) (j .before .fits2 .ensures) (not-false _ (j .if3 .left)) (c .enum-told .given .1)
 
 returns-5 : tie.Need-returns-5
 returns-5 c =
     let l = c .before .before in
     let j = l .before .before in
     let e = j .before .before in
-    let f = e .before .before .before in
+    let f = e .before in
     let a = f .before .before .before .before .args in
-    col-many (a .b) (a .body .now) (a .name .now) (a .tag) (a .k) (a .v) (a .bytes .now) (f .if1 .left) (e .before .before .from-utf8 .ensures) (e .enum-told .given .1) (j .before .fits2 .ensures) (not-false _ (j .if2 .left)) (l .last .given .1) (c .if3 .taken)
+    col-many (a .b) (a .body .now) (a .texts) (a .name .now) (a .tag) (a .k) (a .v) (a .bytes .now) (e .if2 .left) (not-false _ (f .if1 .left)) (j .before .fits2 .ensures) (not-false _ (j .if3 .left)) (l .last .given .1) (c .if4 .taken)
 
 put-column-requires : tie.Need-put-column-requires
 put-column-requires c κs =
     let j = c .before .before .before .before .before in
-    let f = j .before .before .before .before .before in
+    let f = j .before .before .before in
     let a = f .before .before .before .before .args in
-    (f .if1 .left, within (a .b .at + (3 + a .k + length (a .name .now) + length (a .bytes .now))) (j .before .fits2 .ensures) (j .if2 .left))
+    (j .before .before .if2 .left, within (a .b .at + (3 + a .k + length (a .name .now) + length (a .bytes .now))) (j .before .fits2 .ensures) (j .if3 .left))
 
 -- the column ends within the body
 room : (c : tie.After-slice-known3)
-    → c .before .before .before .before .before .before .before .before .before .before .before .before .before .before .before .before .before .before .before .before .before .args .b .at + (3 + c .before .before .before .before .before .before .before .before .before .before .before .before .before .before .before .before .before .before .before .before .before .args .k + length (c .before .before .before .before .before .before .before .before .before .before .before .before .before .before .before .before .before .before .before .before .before .args .name .now) + length (c .before .before .before .before .before .before .before .before .before .before .before .before .before .before .before .before .before .before .before .before .before .args .bytes .now)) ≤ 4096
+    → c .before .before .before .before .before .before .before .before .before .before .before .before .before .before .before .before .before .before .before .args .b .at + (3 + c .before .before .before .before .before .before .before .before .before .before .before .before .before .before .before .before .before .before .before .args .k + length (c .before .before .before .before .before .before .before .before .before .before .before .before .before .before .before .before .before .before .before .args .name .now) + length (c .before .before .before .before .before .before .before .before .before .before .before .before .before .before .before .before .before .before .before .args .bytes .now)) ≤ 4096
 room c =
     let j = c .before .before .before .before .before .before .before .before .before .before .before .before in
-    within _ (j .before .fits2 .ensures) (j .if2 .left)
+    within _ (j .before .fits2 .ensures) (j .if3 .left)
 
-add-t12 : tie.Need-add-t12
-add-t12 c = omega (arith, room c)
+add-t15 : tie.Need-add-t15
+add-t15 c = omega (arith, room c)
 
-add-t16 : tie.Need-add-t16
-add-t16 c = omega (arith, room c)
-
-add-t26 : tie.Need-add-t26
-add-t26 c = omega (arith, room c)
+add-t17 : tie.Need-add-t17
+add-t17 c = omega (arith, room c)
 
 add-t27 : tie.Need-add-t27
 add-t27 c = omega (arith, room c)
+
+add-t28 : tie.Need-add-t28
+add-t28 c = omega (arith, room c)
 
 returns-6 : tie.Need-returns-6
 returns-6 c =
@@ -75,11 +76,11 @@ returns-6 c =
     let l = i .before .before in
     let j = l .before .before in
     let e = j .before .before in
-    let f = e .before .before .before in
+    let f = e .before in
     let a = f .before .before .before .before .args in
-    col-done (a .b) (a .body .now) (a .name .now) (a .tag) (a .k) (a .v) (a .bytes .now) (f .if1 .left) (e .before .before .from-utf8 .ensures) (e .enum-told .given .1) (j .before .fits2 .ensures) (not-false _ (j .if2 .left)) (l .last .given .1) (i .if3 .left) (p .put-column .ensures) (c .before .before .write-u16 .ensures .1)
+    col-done (a .b) (a .body .now) (a .texts) (a .name .now) (a .tag) (a .k) (a .v) (a .bytes .now) (e .if2 .left) (not-false _ (f .if1 .left)) (j .before .fits2 .ensures) (not-false _ (j .if3 .left)) (l .last .given .1) (i .if4 .left) (p .put-column .ensures) (c .before .before .write-u16 .ensures .1)
 
 pub add-column-spec : {M : Type 1} → statement M
 add-column-spec =
     tie.close
-    (tie.spec returns (search needs) (search needs) (search needs) returns-2 (search needs) (search needs) returns-3 (search needs) (search needs) returns-4 returns-5 put-column-requires (search needs) (search needs) add-t12 add-t16 add-t26 add-t27 (search needs) (search needs) returns-6)
+    (tie.spec (search needs) returns returns-2 (search needs) (search needs) returns-3 (search needs) (search needs) returns-4 returns-5 put-column-requires (search needs) (search needs) add-t15 add-t17 add-t27 add-t28 (search needs) (search needs) returns-6)

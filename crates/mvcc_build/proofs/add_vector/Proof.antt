@@ -1,7 +1,5 @@
 -- `mvcc_build::add_vector` meets its contract. Assumes nothing.
-use mathlib.Core.Path.{refl}
-use denote.Ref.{now}
-use Prim.Native.Nat.{_-_, _/_}
+use Prim.Native.Nat.{_/_}
 use lib.ListN.{length}
 use Rattle.mvcc_build.proofs.Laws.{vector-area, vector-cut, vector-way, column-way, vector-bytes}
 use Rattle.mvcc.specs.Batch.{vector}
@@ -19,9 +17,10 @@ returns-2 c =
 
 returns-3 : tie.Need-returns-3
 returns-3 c =
-    let a = c .before .before .before .before .before .before .before .before .before .args in
-    vector-way (a .b) (a .body .now) (a .name .now) (a .bytes .now) (c .before .before .before .before .before .if1 .left) (c .before .before .before .before .if2 .left)
-    (column-way (a .b) (a .body .now) (a .name .now) 5 4 (length (a .bytes .now) / 4) (a .bytes .now) (vector (elements (a .bytes .now))) (vector-bytes (a .bytes .now) (λ i. c .before .before .before .before .before .before .shared-slice-known2 .given i .fits) (c .before .before .before .before .if2 .left)) refl (c .before .before .add-column .ensures .0) (c .before .before .add-column .ensures .1))
+    let m = c .before .before .before .before .before in
+    let a = m .before .before .before .before .before .args in
+    vector-way (a .b) (a .body .now) (a .name .now) (a .bytes .now) (m .before .if1 .left) (m .if2 .left)
+    (column-way (a .b) (a .body .now) (a .name .now) 5 4 (length (a .bytes .now) / 4) (a .bytes .now) (vector (elements (a .bytes .now))) (vector-bytes (a .bytes .now) (λ i. m .before .before .shared-slice-known2 .given i .fits) (m .if2 .left)) (c .before .before .before .is-text .ensures) (c .before .before .add-column .ensures .0) (c .before .before .add-column .ensures .1))
 
 pub add-vector-spec : {M : Type 1} → statement M
-add-vector-spec = tie.close (tie.spec returns returns-2 (search needs) (search needs) returns-3)
+add-vector-spec = tie.close (tie.spec returns returns-2 (search needs) (search needs) (search needs) returns-3)
