@@ -1,19 +1,24 @@
 -- Looking up pages, batches and frames by their places, and what that means for an open log. Assumes nothing.
 use mathlib.Core.Path.{_≡_, refl, sym, _∙_}
 use mathlib.Core.Bool.{Bool, true, false}
-use mathlib.Core.List.{List, [], _∷_}
+use mathlib.Core.List.{List, [], _∷_, _++_}
 use Prim.Native.Nat.{ℕ, zero, suc, _+_, _-_, _/_, _≤_, _<_}
 use native.Mathlib.Nat.{add-zero}
 use native.Mathlib.Numerals.{add-one}
 use native.Mathlib.Omega.{arith}
 use borrow.Author.Tests.{eq-eqb, ne-eqb, lt-ltb, le-ltb}
-use lib.ListN.{length, take, drop, getD}
-use lib.Seq.{take-all, getD-drop, drop-drop}
+use lib.Dec.{eqb}
+use lib.ListN.{length, take, drop, getD, length-take}
+use lib.Seq.{take-all, take-take, getD-drop, drop-drop}
+use Rattle.le.proofs.Fields.{drop-take}
 use Rattle.le.specs.Choice.{pick}
 use Rattle.frame.specs.Frame.{frameAt, headerOf, bodyOf}
-use Rattle.wal.specs.Recovery.{chunks, chunkAt, pageOf, isBatch, pageIn, batchesIn, recovered, sealedFrames, walOf}
-use Rattle.wal.specs.Read.{committed, readPage, frameIn, batchFrom, nextBatch}
+use Rattle.frame.proofs.Places.{body-there}
+use Rattle.wal.specs.Recovery.{chunks, chunkAt, pageOf, batchPage, isBatch, pageIn, batchesIn, recovered, sealedFrames, walOf}
+use Rattle.wal.specs.Read.{committed, readPage, bodyAt, unlessLater, placeFrom, findPage, pageAt, frameIn, batchFrom, nextBatch}
 use Rattle.wal.specs.declared.Wal.{Wal}
+use Rattle.wal.specs.declared.PagePlace.{PagePlace}
+use Rattle.wal.specs.declared.PagePlace.the-variants as place
 use Rattle.wal.specs.declared.FrameFound.the-variants as found
 use Rattle.wal.specs.declared.BatchFound.{BatchFound}
 use Rattle.wal.specs.declared.BatchFound.the-variants as batch
@@ -22,31 +27,89 @@ use Rattle.wal.proofs.Frames.{pageIn-snoc}
 use Rattle.wal.proofs.Recovered.{committed-sealed}
 use Rattle.wal.proofs.Opening.{known-commit}
 
--- ---- a page, from the last chunk back
+-- ---- a page's place, from the last chunk back
+
+place-pick : (b : Bool) (at : ℕ) (r here : PagePlace) → unlessLater (pick b (place.At at) r) here ≡ pick b (place.At at) (unlessLater r here)
+place-pick true at r here = refl
+place-pick false at r here = refl
+
+place-snoc : (p i : ℕ) (fs : List (List ℕ)) (f : List ℕ)
+    → placeFrom p i (fs ++ (f ∷ [])) ≡ pick (eqb (pageOf f) p) (place.At (bodyAt (i + length fs))) (placeFrom p i fs)
+unfolding placeFrom
+place-snoc p i [] f = rw add-zero
+place-snoc p i (g ∷ gs) f =
+    let e : i + 1 + length gs ≡ i + length (g ∷ gs) = omega arith in
+    rw (place-snoc p (i + 1) gs f, e) (place-pick (eqb (pageOf f) p) (bodyAt (i + length (g ∷ gs))) _ _)
 
 module _ (l : List ℕ) (p : ℕ) where
-  pub page-start : (n : ℕ) → n ≡ (length l - 32) / 4112 → pageIn p (take n (chunks l)) ≡ pageIn p (chunks l)
-  page-start n e = rw (take-all n (chunks l) (omega (arith, length-chunks l)))
+  -- one chunk more
+  more : (i : ℕ) → i < (length l - 32) / 4112
+      → placeFrom p 0 (take (suc i) (chunks l)) ≡ pick (eqb (pageOf (frameAt (chunkAt i) l)) p) (place.At (bodyAt i)) (placeFrom p 0 (take i (chunks l)))
+  more i h =
+      let n : 0 + length (take i (chunks l)) ≡ i = rw (length-take, length-chunks) (omega arith) in
+      let e = place-snoc p 0 (take i (chunks l)) (frameAt (chunkAt i) l) in
+      rw (take-chunk i l (omega arith)) (rw n at e)
 
-  pub page-here : (i : ℕ) → 0 < i → i ≤ (length l - 32) / 4112 → pageOf (frameAt (chunkAt (i - 1)) l) ≡ p
-      → frameAt (chunkAt (i - 1)) l ≡ pageIn p (take i (chunks l))
-  page-here zero h k e = absurd (omega arith)
-  page-here (suc i) h k e =
+  pub place-start : (n : ℕ) → n ≡ (length l - 32) / 4112 → placeFrom p 0 (take n (chunks l)) ≡ placeFrom p 0 (chunks l)
+  place-start n e = rw (take-all n (chunks l) (omega (arith, length-chunks l)))
+
+  pub place-here : (i : ℕ) → 0 < i → i ≤ (length l - 32) / 4112 → pageOf (frameAt (chunkAt (i - 1)) l) ≡ p
+      → place.At (chunkAt (i - 1) + 16) ≡ placeFrom p 0 (take i (chunks l))
+  place-here zero h k e = absurd (omega arith)
+  place-here (suc i) h k e =
       let m : suc i - 1 ≡ i = omega arith in
       let f : pageOf (frameAt (chunkAt i) l) ≡ p = rw m at e in
-      rw (m, take-chunk i l (omega arith), pageIn-snoc p (take i (chunks l)) (frameAt (chunkAt i) l), eq-eqb _ _ f)
+      rw (m, more i (omega arith), eq-eqb _ _ f)
 
-  pub page-before : (i : ℕ) → 0 < i → i ≤ (length l - 32) / 4112 → (pageOf (frameAt (chunkAt (i - 1)) l) ≡ p → ⊥)
-      → pageIn p (take (i - 1) (chunks l)) ≡ pageIn p (take i (chunks l))
-  page-before zero h k e = absurd (omega arith)
-  page-before (suc i) h k e =
+  pub place-before : (i : ℕ) → 0 < i → i ≤ (length l - 32) / 4112 → (pageOf (frameAt (chunkAt (i - 1)) l) ≡ p → ⊥)
+      → placeFrom p 0 (take (i - 1) (chunks l)) ≡ placeFrom p 0 (take i (chunks l))
+  place-before zero h k e = absurd (omega arith)
+  place-before (suc i) h k e =
       let m : suc i - 1 ≡ i = omega arith in
       let f : pageOf (frameAt (chunkAt i) l) ≡ p → ⊥ = rw m at e in
-      rw (m, take-chunk i l (omega arith), pageIn-snoc p (take i (chunks l)) (frameAt (chunkAt i) l), ne-eqb _ _ f)
+      rw (m, more i (omega arith), ne-eqb _ _ f)
 
-  pub page-none : (i : ℕ) → i ≡ 0 → pageIn p (take i (chunks l)) ≡ []
-  unfolding pageIn
-  page-none i e = rw e
+  pub place-none : (i : ℕ) → i ≡ 0 → place.Nothing ≡ placeFrom p 0 (take i (chunks l))
+  unfolding placeFrom
+  place-none i e = rw e
+
+-- ---- the page there
+
+one-more : (l f g : List ℕ) (at : ℕ) (r : PagePlace) (b : Bool) → bodyOf f ≡ pageAt l (place.At at) → bodyOf g ≡ pageAt l r
+    → bodyOf (pick b f g) ≡ pageAt l (pick b (place.At at) r)
+one-more l f g at r true e h = e
+one-more l f g at r false e h = h
+
+module _ (l : List ℕ) (end p : ℕ) where
+  -- a chunk of the front part has its body at the same place of the whole
+  body-same : (i : ℕ) → i < (length (take end l) - 32) / 4112 → bodyOf (frameAt (chunkAt i) (take end l)) ≡ pageAt l (place.At (bodyAt i))
+  body-same i h =
+      let k : chunkAt i + 16 + 4096 ≤ end = omega (arith, length-take end l) in
+      let m : chunkAt i + 16 + (end - (chunkAt i + 16)) ≡ end = omega arith in
+      let d : drop (chunkAt i + 16) (take end l) ≡ take (end - (chunkAt i + 16)) (drop (chunkAt i + 16) l) =
+      rw m at (drop-take (chunkAt i + 16) (end - (chunkAt i + 16)) l) in
+      rw (body-there (chunkAt i) (take end l), d) (take-take 4096 (end - (chunkAt i + 16)) (drop (chunkAt i + 16) l) (omega arith))
+
+  up-to : (i : ℕ) → i ≤ (length (take end l) - 32) / 4112
+      → bodyOf (pageIn p (take i (committed end l))) ≡ pageAt l (placeFrom p 0 (take i (committed end l)))
+  unfolding pageIn placeFrom bodyOf
+  up-to zero h = refl
+  up-to (suc i) h =
+      let s = take end l in
+      rw (more s p i (omega arith), take-chunk i s (omega arith), pageIn-snoc p (take i (chunks s)) (frameAt (chunkAt i) s))
+      (one-more l (frameAt (chunkAt i) s) (pageIn p (take i (chunks s))) (bodyAt i) (placeFrom p 0 (take i (chunks s))) (eqb (pageOf (frameAt (chunkAt i) s)) p) (body-same i (omega arith)) (up-to i (omega arith)))
+
+  judged : (b : Bool) → pick b [] (bodyOf (pageIn p (committed end l))) ≡ pageAt l (pick b place.Nothing (placeFrom p 0 (committed end l)))
+  judged true = refl
+  judged false =
+      let n = (length (take end l) - 32) / 4112 in
+      let t : take n (committed end l) ≡ committed end l = take-all n (committed end l) (omega (arith, length-chunks (take end l))) in
+      rw t at (up-to n (omega arith))
+
+  -- a page's bytes are those at its place
+  pub read-found : readPage l end p ≡ pageAt l (findPage l end p)
+  unfolding readPage findPage
+  read-found = judged (eqb p batchPage)
 
 -- ---- a batch
 

@@ -7,11 +7,12 @@ ghost use lib.Dec.{eqb};
 ghost use Rattle.le.specs.Choice.{pick, both};
 ghost use Rattle.le.specs.Answers.{storedOf};
 ghost use Rattle.le.specs.Le.{store};
-ghost use Rattle.frame.specs.Frame.{frameAt, bodyOf};
+ghost use Rattle.frame.specs.Frame.{frameAt};
 ghost use Rattle.wal.specs.Header.{encodeWalHeader, headerIn, decodeWalHeader};
-ghost use Rattle.wal.specs.Recovery.{readableAs, readable, chunks, pageIn, recovered, walOf, openLog};
-ghost use Rattle.wal.specs.Read.{frameIn, readPage, batchFrom, nextBatch};
+ghost use Rattle.wal.specs.Recovery.{readableAs, readable, chunks, recovered, walOf, openLog};
+ghost use Rattle.wal.specs.Read.{frameIn, readPage, placeFrom, findPage, batchFrom, nextBatch};
 ghost use Rattle.wal.specs.Write.{emptyWal, createAnswer, createAfter, truncateAnswer, truncateAfter, longer, joins, appendAnswer, appendAfter, inPlaceAnswer, inPlaceAfter, clockAnswer};
+use frame::FRAME_HEADER_SIZE;
 use frame::FRAME_SIZE;
 use frame::FrameHeader;
 use le::Stored;
@@ -30,6 +31,7 @@ pub const WAL_FORMAT_VERSION_MIN_SUPPORTED: u32 = 1;
 pub const WAL_AREA: usize = 4_210_720;
 
 // What the header says.
+#[repr(C)]
 pub struct WalHeader {
     pub version: u32,
     pub salt: u32,
@@ -264,9 +266,15 @@ pub fn frame_at(file: &[u8], index: usize) -> FrameFound
     FrameFound::Frame { offset, header }
 }
 
-// The body of a page's last frame, or no byte.
-fn last_body(file: &[u8], page_num: u32) -> &[u8]
-    ensures { λ r. ⌜ now r ≡ bodyOf (pageIn «page_num» (chunks (now (file .entry)))) ⌝ }
+// Where a page's own bytes stand in the log.
+pub enum PagePlace {
+    At(usize),
+    Nothing,
+}
+
+// The place of the bytes of a page's last frame.
+fn last_place(file: &[u8], page_num: u32) -> PagePlace
+    ensures { λ r. ⌜ r ≡ placeFrom «page_num» 0 (chunks (now (file .entry))) ⌝ }
 {
     let mut i = chunk_count(file.len());
     while 0 < i {
@@ -274,21 +282,31 @@ fn last_body(file: &[u8], page_num: u32) -> &[u8]
         let at = WAL_HEADER_SIZE + FRAME_SIZE * i;
         let header = frame::read_frame_header(file, at);
         if header.page_num == page_num {
-            return frame::frame_body(file, at);
+            return PagePlace::At(at + FRAME_HEADER_SIZE);
         }
     }
-    &file[..0]
+    PagePlace::Nothing
 }
 
-// A page's own bytes inside the log, from its last frame up to the commit point; no byte if there is none.
+// The place of a page's bytes in its last frame up to the commit point.
 // The frames up to there are sealed good ones, also in a log that was appended to behind a torn tail.
+pub fn find_page(file: &[u8], wal: Wal, page_num: u32) -> PagePlace
+    ensures { λ r. ⌜ r ≡ findPage (now (file .entry)) (wal .«last_commit_offset») «page_num» ⌝ }
+{
+    if page_num == MVCC_FRAME_MARKER {
+        return PagePlace::Nothing;
+    }
+    last_place(le::part(file, 0, wal.last_commit_offset), page_num)
+}
+
+// A page's own bytes inside the log, where `find_page` finds them; no byte if there is none.
 pub fn read_page(file: &[u8], wal: Wal, page_num: u32) -> &[u8]
     ensures { λ r. ⌜ now r ≡ readPage (now (file .entry)) (wal .«last_commit_offset») «page_num» ⌝ }
 {
-    if page_num == MVCC_FRAME_MARKER {
-        return &file[..0];
+    match find_page(file, wal, page_num) {
+        PagePlace::At(at) => le::part(file, at, PAGE_SIZE),
+        PagePlace::Nothing => &file[..0],
     }
-    last_body(le::part(file, 0, wal.last_commit_offset), page_num)
 }
 
 // A batch's place.
