@@ -1,2 +1,0 @@
--- The root of the laws of `bench_mvcc`.
-pub mod Exported

@@ -1,2 +1,0 @@
--- The root of the definitions of `bench_wal`.
-pub mod Numbers

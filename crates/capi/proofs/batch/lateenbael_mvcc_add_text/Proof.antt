@@ -1,0 +1,15 @@
+use mathlib.Core.Path.{ap, _∙_}
+use borrow.Author.Needs.{needs}
+use Rattle.capi.specs.Batch.{toldAs}
+use Rattle.capi.proofs.batch.lateenbael_mvcc_add_text.Statement.{statement}
+use Rattle.capi.proofs.batch.lateenbael_mvcc_add_text.Tie as tie
+
+returns : tie.Need-returns
+returns c =
+    let d = c .before .before .before in
+    let h = rw (d .before .builder-in .ensures) at (d .add-text .ensures) in
+    (c .told .ensures ∙ ap toldAs (h .0), h .1)
+
+pub lateenbael-mvcc-add-text-spec : {M : Type 1} → statement M
+lateenbael-mvcc-add-text-spec =
+    tie.close (tie.spec (search needs) (search needs) (search needs) (search needs) returns)

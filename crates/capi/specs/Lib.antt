@@ -1,0 +1,3 @@
+-- The root of the definitions of `capi`.
+pub mod Batch
+pub mod Log

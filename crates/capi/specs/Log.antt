@@ -1,0 +1,148 @@
+-- What the calls of the log and of the two headers answer, in numbers: 0 or document 01's number of the refusal, beside which all
+-- else is 0. Open logs go over as `walOf` has them and are taken as `walIn` has them.
+use Prim.Native.Nat.{ℕ}
+use Rattle.frame.specs.declared.FrameHeader.{FrameHeader}
+use Rattle.header.specs.Header.{decodeRefusal}
+use Rattle.header.specs.declared.HeaderDecoded.{HeaderDecoded}
+use Rattle.header.specs.declared.HeaderDecoded.the-variants as header
+use Rattle.wal.specs.Header.{decodeRefusal as walHeaderRefusal}
+use Rattle.wal.specs.Recovery.{openRefusal}
+use Rattle.wal.specs.Write.{createRefusal, truncateRefusal, appendRefusal, clockRefusal}
+use Rattle.wal.specs.declared.WalHeader.{WalHeader}
+use Rattle.wal.specs.declared.WalHeaderDecoded.{WalHeaderDecoded}
+use Rattle.wal.specs.declared.WalHeaderDecoded.the-variants as decoded
+use Rattle.wal.specs.declared.Wal.{Wal}
+use Rattle.wal.specs.declared.WalCreated.{WalCreated}
+use Rattle.wal.specs.declared.WalCreated.the-variants as created
+use Rattle.wal.specs.declared.WalOpened.{WalOpened}
+use Rattle.wal.specs.declared.WalOpened.the-variants as opened
+use Rattle.wal.specs.declared.WalTruncated.{WalTruncated}
+use Rattle.wal.specs.declared.WalTruncated.the-variants as truncated
+use Rattle.wal.specs.declared.FrameAppended.{FrameAppended}
+use Rattle.wal.specs.declared.FrameAppended.the-variants as appended
+use Rattle.wal.specs.declared.ClockSet.{ClockSet}
+use Rattle.wal.specs.declared.ClockSet.the-variants as clock
+use Rattle.wal.specs.declared.FrameFound.{FrameFound}
+use Rattle.wal.specs.declared.FrameFound.the-variants as frame
+use Rattle.wal.specs.declared.PagePlace.{PagePlace}
+use Rattle.wal.specs.declared.PagePlace.the-variants as place
+use Rattle.wal.specs.declared.BatchFound.{BatchFound}
+use Rattle.wal.specs.declared.BatchFound.the-variants as batch
+use Rattle.wal_batch.specs.Batch.{batchRefusal}
+use Rattle.wal_batch.specs.declared.BatchAppended.{BatchAppended}
+use Rattle.wal_batch.specs.declared.BatchAppended.the-variants as batched
+use Rattle.log_listing.specs.Answer.{listRefusal}
+use Rattle.log_listing.specs.declared.Listed.{Listed}
+use Rattle.log_listing.specs.declared.Listed.the-variants as listed
+use Rattle.capi_numbers.specs.Numbers.{noHeader, walOf}
+use Rattle.capi_numbers.specs.declared.WalNumbers.{WalNumbers}
+use Rattle.capi.specs.declared.log.WalAnswer.{WalAnswer}
+use Rattle.capi.specs.declared.log.WalHeaderAnswer.{WalHeaderAnswer}
+use Rattle.capi.specs.declared.log.FrameAnswer.{FrameAnswer}
+use Rattle.capi.specs.declared.log.ListAnswer.{ListAnswer}
+use Rattle.capi_answers.specs.declared.HeaderAnswer.{HeaderAnswer}
+use Rattle.capi_answers.specs.declared.PageAnswer.{PageAnswer}
+use Rattle.capi_answers.specs.declared.BatchPlace.{BatchPlace}
+
+-- ---- answers that give an open log
+
+abbrev pub noWalHeader : WalHeader
+noWalHeader = record { version = 0; salt = 0; «checkpoint_seq» = 0; «clock_high_water» = 0 }
+
+abbrev pub noWal : WalNumbers
+noWal =
+    record {
+      header = noWalHeader;
+      len = 0;
+      «good_end» = 0;
+      «last_commit_offset» = 0;
+      «frame_count» = 0;
+      sealed = 0;
+      «last_commit_page_count» = 0;
+    }
+
+abbrev pub logRefused : ℕ → WalAnswer
+logRefused n = record { refusal = n; wal = noWal }
+
+abbrev pub logGiven : Wal → WalAnswer
+logGiven w = record { refusal = 0; wal = walOf w }
+
+abbrev pub createdAs : WalCreated → WalAnswer
+createdAs (created.Created w) = logGiven w
+createdAs created.Area = logRefused (createRefusal created.Area)
+
+abbrev pub openedAs : WalOpened → WalAnswer
+openedAs (opened.Opened w) = logGiven w
+openedAs opened.Area = logRefused (openRefusal opened.Area)
+openedAs opened.Short = logRefused (openRefusal opened.Short)
+openedAs opened.Magic = logRefused (openRefusal opened.Magic)
+openedAs opened.Version = logRefused (openRefusal opened.Version)
+openedAs opened.PageSize = logRefused (openRefusal opened.PageSize)
+
+abbrev pub appendedAs : FrameAppended → WalAnswer
+appendedAs (appended.Appended w) = logGiven w
+appendedAs appended.Area = logRefused (appendRefusal appended.Area)
+appendedAs appended.LogFull = logRefused (appendRefusal appended.LogFull)
+
+abbrev pub batchedAs : BatchAppended → WalAnswer
+batchedAs (batched.Appended w) = logGiven w
+batchedAs batched.Area = logRefused (batchRefusal batched.Area)
+batchedAs batched.Short = logRefused (batchRefusal batched.Short)
+batchedAs batched.Magic = logRefused (batchRefusal batched.Magic)
+batchedAs batched.LogFull = logRefused (batchRefusal batched.LogFull)
+batchedAs batched.Truncated = logRefused (batchRefusal batched.Truncated)
+batchedAs batched.Tag = logRefused (batchRefusal batched.Tag)
+batchedAs batched.Text = logRefused (batchRefusal batched.Text)
+
+abbrev pub truncatedAs : WalTruncated → WalAnswer
+truncatedAs (truncated.Truncated w) = logGiven w
+truncatedAs truncated.Area = logRefused (truncateRefusal truncated.Area)
+
+abbrev pub clockAs : ClockSet → WalAnswer
+clockAs (clock.Set w) = logGiven w
+clockAs clock.Clock = logRefused (clockRefusal clock.Clock)
+
+-- ---- what stands in a log
+
+-- a frame's first byte and heading, where one stands at an index
+abbrev pub frameAs : FrameFound → FrameAnswer
+frameAs (frame.Frame at h) = record { found = 1; offset = at; header = h }
+frameAs frame.Nothing =
+    record { found = 0; offset = 0; header = record { «page_num» = 0; «commit_page_count» = 0; salt = 0; checksum = 0 } }
+
+-- a page's first byte in the log, which is area 1; area 0 is none
+abbrev pub placeAs : PagePlace → PageAnswer
+placeAs (place.At at) = record { refusal = 0; area = 1; at = at }
+placeAs place.Nothing = record { refusal = 0; area = 0; at = 0 }
+
+-- a batch's index and its frame's first byte
+abbrev pub batchAs : BatchFound → BatchPlace
+batchAs (batch.Batch i at) = record { refusal = 0; found = 1; index = i; offset = at }
+batchAs batch.Nothing = record { refusal = 0; found = 0; index = 0; offset = 0 }
+
+-- how many bytes a listing has
+abbrev pub listedAs : Listed → ListAnswer
+listedAs (listed.Bytes n) = record { refusal = 0; len = n }
+listedAs listed.Area = record { refusal = listRefusal listed.Area; len = 0 }
+
+-- ---- headers
+
+abbrev pub walHeaderRefused : ℕ → WalHeaderAnswer
+walHeaderRefused n = record { refusal = n; header = noWalHeader }
+
+abbrev pub walHeaderAs : WalHeaderDecoded → WalHeaderAnswer
+walHeaderAs (decoded.Header h) = record { refusal = 0; header = h }
+walHeaderAs decoded.Short = walHeaderRefused (walHeaderRefusal decoded.Short)
+walHeaderAs decoded.Magic = walHeaderRefused (walHeaderRefusal decoded.Magic)
+walHeaderAs decoded.Version = walHeaderRefused (walHeaderRefusal decoded.Version)
+walHeaderAs decoded.PageSize = walHeaderRefused (walHeaderRefusal decoded.PageSize)
+
+abbrev pub headerRefused : ℕ → HeaderAnswer
+headerRefused n = record { refusal = n; header = noHeader }
+
+abbrev pub headerAs : HeaderDecoded → HeaderAnswer
+headerAs (header.Header h) = record { refusal = 0; header = h }
+headerAs header.Short = headerRefused (decodeRefusal header.Short)
+headerAs header.Magic = headerRefused (decodeRefusal header.Magic)
+headerAs header.Version = headerRefused (decodeRefusal header.Version)
+headerAs header.PageSize = headerRefused (decodeRefusal header.PageSize)

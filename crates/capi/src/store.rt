@@ -1,0 +1,364 @@
+// The calls of the store. Each takes the store in numbers, makes the pager's call of the same name, and gives its answer in numbers.
+ghost use mathlib.Core.Path.{_≡_};
+ghost use mathlib.Core.Bool.{true, false};
+ghost use Rattle.pager_state.specs.World.{world};
+ghost use Rattle.pager_state.specs.Overlay.{findPage};
+ghost use Rattle.pager_state.specs.Staging.{stagePage, stageAfter, clearStaged};
+ghost use Rattle.pager_state.specs.Queries.{header, accessMode, clockHighWater, observeClock};
+ghost use Rattle.pager_state.specs.Batches.{appendBatch, appendAfter, nextRecovered};
+ghost use Rattle.pager_state.specs.Opening.{create, createTable, createLog, createMain, openPager, openTable, openLogArea};
+ghost use Rattle.pager_state.specs.Steps.{beginCommit, beginCheckpoint, stepAnswer, stepped, commitAnswer, commitWorld, checkpointAnswer, checkpointWorld};
+ghost use Rattle.pager_open.specs.Given.{how, files};
+ghost use Rattle.pager_read.specs.Reading.{reading, placePage};
+ghost use Rattle.capi_numbers.specs.Numbers.{pagerIn};
+ghost use Rattle.capi_answers.specs.Answers.{flagIn, modeIn, createdAs, openedAs, headerAs, modeAs, clockAs, observedAs, foundAs, recoveredAs, stagedAs, clearedAs, appendedAs, commitBegunAs, foldBegunAs, committedAs, writtenAs, steppedAs};
+use capi_answers::Answered;
+use capi_answers::BatchPlace;
+use capi_answers::HeaderAnswer;
+use capi_answers::NumberAnswer;
+use capi_answers::PageAnswer;
+use capi_answers::StepAnswered;
+use capi_numbers::Store;
+use header::DbHeader;
+use pager_read::Reading;
+
+// ---- creation and openings
+
+#[no_mangle]
+pub extern "C" fn lateenbael_create(
+    table: &mut [u32],
+    log: &mut [u8],
+    main: &mut [u8],
+    staging: &[u8],
+    salt: u32,
+) -> Answered
+    ensures { λ r. ⌜ r ≡ createdAs (create (now (table .entry)) (now (log .entry)) (now (main .entry)) (now (staging .entry)) salt) ⌝ }
+    ensures { λ _. ⌜ now (table .exit) ≡ createTable (now (table .entry)) (now (log .entry)) (now (main .entry)) (now (staging .entry)) ⌝ }
+    ensures { λ _. ⌜ now (log .exit) ≡ createLog (now (table .entry)) (now (log .entry)) (now (main .entry)) (now (staging .entry)) salt ⌝ }
+    ensures { λ _. ⌜ now (main .exit) ≡ createMain (now (table .entry)) (now (log .entry)) (now (main .entry)) (now (staging .entry)) salt ⌝ }
+{
+    capi_answers::created_as(pager_open::create(table, log, main, staging, salt))
+}
+
+#[no_mangle]
+pub extern "C" fn lateenbael_open_with_mode(
+    table: &mut [u32],
+    log: &mut [u8],
+    main: &[u8],
+    staging: &[u8],
+    main_len: usize,
+    log_len: usize,
+    access_mode: u32,
+    log_exists: u32,
+    salt: u32,
+) -> Answered
+    ensures { λ r. ⌜ r ≡ openedAs (openPager (how false (modeIn «access_mode») (flagIn «log_exists») salt) (now (table .entry)) (files (now (main .entry)) «main_len» (now (log .entry)) «log_len») (now (staging .entry))) ⌝ }
+    ensures { λ _. ⌜ now (table .exit) ≡ openTable (how false (modeIn «access_mode») (flagIn «log_exists») salt) (now (table .entry)) (files (now (main .entry)) «main_len» (now (log .entry)) «log_len») (now (staging .entry)) ⌝ }
+    ensures { λ _. ⌜ now (log .exit) ≡ openLogArea (how false (modeIn «access_mode») (flagIn «log_exists») salt) (now (table .entry)) (files (now (main .entry)) «main_len» (now (log .entry)) «log_len») (now (staging .entry)) ⌝ }
+{
+    let mode = capi_answers::mode_in(access_mode);
+    let exists = capi_answers::flag_in(log_exists);
+    capi_answers::opened_as(pager_open::open_with_mode(
+        table,
+        log,
+        main,
+        staging,
+        main_len,
+        log_len,
+        mode,
+        exists,
+        salt,
+    ))
+}
+
+#[no_mangle]
+pub extern "C" fn lateenbael_open_clean(
+    table: &mut [u32],
+    log: &mut [u8],
+    main: &[u8],
+    staging: &[u8],
+    main_len: usize,
+    log_len: usize,
+    access_mode: u32,
+    log_exists: u32,
+    salt: u32,
+) -> Answered
+    ensures { λ r. ⌜ r ≡ openedAs (openPager (how true (modeIn «access_mode») (flagIn «log_exists») salt) (now (table .entry)) (files (now (main .entry)) «main_len» (now (log .entry)) «log_len») (now (staging .entry))) ⌝ }
+    ensures { λ _. ⌜ now (table .exit) ≡ openTable (how true (modeIn «access_mode») (flagIn «log_exists») salt) (now (table .entry)) (files (now (main .entry)) «main_len» (now (log .entry)) «log_len») (now (staging .entry)) ⌝ }
+    ensures { λ _. ⌜ now (log .exit) ≡ openLogArea (how true (modeIn «access_mode») (flagIn «log_exists») salt) (now (table .entry)) (files (now (main .entry)) «main_len» (now (log .entry)) «log_len») (now (staging .entry)) ⌝ }
+{
+    let mode = capi_answers::mode_in(access_mode);
+    let exists = capi_answers::flag_in(log_exists);
+    capi_answers::opened_as(pager_open::open_clean(
+        table,
+        log,
+        main,
+        staging,
+        main_len,
+        log_len,
+        mode,
+        exists,
+        salt,
+    ))
+}
+
+// ---- queries
+
+#[no_mangle]
+pub extern "C" fn lateenbael_header(store: Store) -> HeaderAnswer
+    ensures { λ r. ⌜ r ≡ headerAs (header (pagerIn store)) ⌝ }
+{
+    capi_answers::header_as(pager_read::header(capi_numbers::pager_in(store)))
+}
+
+#[no_mangle]
+pub extern "C" fn lateenbael_access_mode(store: Store) -> NumberAnswer
+    ensures { λ r. ⌜ r ≡ modeAs (accessMode (pagerIn store)) ⌝ }
+{
+    capi_answers::mode_as(pager_read::access_mode(capi_numbers::pager_in(store)))
+}
+
+#[no_mangle]
+pub extern "C" fn lateenbael_clock_high_water(store: Store) -> NumberAnswer
+    ensures { λ r. ⌜ r ≡ clockAs (clockHighWater (pagerIn store)) ⌝ }
+{
+    capi_answers::clock_as(pager_read::clock_high_water(capi_numbers::pager_in(store)))
+}
+
+#[no_mangle]
+pub extern "C" fn lateenbael_observe_clock_high_water(store: Store, value: u64) -> Answered
+    ensures { λ r. ⌜ r ≡ observedAs (observeClock (pagerIn store) value) ⌝ }
+{
+    capi_answers::observed_as(pager_read::observe_clock_high_water(
+        capi_numbers::pager_in(store),
+        value,
+    ))
+}
+
+// ---- pages and batches
+
+#[no_mangle]
+pub extern "C" fn lateenbael_find_page(
+    store: Store,
+    table: &[u32],
+    log: &[u8],
+    main: &[u8],
+    staging: &[u8],
+    page_num: u32,
+) -> PageAnswer
+    ensures { λ r. ⌜ r ≡ foundAs (findPage (world (pagerIn store) (now (table .entry)) (now (log .entry)) (now (main .entry))) (now (staging .entry)) «page_num») ⌝ }
+{
+    capi_answers::found_as(pager_read::find_page(
+        capi_numbers::pager_in(store),
+        table,
+        log,
+        main,
+        staging,
+        page_num,
+    ))
+}
+
+// The same, of what a reading takes of the store.
+#[no_mangle]
+pub extern "C" fn lateenbael_place_page(
+    page_count: u32,
+    job: u32,
+    log_len: usize,
+    main_len: usize,
+    staged: &[u16],
+    table: &[u32],
+    log: &[u8],
+    main: &[u8],
+    staging: &[u8],
+    page_num: u32,
+) -> PageAnswer
+    ensures { λ r. ⌜ r ≡ foundAs (placePage (reading «page_count» job «log_len» «main_len») (now (staged .entry)) (now (table .entry)) (now (log .entry)) (now (main .entry)) (now (staging .entry)) «page_num») ⌝ }
+{
+    let reading = Reading {
+        page_count,
+        job,
+        log_len,
+        main_len,
+    };
+    capi_answers::found_as(pager_read::place_page(
+        reading,
+        staged,
+        table,
+        log,
+        main,
+        staging,
+        page_num,
+    ))
+}
+
+#[no_mangle]
+pub extern "C" fn lateenbael_recovered_mvcc_commits(
+    store: Store,
+    log: &[u8],
+    index: usize,
+) -> BatchPlace
+    ensures { λ r. ⌜ r ≡ recoveredAs (nextRecovered (pagerIn store) (now (log .entry)) index) ⌝ }
+{
+    capi_answers::recovered_as(pager_read::recovered_mvcc_commits(
+        capi_numbers::pager_in(store),
+        log,
+        index,
+    ))
+}
+
+#[no_mangle]
+pub extern "C" fn lateenbael_stage_page(
+    store: Store,
+    staging: &mut [u8],
+    page_num: u32,
+    bytes: &[u8],
+) -> Answered
+    ensures { λ r. ⌜ r ≡ stagedAs (stagePage (pagerIn store) (now (staging .entry)) «page_num» (now (bytes .entry))) ⌝ }
+    ensures { λ _. ⌜ now (staging .exit) ≡ stageAfter (pagerIn store) (now (staging .entry)) «page_num» (now (bytes .entry)) ⌝ }
+{
+    capi_answers::staged_as(pager_stage::stage_page(
+        capi_numbers::pager_in(store),
+        staging,
+        page_num,
+        bytes,
+    ))
+}
+
+#[no_mangle]
+pub extern "C" fn lateenbael_clear_staged(store: Store) -> Answered
+    ensures { λ r. ⌜ r ≡ clearedAs (clearStaged (pagerIn store)) ⌝ }
+{
+    capi_answers::cleared_as(pager_stage::clear_staged(capi_numbers::pager_in(store)))
+}
+
+#[no_mangle]
+pub extern "C" fn lateenbael_append_mvcc_batch(
+    store: Store,
+    log: &mut [u8],
+    body: &[u8],
+) -> Answered
+    ensures { λ r. ⌜ r ≡ appendedAs (appendBatch (pagerIn store) (now (log .entry)) (now (body .entry))) ⌝ }
+    ensures { λ _. ⌜ now (log .exit) ≡ appendAfter (pagerIn store) (now (log .entry)) (now (body .entry)) ⌝ }
+{
+    capi_answers::appended_as(pager_stage::append_mvcc_batch(
+        capi_numbers::pager_in(store),
+        log,
+        body,
+    ))
+}
+
+// ---- commit and fold, begun
+
+#[no_mangle]
+pub extern "C" fn lateenbael_begin_commit<'a>(
+    store: Store,
+    table: &[u32],
+    log: &'a [u8],
+    main: &'a [u8],
+    staging: &'a [u8],
+    new_header: DbHeader,
+    salt: u32,
+) -> Answered
+    ensures { λ r. ⌜ r ≡ commitBegunAs (beginCommit (now (staging .entry)) (world (pagerIn store) (now (table .entry)) (now (log .entry)) (now (main .entry))) «new_header» salt) ⌝ }
+{
+    capi_answers::commit_begun_as(pager_commit::begin_commit(
+        capi_numbers::pager_in(store),
+        table,
+        log,
+        main,
+        staging,
+        new_header,
+        salt,
+    ))
+}
+
+#[no_mangle]
+pub extern "C" fn lateenbael_begin_checkpoint(
+    store: Store,
+    table: &[u32],
+    log: &[u8],
+    main: &[u8],
+    staging: &[u8],
+    salt: u32,
+) -> Answered
+    ensures { λ r. ⌜ r ≡ foldBegunAs (beginCheckpoint (now (staging .entry)) (world (pagerIn store) (now (table .entry)) (now (log .entry)) (now (main .entry))) salt) ⌝ }
+{
+    capi_answers::fold_begun_as(pager_fold::begin_checkpoint(
+        capi_numbers::pager_in(store),
+        table,
+        log,
+        main,
+        staging,
+        salt,
+    ))
+}
+
+// ---- the next step
+
+#[no_mangle]
+pub extern "C" fn lateenbael_next_step(
+    store: Store,
+    table: &mut [u32],
+    log: &mut [u8],
+    main: &mut [u8],
+    staging: &[u8],
+) -> StepAnswered
+    ensures { λ r. ⌜ r ≡ steppedAs (stepAnswer (now (staging .entry)) (world (pagerIn store) (now (table .entry)) (now (log .entry)) (now (main .entry)))) (stepped (now (staging .entry)) (world (pagerIn store) (now (table .entry)) (now (log .entry)) (now (main .entry))) .pager) ⌝ }
+    ensures { λ r. ⌜ world (pagerIn (r .store)) (now (table .exit)) (now (log .exit)) (now (main .exit)) ≡ stepped (now (staging .entry)) (world (pagerIn store) (now (table .entry)) (now (log .entry)) (now (main .entry))) ⌝ }
+{
+    capi_answers::stepped_as(pager::next_step(
+        capi_numbers::pager_in(store),
+        table,
+        log,
+        main,
+        staging,
+    ))
+}
+
+// ---- commit and fold in one call
+
+#[no_mangle]
+pub extern "C" fn lateenbael_commit(
+    store: Store,
+    table: &mut [u32],
+    log: &mut [u8],
+    main: &mut [u8],
+    staging: &[u8],
+    new_header: DbHeader,
+    salt: u32,
+) -> Answered
+    ensures { λ r. ⌜ r ≡ committedAs (commitAnswer (now (staging .entry)) (world (pagerIn store) (now (table .entry)) (now (log .entry)) (now (main .entry))) «new_header») (commitWorld (now (staging .entry)) (world (pagerIn store) (now (table .entry)) (now (log .entry)) (now (main .entry))) «new_header» salt .pager) ⌝ }
+    ensures { λ r. ⌜ world (pagerIn (r .store)) (now (table .exit)) (now (log .exit)) (now (main .exit)) ≡ commitWorld (now (staging .entry)) (world (pagerIn store) (now (table .entry)) (now (log .entry)) (now (main .entry))) «new_header» salt ⌝ }
+{
+    capi_answers::committed_as(pager::commit(
+        capi_numbers::pager_in(store),
+        table,
+        log,
+        main,
+        staging,
+        new_header,
+        salt,
+    ))
+}
+
+#[no_mangle]
+pub extern "C" fn lateenbael_checkpoint(
+    store: Store,
+    table: &mut [u32],
+    log: &mut [u8],
+    main: &mut [u8],
+    staging: &[u8],
+    salt: u32,
+) -> Answered
+    ensures { λ r. ⌜ r ≡ writtenAs (checkpointAnswer (now (staging .entry)) (world (pagerIn store) (now (table .entry)) (now (log .entry)) (now (main .entry)))) (checkpointWorld (now (staging .entry)) (world (pagerIn store) (now (table .entry)) (now (log .entry)) (now (main .entry))) salt .pager) ⌝ }
+    ensures { λ r. ⌜ world (pagerIn (r .store)) (now (table .exit)) (now (log .exit)) (now (main .exit)) ≡ checkpointWorld (now (staging .entry)) (world (pagerIn store) (now (table .entry)) (now (log .entry)) (now (main .entry))) salt ⌝ }
+{
+    capi_answers::written_as(pager::checkpoint(
+        capi_numbers::pager_in(store),
+        table,
+        log,
+        main,
+        staging,
+        salt,
+    ))
+}

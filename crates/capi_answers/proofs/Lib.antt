@@ -1,0 +1,2 @@
+-- The root of the laws of `capi_answers`.
+pub mod Agree

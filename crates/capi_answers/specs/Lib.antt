@@ -1,0 +1,2 @@
+-- The root of the definitions of `capi_answers`.
+pub mod Answers

@@ -1,0 +1,566 @@
+// The answers of the store's calls in numbers: document 01's refusal or 0, what the call gives, and the store after it.
+ghost use mathlib.Core.Path.{_≡_};
+ghost use Rattle.pager_state.specs.Staging.{stageRefusal, clearRefusal};
+ghost use Rattle.pager_state.specs.Queries.{observeRefusal};
+ghost use Rattle.pager_state.specs.Batches.{appendRefusal};
+ghost use Rattle.pager_state.specs.Opening.{createRefusal};
+ghost use Rattle.pager_state.specs.Steps.{isBegun, commitRefusal, isFolding, checkpointRefusal};
+ghost use Rattle.capi_answers.specs.Answers.{flagIn, flagOf, told, modeIn, createdAs, openNumber, headerAs, number, modeOf, modeAs, clockAs, observedAs, page, foundAs, place, recoveredAs, stagedAs, clearedAs, appendedAs, lowest, commitBegunAs, foldBegunAs, committedRefusal, committedNumber, committedAs, writtenRefusal, writtenNumber, writtenAs, fileOf, stored, noStep, steppedAs};
+use capi_numbers::Store;
+use capi_numbers::no_header;
+use capi_numbers::store_of;
+use header::DbHeader;
+use page::PAGE_SIZE;
+use pager_state::AccessMode;
+use pager_state::BatchAnswer;
+use pager_state::CheckpointAnswer;
+use pager_state::CheckpointStart;
+use pager_state::CheckpointStarted;
+use pager_state::Checkpointed;
+use pager_state::ClearAnswer;
+use pager_state::ClockObserved;
+use pager_state::ClockRead;
+use pager_state::CommitAnswer;
+use pager_state::CommitStart;
+use pager_state::CommitStarted;
+use pager_state::Committed;
+use pager_state::CreateAnswer;
+use pager_state::FileKind;
+use pager_state::HeaderRead;
+use pager_state::ModeRead;
+use pager_state::ObserveAnswer;
+use pager_state::OpenAnswer;
+use pager_state::PageFound;
+use pager_state::PageStaged;
+use pager_state::Pager;
+use pager_state::PagerAppended;
+use pager_state::PagerCreated;
+use pager_state::PagerOpened;
+use pager_state::Place;
+use pager_state::RecoveredFound;
+use pager_state::StageAnswer;
+use pager_state::StagedCleared;
+use pager_state::StepAnswer;
+use pager_state::Stepped;
+use wal::WAL_AREA;
+
+// What a call answers that may change the store: where it is refused, the store that was given.
+#[repr(C)]
+pub struct Answered {
+    pub refusal: u32,
+    // 1 where a commit or fold has begun, and its stores are still to be done by next steps.
+    pub begun: u32,
+    // The answer of a commit or fold; beside refusal 14 the lowest page that is missing.
+    pub answer: usize,
+    pub store: Store,
+}
+
+// The answers of queries.
+#[repr(C)]
+pub struct HeaderAnswer {
+    pub refusal: u32,
+    pub header: DbHeader,
+}
+
+#[repr(C)]
+pub struct NumberAnswer {
+    pub refusal: u32,
+    pub number: u64,
+}
+
+// Where bytes stand: area 0 is none, 1 the log, 2 the main file, 3 the staging area.
+#[repr(C)]
+pub struct PageAnswer {
+    pub refusal: u32,
+    pub area: u32,
+    pub at: usize,
+}
+
+// A batch's index among the frames and its frame's first byte; its body stands 16 bytes behind.
+#[repr(C)]
+pub struct BatchPlace {
+    pub refusal: u32,
+    pub found: u32,
+    pub index: usize,
+    pub offset: usize,
+}
+
+// A next step.
+#[repr(C)]
+pub struct StepAnswered {
+    pub refusal: u32,
+    // 0 idle, 1 a store, 2 the last store, with the answer.
+    pub kind: u32,
+    // 1 the log, 2 the main file.
+    pub area: u32,
+    pub flush: u32,
+    pub at: usize,
+    pub len: usize,
+    pub answer: usize,
+    pub store: Store,
+}
+
+fn told(refusal: u32, begun: u32, answer: usize, pager: Pager) -> Answered
+    ensures { λ r. ⌜ r ≡ told refusal begun answer pager ⌝ }
+{
+    Answered {
+        refusal,
+        begun,
+        answer,
+        store: store_of(pager),
+    }
+}
+
+// 0 is no, any other number yes.
+pub fn flag_in(n: u32) -> bool
+    ensures { λ r. ⌜ r ≡ flagIn n ⌝ }
+{
+    n != 0
+}
+
+fn flag_of(b: bool) -> u32
+    ensures { λ r. ⌜ r ≡ flagOf b ⌝ }
+{
+    if b { 1 } else { 0 }
+}
+
+// ---- creation and openings
+
+// 0 is read-write, any other number read-only.
+pub fn mode_in(n: u32) -> AccessMode
+    ensures { λ r. ⌜ r ≡ modeIn n ⌝ }
+{
+    if n == 0 {
+        return AccessMode::ReadWrite;
+    }
+    AccessMode::ReadOnly
+}
+
+fn create_refusal(a: CreateAnswer) -> u32
+    ensures { λ r. ⌜ r ≡ createRefusal a ⌝ }
+{
+    match a {
+        CreateAnswer::Created => 0,
+        CreateAnswer::Area => 1,
+    }
+}
+
+pub fn created_as(call: PagerCreated) -> Answered
+    ensures { λ r. ⌜ r ≡ createdAs call ⌝ }
+{
+    let a = call.answer;
+    let p = call.pager;
+    told(create_refusal(a), 0, 0, p)
+}
+
+fn open_number(a: OpenAnswer) -> u32
+    ensures { λ r. ⌜ r ≡ openNumber a ⌝ }
+{
+    match a {
+        OpenAnswer::Opened => 0,
+        OpenAnswer::Area => 1,
+        OpenAnswer::Short => 2,
+        OpenAnswer::Magic => 3,
+        OpenAnswer::Version => 4,
+        OpenAnswer::PageSize => 5,
+        OpenAnswer::Limit => 6,
+        OpenAnswer::MainShort => 7,
+        OpenAnswer::PageZero => 8,
+        OpenAnswer::ReadOnly => 10,
+    }
+}
+
+pub fn opened_as(call: PagerOpened) -> Answered
+    ensures { λ r. ⌜ r ≡ told (openNumber (call .answer)) 0 0 (call .pager) ⌝ }
+{
+    let a = call.answer;
+    let p = call.pager;
+    told(open_number(a), 0, 0, p)
+}
+
+// ---- queries
+
+pub fn header_as(a: HeaderRead) -> HeaderAnswer
+    ensures { λ r. ⌜ r ≡ headerAs a ⌝ }
+{
+    match a {
+        HeaderRead::Header(header) => HeaderAnswer { refusal: 0, header },
+        HeaderRead::Busy => HeaderAnswer {
+            refusal: 9,
+            header: no_header(),
+        },
+    }
+}
+
+fn number(refusal: u32, n: u64) -> NumberAnswer
+    ensures { λ r. ⌜ r ≡ number refusal n ⌝ }
+{
+    NumberAnswer { refusal, number: n }
+}
+
+fn mode_of(m: AccessMode) -> u64
+    ensures { λ r. ⌜ r ≡ modeOf m ⌝ }
+{
+    match m {
+        AccessMode::ReadWrite => 0,
+        AccessMode::ReadOnly => 1,
+    }
+}
+
+pub fn mode_as(a: ModeRead) -> NumberAnswer
+    ensures { λ r. ⌜ r ≡ modeAs a ⌝ }
+{
+    match a {
+        ModeRead::Mode(m) => number(0, mode_of(m)),
+        ModeRead::Busy => number(9, 0),
+    }
+}
+
+pub fn clock_as(a: ClockRead) -> NumberAnswer
+    ensures { λ r. ⌜ r ≡ clockAs a ⌝ }
+{
+    match a {
+        ClockRead::Clock(clock) => number(0, clock),
+        ClockRead::Busy => number(9, 0),
+    }
+}
+
+fn observe_refusal(a: ObserveAnswer) -> u32
+    ensures { λ r. ⌜ r ≡ observeRefusal a ⌝ }
+{
+    match a {
+        ObserveAnswer::Observed => 0,
+        ObserveAnswer::Busy => 9,
+    }
+}
+
+pub fn observed_as(call: ClockObserved) -> Answered
+    ensures { λ r. ⌜ r ≡ observedAs call ⌝ }
+{
+    let a = call.answer;
+    let p = call.pager;
+    told(observe_refusal(a), 0, 0, p)
+}
+
+// ---- pages and batches
+
+fn page(refusal: u32, area: u32, at: usize) -> PageAnswer
+    ensures { λ r. ⌜ r ≡ page refusal area at ⌝ }
+{
+    PageAnswer { refusal, area, at }
+}
+
+// A place in the log, where a whole page stands behind it.
+fn in_log(at: usize) -> PageAnswer
+    ensures { λ r. ⌜ r ≡ foundAs (PageFound.Log at) ⌝ }
+{
+    if WAL_AREA - PAGE_SIZE < at {
+        return page(1, 0, 0);
+    }
+    page(0, 1, at)
+}
+
+pub fn found_as(f: PageFound) -> PageAnswer
+    ensures { λ r. ⌜ r ≡ foundAs f ⌝ }
+{
+    match f {
+        PageFound::Staged(at) => page(0, 3, at),
+        PageFound::Log(at) => in_log(at),
+        PageFound::Main(at) => page(0, 2, at),
+        PageFound::Nothing => page(0, 0, 0),
+        PageFound::Area => page(1, 0, 0),
+        PageFound::Busy => page(9, 0, 0),
+    }
+}
+
+fn place(refusal: u32, found: u32, index: usize, offset: usize) -> BatchPlace
+    ensures { λ r. ⌜ r ≡ place refusal found index offset ⌝ }
+{
+    BatchPlace {
+        refusal,
+        found,
+        index,
+        offset,
+    }
+}
+
+pub fn recovered_as(f: RecoveredFound) -> BatchPlace
+    ensures { λ r. ⌜ r ≡ recoveredAs f ⌝ }
+{
+    match f {
+        RecoveredFound::Batch { index, offset } => place(0, 1, index, offset),
+        RecoveredFound::Nothing => place(0, 0, 0, 0),
+        RecoveredFound::Area => place(1, 0, 0, 0),
+        RecoveredFound::Busy => place(9, 0, 0, 0),
+    }
+}
+
+fn stage_refusal(a: StageAnswer) -> u32
+    ensures { λ r. ⌜ r ≡ stageRefusal a ⌝ }
+{
+    match a {
+        StageAnswer::Staged => 0,
+        StageAnswer::Area => 1,
+        StageAnswer::Busy => 9,
+        StageAnswer::Page => 11,
+        StageAnswer::Staging => 12,
+    }
+}
+
+pub fn staged_as(call: PageStaged) -> Answered
+    ensures { λ r. ⌜ r ≡ stagedAs call ⌝ }
+{
+    let a = call.answer;
+    let p = call.pager;
+    told(stage_refusal(a), 0, 0, p)
+}
+
+fn clear_refusal(a: ClearAnswer) -> u32
+    ensures { λ r. ⌜ r ≡ clearRefusal a ⌝ }
+{
+    match a {
+        ClearAnswer::Cleared => 0,
+        ClearAnswer::Busy => 9,
+    }
+}
+
+pub fn cleared_as(call: StagedCleared) -> Answered
+    ensures { λ r. ⌜ r ≡ clearedAs call ⌝ }
+{
+    let a = call.answer;
+    let p = call.pager;
+    told(clear_refusal(a), 0, 0, p)
+}
+
+fn append_refusal(a: BatchAnswer) -> u32
+    ensures { λ r. ⌜ r ≡ appendRefusal a ⌝ }
+{
+    match a {
+        BatchAnswer::Appended => 0,
+        BatchAnswer::Area => 1,
+        BatchAnswer::Short => 2,
+        BatchAnswer::Magic => 3,
+        BatchAnswer::Busy => 9,
+        BatchAnswer::ReadOnly => 10,
+        BatchAnswer::LogFull => 15,
+        BatchAnswer::Truncated => 17,
+        BatchAnswer::Tag => 18,
+        BatchAnswer::Text => 19,
+    }
+}
+
+pub fn appended_as(call: PagerAppended) -> Answered
+    ensures { λ r. ⌜ r ≡ appendedAs call ⌝ }
+{
+    let a = call.answer;
+    let p = call.pager;
+    told(append_refusal(a), 0, 0, p)
+}
+
+// ---- commit and fold, begun
+
+fn commit_refusal(a: CommitStart) -> u32
+    ensures { λ r. ⌜ r ≡ commitRefusal a ⌝ }
+{
+    match a {
+        CommitStart::Begun => 0,
+        CommitStart::Area => 1,
+        CommitStart::Busy => 9,
+        CommitStart::ReadOnly => 10,
+        CommitStart::NewHeader => 13,
+        CommitStart::Joining(_) => 14,
+        CommitStart::LogFull => 15,
+    }
+}
+
+fn commit_begun(a: CommitStart) -> u32
+    ensures { λ r. ⌜ r ≡ flagOf (isBegun a) ⌝ }
+{
+    match a {
+        CommitStart::Begun => 1,
+        CommitStart::Area => 0,
+        CommitStart::Busy => 0,
+        CommitStart::ReadOnly => 0,
+        CommitStart::NewHeader => 0,
+        CommitStart::Joining(_) => 0,
+        CommitStart::LogFull => 0,
+    }
+}
+
+// The lowest page that is missing, beside refusal 14.
+fn lowest(a: CommitStart) -> usize
+    ensures { λ r. ⌜ r ≡ lowest a ⌝ }
+{
+    match a {
+        CommitStart::Begun => 0,
+        CommitStart::Area => 0,
+        CommitStart::Busy => 0,
+        CommitStart::ReadOnly => 0,
+        CommitStart::NewHeader => 0,
+        CommitStart::Joining(page) => page,
+        CommitStart::LogFull => 0,
+    }
+}
+
+pub fn commit_begun_as(call: CommitStarted) -> Answered
+    ensures { λ r. ⌜ r ≡ commitBegunAs call ⌝ }
+{
+    let a = call.answer;
+    let p = call.pager;
+    told(commit_refusal(a), commit_begun(a), lowest(a), p)
+}
+
+fn checkpoint_refusal(a: CheckpointStart) -> u32
+    ensures { λ r. ⌜ r ≡ checkpointRefusal a ⌝ }
+{
+    match a {
+        CheckpointStart::Begun => 0,
+        CheckpointStart::Nothing => 0,
+        CheckpointStart::Area => 1,
+        CheckpointStart::Busy => 9,
+        CheckpointStart::ReadOnly => 10,
+    }
+}
+
+fn fold_begun(a: CheckpointStart) -> u32
+    ensures { λ r. ⌜ r ≡ flagOf (isFolding a) ⌝ }
+{
+    match a {
+        CheckpointStart::Begun => 1,
+        CheckpointStart::Nothing => 0,
+        CheckpointStart::Area => 0,
+        CheckpointStart::Busy => 0,
+        CheckpointStart::ReadOnly => 0,
+    }
+}
+
+pub fn fold_begun_as(call: CheckpointStarted) -> Answered
+    ensures { λ r. ⌜ r ≡ foldBegunAs call ⌝ }
+{
+    let a = call.answer;
+    let p = call.pager;
+    told(checkpoint_refusal(a), fold_begun(a), 0, p)
+}
+
+// ---- the next step
+
+fn file_of(f: FileKind) -> u32
+    ensures { λ r. ⌜ r ≡ fileOf f ⌝ }
+{
+    match f {
+        FileKind::Log => 1,
+        FileKind::Main => 2,
+    }
+}
+
+fn stored(kind: u32, place: Place, answer: usize, pager: Pager) -> StepAnswered
+    ensures { λ r. ⌜ r ≡ stored kind place answer pager ⌝ }
+{
+    let file = place.file;
+    StepAnswered {
+        refusal: 0,
+        kind,
+        area: file_of(file),
+        flush: flag_of(place.flush),
+        at: place.at,
+        len: place.len,
+        answer,
+        store: store_of(pager),
+    }
+}
+
+fn no_step(refusal: u32, pager: Pager) -> StepAnswered
+    ensures { λ r. ⌜ r ≡ noStep refusal pager ⌝ }
+{
+    StepAnswered {
+        refusal,
+        kind: 0,
+        area: 0,
+        flush: 0,
+        at: 0,
+        len: 0,
+        answer: 0,
+        store: store_of(pager),
+    }
+}
+
+pub fn stepped_as(call: Stepped) -> StepAnswered
+    ensures { λ r. ⌜ r ≡ steppedAs (call .answer) (call .pager) ⌝ }
+{
+    let a = call.answer;
+    let p = call.pager;
+    match a {
+        StepAnswer::Idle => no_step(0, p),
+        StepAnswer::Area => no_step(1, p),
+        StepAnswer::Stored(place) => stored(1, place, 0, p),
+        StepAnswer::Last(place, answer) => stored(2, place, answer, p),
+    }
+}
+
+// ---- commit and fold in one call
+
+fn committed_refusal(a: CommitAnswer) -> u32
+    ensures { λ r. ⌜ r ≡ committedRefusal a ⌝ }
+{
+    match a {
+        CommitAnswer::Committed(_) => 0,
+        CommitAnswer::Area => 1,
+        CommitAnswer::Busy => 9,
+        CommitAnswer::ReadOnly => 10,
+        CommitAnswer::NewHeader => 13,
+        CommitAnswer::Joining(_) => 14,
+        CommitAnswer::LogFull => 15,
+    }
+}
+
+fn committed_number(a: CommitAnswer) -> usize
+    ensures { λ r. ⌜ r ≡ committedNumber a ⌝ }
+{
+    match a {
+        CommitAnswer::Committed(pages) => pages,
+        CommitAnswer::Area => 0,
+        CommitAnswer::Busy => 0,
+        CommitAnswer::ReadOnly => 0,
+        CommitAnswer::NewHeader => 0,
+        CommitAnswer::Joining(page) => page,
+        CommitAnswer::LogFull => 0,
+    }
+}
+
+pub fn committed_as(call: Committed) -> Answered
+    ensures { λ r. ⌜ r ≡ committedAs (call .answer) (call .pager) ⌝ }
+{
+    let a = call.answer;
+    let p = call.pager;
+    told(committed_refusal(a), 0, committed_number(a), p)
+}
+
+fn written_refusal(a: CheckpointAnswer) -> u32
+    ensures { λ r. ⌜ r ≡ writtenRefusal a ⌝ }
+{
+    match a {
+        CheckpointAnswer::Written(_) => 0,
+        CheckpointAnswer::Area => 1,
+        CheckpointAnswer::Busy => 9,
+        CheckpointAnswer::ReadOnly => 10,
+    }
+}
+
+fn written_number(a: CheckpointAnswer) -> usize
+    ensures { λ r. ⌜ r ≡ writtenNumber a ⌝ }
+{
+    match a {
+        CheckpointAnswer::Written(pages) => pages,
+        CheckpointAnswer::Area => 0,
+        CheckpointAnswer::Busy => 0,
+        CheckpointAnswer::ReadOnly => 0,
+    }
+}
+
+pub fn written_as(call: Checkpointed) -> Answered
+    ensures { λ r. ⌜ r ≡ writtenAs (call .answer) (call .pager) ⌝ }
+{
+    let a = call.answer;
+    let p = call.pager;
+    told(written_refusal(a), 0, written_number(a), p)
+}

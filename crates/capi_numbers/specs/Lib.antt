@@ -1,0 +1,2 @@
+-- The root of the definitions of `capi_numbers`.
+pub mod Numbers
