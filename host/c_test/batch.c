@@ -1,0 +1,125 @@
+/* Batches: built, walked, written as encoding writes them, and refused. */
+#include "test.h"
+
+static uint8_t body[PAGE];
+
+static const uint8_t *text(const char *s) {
+    return (const uint8_t *)s;
+}
+
+static bool is_text(lateenbael_text_place place, const char *s) {
+    return place.len == strlen(s) && memcmp(body + place.start, s, place.len) == 0;
+}
+
+/* Keeps what a call gives if it wasn't refused. */
+static uint32_t took_on(lateenbael_building *b, lateenbael_building next) {
+    if (next.refusal == LATEENBAEL_OK) {
+        *b = next;
+    }
+    return next.refusal;
+}
+
+/* A row that is gone and one with a column of every kind. */
+static void build(void) {
+    static const uint8_t elements[] = {0, 0, 0xc0, 0x3f, 0, 0, 0, 0x80};
+    static const uint8_t long_text[PAGE];
+    lateenbael_building b = lateenbael_mvcc_start(body, PAGE, 0x0102030405060708);
+    CHECK(b.refusal == LATEENBAEL_OK && b.at == LATEENBAEL_FIRST_RECORD && b.records == 0);
+    CHECK(took_on(&b, lateenbael_mvcc_add_null(body, PAGE, b, text("early"), 5)) == LATEENBAEL_REFUSED_NO_RECORD);
+    CHECK(took_on(&b, lateenbael_mvcc_add_tombstone(body, PAGE, b, text("cabins"), 6, -3)) == LATEENBAEL_OK);
+    CHECK(took_on(&b, lateenbael_mvcc_begin_present(body, PAGE, b, text("grips"), 5, 7)) == LATEENBAEL_OK);
+    CHECK(took_on(&b, lateenbael_mvcc_add_null(body, PAGE, b, text("a"), 1)) == LATEENBAEL_OK);
+    CHECK(took_on(&b, lateenbael_mvcc_add_integer(body, PAGE, b, text("b"), 1, -5)) == LATEENBAEL_OK);
+    CHECK(took_on(&b, lateenbael_mvcc_add_real_bits(body, PAGE, b, text("c"), 1, 0x7ff8000000000001)) == LATEENBAEL_OK);
+    CHECK(took_on(&b, lateenbael_mvcc_add_text(body, PAGE, b, text("d"), 1, text("gr\xc3\xbcn"), 5)) == LATEENBAEL_OK);
+    CHECK(took_on(&b, lateenbael_mvcc_add_bool(body, PAGE, b, text("e"), 1, 2)) == LATEENBAEL_OK);
+    CHECK(took_on(&b, lateenbael_mvcc_add_vector(body, PAGE, b, text("f"), 1, elements, 8)) == LATEENBAEL_OK);
+    CHECK(b.records == 2 && b.columns == 6);
+    CHECK(took_on(&b, lateenbael_mvcc_add_vector(body, PAGE, b, text("g"), 1, elements, 7)) == LATEENBAEL_REFUSED_TRUNCATED);
+    CHECK(took_on(&b, lateenbael_mvcc_add_text(body, PAGE, b, text("g"), 1, text("\xc0\x80"), 2)) == LATEENBAEL_REFUSED_TEXT);
+    CHECK(took_on(&b, lateenbael_mvcc_add_text(body, PAGE, b, text("g"), 1, long_text, PAGE)) == LATEENBAEL_REFUSED_FIT);
+    CHECK(took_on(&b, lateenbael_mvcc_add_bool(body, PAGE - 1, b, text("g"), 1, 1)) == LATEENBAEL_REFUSED_AREA);
+}
+
+static void walk(void) {
+    lateenbael_batch batch = lateenbael_mvcc_decode(body, PAGE);
+    CHECK(batch.refusal == LATEENBAEL_OK && batch.commit_ts == 0x0102030405060708 && batch.records == 2);
+    lateenbael_record gone = lateenbael_mvcc_decode_record(body, PAGE, LATEENBAEL_FIRST_RECORD);
+    CHECK(gone.refusal == LATEENBAEL_OK && gone.op == 0 && gone.rowid == -3 && is_text(gone.table, "cabins"));
+    lateenbael_record there = lateenbael_mvcc_decode_record(body, PAGE, gone.next);
+    CHECK(there.refusal == LATEENBAEL_OK && there.op == 1 && there.rowid == 7 && there.count == 6 && is_text(there.table, "grips"));
+    CHECK(there.next == batch.end);
+    lateenbael_value values[6];
+    size_t at = there.first;
+    for (uint32_t i = 0; i < 6; i++) {
+        const char name[] = {(char)('a' + i), 0};
+        lateenbael_column column = lateenbael_mvcc_decode_column(body, PAGE, at);
+        lateenbael_value_answer alone = lateenbael_mvcc_decode_value(body, PAGE, column.name.start + column.name.len);
+        CHECK(column.refusal == LATEENBAEL_OK && column.value.tag == i && is_text(column.name, name));
+        CHECK(alone.next == column.next && memcmp(&alone.value, &column.value, sizeof column.value) == 0);
+        values[i] = column.value;
+        at = column.next;
+    }
+    CHECK(at == there.next && values[LATEENBAEL_VALUE_INTEGER].integer == -5);
+    CHECK(values[LATEENBAEL_VALUE_REAL].bits == 0x7ff8000000000001 && values[LATEENBAEL_VALUE_BOOL].flag == 1);
+    CHECK(is_text(values[LATEENBAEL_VALUE_TEXT].place, "gr\xc3\xbcn"));
+    lateenbael_text_place vector = values[LATEENBAEL_VALUE_VECTOR].place;
+    CHECK(vector.len == 2 && lateenbael_mvcc_vector_bits(body, PAGE, vector.start, vector.len, 0).bits == 0x3fc00000);
+    CHECK(lateenbael_mvcc_vector_bits(body, PAGE, vector.start, vector.len, 1).bits == 0x80000000);
+    CHECK(lateenbael_mvcc_vector_bits(body, PAGE, vector.start, vector.len, 2).found == 0);
+}
+
+/* Encoding writes bools as 0 or 1 and zeros behind the last record. */
+static void canonical(void) {
+    uint8_t other[PAGE], out[PAGE + 1];
+    lateenbael_batch batch = lateenbael_mvcc_decode(body, PAGE);
+    memcpy(other, body, PAGE);
+    other[PAGE - 1] = 1;
+    for (size_t i = 0; i + 4 < batch.end; i++) {
+        if (memcmp(other + i, "e\4\1", 3) == 0) {
+            other[i + 2] = 2;
+        }
+    }
+    CHECK(memcmp(other, body, PAGE - 1) != 0);
+    CHECK(lateenbael_mvcc_canonicalize(other, PAGE, out, PAGE) == LATEENBAEL_OK && memcmp(out, body, PAGE) == 0);
+    CHECK(lateenbael_mvcc_canonicalize(other, PAGE, out, PAGE + 1) == LATEENBAEL_REFUSED_AREA);
+    CHECK(lateenbael_mvcc_canonicalize(other, 17, out, PAGE) == LATEENBAEL_REFUSED_SHORT);
+}
+
+/* A body with one byte changed. */
+static uint32_t decoded_with(size_t at, uint8_t byte) {
+    uint8_t damaged[PAGE];
+    memcpy(damaged, body, PAGE);
+    damaged[at] = byte;
+    return lateenbael_mvcc_decode(damaged, PAGE).refusal;
+}
+
+static void refusals(void) {
+    CHECK(lateenbael_mvcc_decode(body, 17).refusal == LATEENBAEL_REFUSED_SHORT);
+    CHECK(decoded_with(0, 'm') == LATEENBAEL_REFUSED_MAGIC);
+    CHECK(lateenbael_mvcc_decode(body, 60).refusal == LATEENBAEL_REFUSED_TRUNCATED);
+    CHECK(decoded_with(LATEENBAEL_FIRST_RECORD, 2) == LATEENBAEL_REFUSED_TAG);
+    CHECK(decoded_with(LATEENBAEL_FIRST_RECORD + 3, 0xff) == LATEENBAEL_REFUSED_TEXT);
+    CHECK(lateenbael_mvcc_decode_record(body, PAGE, SIZE_MAX).refusal == LATEENBAEL_REFUSED_TRUNCATED);
+    CHECK(lateenbael_mvcc_decode_column(body, PAGE, PAGE).refusal == LATEENBAEL_REFUSED_TRUNCATED);
+    CHECK(lateenbael_mvcc_decode_value(body, PAGE, PAGE).refusal == LATEENBAEL_REFUSED_TRUNCATED);
+    CHECK(lateenbael_mvcc_start(body, PAGE + 1, 1).refusal == LATEENBAEL_REFUSED_AREA);
+}
+
+/* Document 01: 370 tombstones with empty table names fit, 371 don't. */
+static void fullest(void) {
+    lateenbael_building b = lateenbael_mvcc_start(body, PAGE, 1);
+    for (int64_t row = 0; row < 370; row++) {
+        CHECK(took_on(&b, lateenbael_mvcc_add_tombstone(body, PAGE, b, text(""), 0, row)) == LATEENBAEL_OK);
+    }
+    CHECK(took_on(&b, lateenbael_mvcc_add_tombstone(body, PAGE, b, text(""), 0, 370)) == LATEENBAEL_REFUSED_FIT);
+    CHECK(lateenbael_mvcc_decode(body, PAGE).records == 370);
+}
+
+void test_batch(void) {
+    build();
+    walk();
+    canonical();
+    refusals();
+    fullest();
+}

@@ -1,0 +1,95 @@
+/* Made-up stores: every call on one is refused or harmless, and writes no byte outside of the areas. */
+#include "test.h"
+
+static uint64_t state = 1;
+
+static uint32_t random_number(void) {
+    state = state * 6364136223846793005u + 1442695040888963407u;
+    return (uint32_t)(state >> 33);
+}
+
+/* Numbers that a store might be made up of: small ones, ones near the limits, and any. */
+static uint64_t some_number(void) {
+    static const uint64_t often[] = {0,       1,       2,    31,   32,   4112,  4144,       4206608,
+                                     4210720, 4210721, 1023, 1024, 1025, 65535, UINT32_MAX, UINT64_MAX};
+    uint32_t n = random_number();
+    if (n % 4 != 0) {
+        return often[n / 4 % (sizeof often / sizeof *often)];
+    }
+    return (uint64_t)n << (random_number() % 33);
+}
+
+/* A good store with some of its numbers overwritten. */
+static lateenbael_store forged(lateenbael_store store) {
+    uint8_t *bytes = (uint8_t *)&store;
+    for (unsigned left = 1 + random_number() % 12; left > 0; left--) {
+        uint64_t number = some_number();
+        size_t size = (size_t)2 << random_number() % 3;
+        memcpy(bytes + random_number() % (sizeof store / size) * size, &number, size);
+    }
+    return store;
+}
+
+/* Every call that takes a store. */
+static void call_all(host *h, lateenbael_store store, const uint8_t *body) {
+    lateenbael_db_header header = {2, 1, 4, 0};
+    uint32_t page = (uint32_t)some_number();
+    lateenbael_page_answer found = lateenbael_find_page(store, AREAS(h), page);
+    const size_t sizes[] = {0, LATEENBAEL_LOG_AREA, LATEENBAEL_MAIN_AREA, LATEENBAEL_STAGING_AREA};
+    CHECK(found.area <= LATEENBAEL_AREA_STAGING && (found.area == LATEENBAEL_AREA_NONE || found.at + PAGE <= sizes[found.area]));
+    size_t staged = random_number() % (LATEENBAEL_STAGED_PAGES + 1);
+    found = lateenbael_place_page(READING(&store), store.staged.pages, staged, AREAS(h), page);
+    CHECK(found.area <= LATEENBAEL_AREA_STAGING && (found.area == LATEENBAEL_AREA_NONE || found.at + PAGE <= sizes[found.area]));
+    lateenbael_batch_place place = lateenbael_recovered_mvcc_commits(store, h->log, LATEENBAEL_LOG_AREA, (size_t)some_number());
+    CHECK(place.found == 0 || place.offset + FRAME <= LATEENBAEL_LOG_AREA);
+    lateenbael_header(store);
+    lateenbael_access_mode(store);
+    lateenbael_clock_high_water(store);
+    lateenbael_observe_clock_high_water(store, some_number());
+    lateenbael_clear_staged(store);
+    lateenbael_stage_page(store, h->staging, LATEENBAEL_STAGING_AREA, (uint32_t)some_number(), body, PAGE);
+    lateenbael_append_mvcc_batch(store, h->log, LATEENBAEL_LOG_AREA, body, PAGE);
+    lateenbael_begin_commit(store, AREAS(h), header, 1);
+    lateenbael_begin_checkpoint(store, AREAS(h), 1);
+    lateenbael_step_answered step = lateenbael_next_step(store, AREAS(h));
+    size_t size = step.area == LATEENBAEL_AREA_LOG ? LATEENBAEL_LOG_AREA : LATEENBAEL_MAIN_AREA;
+    CHECK(step.kind == LATEENBAEL_STEP_IDLE || (step.at <= size && step.len <= size - step.at));
+    lateenbael_commit(store, AREAS(h), header, 1);
+    lateenbael_checkpoint(store, AREAS(h), 1);
+}
+
+/* A store that the wrong lengths of areas are told with is refused by every call that looks at them. */
+static void wrong_lengths(host *h) {
+    lateenbael_db_header header = {2, 1, 4, 0};
+    CHECK(lateenbael_find_page(h->store, h->table, 1023, h->log, LATEENBAEL_LOG_AREA, h->main, LATEENBAEL_MAIN_AREA, h->staging,
+                               LATEENBAEL_STAGING_AREA, 1)
+              .refusal == LATEENBAEL_REFUSED_AREA);
+    const uint16_t many[LATEENBAEL_STAGED_PAGES + 1] = {0};
+    CHECK(lateenbael_place_page(2, 0, 32, 8192, many, LATEENBAEL_STAGED_PAGES + 1, AREAS(h), 1).refusal == LATEENBAEL_REFUSED_AREA);
+    CHECK(lateenbael_commit(h->store, h->table, LATEENBAEL_PAGES, h->log, 32, h->main, LATEENBAEL_MAIN_AREA, h->staging,
+                            LATEENBAEL_STAGING_AREA, header, 1)
+              .refusal == LATEENBAEL_REFUSED_AREA);
+    CHECK(lateenbael_next_step(h->store, h->table, LATEENBAEL_PAGES, h->log, LATEENBAEL_LOG_AREA, h->main, 0, h->staging,
+                               LATEENBAEL_STAGING_AREA)
+              .refusal == LATEENBAEL_REFUSED_AREA);
+    CHECK(lateenbael_checkpoint(h->store, h->table, LATEENBAEL_PAGES, h->log, LATEENBAEL_LOG_AREA, h->main, LATEENBAEL_MAIN_AREA,
+                                h->staging, 1, 1)
+              .refusal == LATEENBAEL_REFUSED_AREA);
+}
+
+void test_forged(void) {
+    host h = new_host();
+    uint8_t body[PAGE];
+    CHECK(took(&h, lateenbael_create(AREAS(&h), 0xab)) == LATEENBAEL_OK);
+    wrong_lengths(&h);
+    CHECK(lateenbael_mvcc_start(body, PAGE, 1).refusal == LATEENBAEL_OK);
+    for (unsigned n = 0; n < 3000; n++) {
+        call_all(&h, forged(h.store), body);
+    }
+    lateenbael_store ones;
+    memset(&ones, 0xff, sizeof ones);
+    lateenbael_db_header header = {2, 1, 4, 0};
+    CHECK(lateenbael_begin_commit(ones, AREAS(&h), header, 1).refusal == LATEENBAEL_REFUSED_AREA);
+    CHECK(lateenbael_next_step(ones, AREAS(&h)).kind == LATEENBAEL_STEP_IDLE);
+    free_host(&h);
+}

@@ -1,0 +1,126 @@
+//! What `--help` prints.
+
+pub const HELP: &str = "\
+lateenbael looks after a store of pages of 4,096 bytes on two files, STORE and STORE-wal.
+
+  lateenbael create STORE [--over]           a new store of 2 pages; --over writes over what is there
+  lateenbael info STORE                      header, lengths, clock and frames
+  lateenbael check STORE                     whether it opens, and what lies behind the commit point
+  lateenbael log STORE                       lists the log, frame by frame
+  lateenbael batches STORE                   the recovered batches with their rows, as text
+  lateenbael read STORE PAGE OUTFILE         writes a page to a new file, or to standard output (-)
+  lateenbael commit STORE [PAGE=FILE]...     stages pages from files and commits them
+  lateenbael append STORE FILE...            appends batches from text, and seals them by a commit
+  lateenbael fold STORE                      folds the log into the main file
+  lateenbael help [COMMAND]                  this, or more about a command
+
+create, commit, append and fold write; the others open read-only and alter nothing.
+Before anything is written, the calls are tried out in memory: a refused one alters no file.
+Exit status: 0 done; 1 refused, with the refusal's number and name, or the disk failed; 2 not understood.
+";
+
+const CREATE: &str = "\
+lateenbael create STORE [--over]
+
+Makes STORE, of 2 pages, and STORE-wal, a log without frames. Files that are there already are left alone and the call fails,
+unless --over is given: then the store in them is lost.
+";
+
+const INFO: &str = "\
+lateenbael info STORE
+
+Opens the store read-only and shows the header that counts, both files' lengths, the clock, and the log's header, frames and
+commit point.
+";
+
+const CHECK: &str = "\
+lateenbael check STORE
+
+Opens the store read-only and says whether it opens, which pages below the page count are nowhere, and what lies in the log behind
+the commit point: good frames that no seal closes, and other bytes. A clean opening drops all of that. Nothing is altered.
+";
+
+const LOG: &str = "\
+lateenbael log STORE
+
+Lists STORE-wal, of any length that a store reads:
+
+  log VERSION SALT SEQUENCE CLOCK
+  INDEX page NUMBER COMMITCOUNT          a good frame; a commit count above 0 seals
+  INDEX batch RECORDS COMMITCOUNT
+  end FRAMES COMMITPOINT LASTCOMMITCOUNT
+";
+
+const READ: &str = "\
+lateenbael read STORE PAGE OUTFILE
+
+Opens the store read-only and writes the page's 4,096 bytes to OUTFILE, which must not be there yet, or to standard output if it
+is - .
+";
+
+/// The text form of batches, which `batches` prints and `append` reads.
+const BATCHES: &str = "\
+lateenbael batches STORE
+
+Opens the store read-only and prints the batches that the opening recovered, in the form that append reads:
+
+  batch TIME                             begins a batch
+  tombstone TABLE ROWID                  a row that is gone
+  present TABLE ROWID                    a row that is there; its columns follow
+    column NAME null
+    column NAME integer NUMBER
+    column NAME real NUMBER              or 0x and the 16 hexadecimal digits of its bits; so is a NaN written
+    column NAME text TEXT
+    column NAME bool true                or false
+    column NAME vector NUMBER ...        or 0x and the 8 hexadecimal digits of an element's bits
+
+TABLE, NAME and TEXT stand in double quotes, with \\\" \\\\ \\n \\r \\t and \\u{HEX} inside. Empty lines are passed over, and so is
+what follows a # outside of quotes.
+";
+
+const COMMIT: &str = "\
+lateenbael commit STORE [OPTION]... [PAGE=FILE]...
+
+Stages each FILE, of 4,096 bytes, as that page and commits them.
+
+  --count N      the new page count; without it the present one, or as many as the pages given need
+  --root N       the new schema root page; --version N the new format version; --freelist N the new freelist head
+  --clock N      raises the clock; it reaches the log's header with the next fold
+  --batch FILE   appends a file's batches before the commit, which seals them
+  --plain        opens as the Rust does: an unsealed tail of the log stays, and this commit takes it in
+  --cut-after-bytes N
+                 for trying out: stops the disk after N bytes of the commit and exits as if the power had gone (a new length counts
+                 as 1 byte, and a file's first 32 bytes are stored together or not at all)
+
+A commit that brings the log to 100 frames also folds it, and sealed batches go with the log.
+";
+
+const APPEND: &str = "\
+lateenbael append STORE FILE... [--plain] [--clock N] [--cut-after-bytes N]
+
+Appends the batches of text files, in the form that lateenbael help batches tells, and seals them by a commit without pages.
+FILE - is standard input. The options are those of commit.
+";
+
+const FOLD: &str = "\
+lateenbael fold STORE [--plain] [--clock N] [--cut-after-bytes N]
+
+Writes the log's pages to the main file and empties the log; its batches go with it. The options are those of commit.
+";
+
+/// More about a command.
+pub fn about(command: &str) -> Option<&'static str> {
+    Some(match command {
+        "create" => CREATE,
+        "info" => INFO,
+        "check" => CHECK,
+        "log" => LOG,
+        "batches" => BATCHES,
+        "read" => READ,
+        "commit" => COMMIT,
+        "append" => APPEND,
+        "fold" => FOLD,
+        "help" => HELP,
+        _ => return None,
+    })
+}

@@ -1,0 +1,347 @@
+//! The proved store with the areas it works in, all in memory. Nothing here touches a file.
+use crate::Refusal;
+use lateenbael_sys as sys;
+use sys::{DbHeader, FRAME_SIZE, LOG_AREA, MAIN_AREA, PAGE_SIZE, PAGES, STAGING_AREA};
+
+/// One of the two files.
+#[derive(Clone, Copy, Debug, PartialEq, Eq)]
+pub enum Area {
+    Log,
+    Main,
+}
+
+/// A store to a file as the engine names it: `len` bytes from `at` on, or with `len` 0 the new length `at`; then a flush or none.
+#[derive(Clone, Copy, Debug, PartialEq, Eq)]
+pub struct Named {
+    pub area: Area,
+    pub at: usize,
+    pub len: usize,
+    pub flush: bool,
+}
+
+impl Named {
+    /// Whether it sets a length.
+    pub fn is_length(self) -> bool {
+        self.len == 0
+    }
+}
+
+/// What a next step did.
+#[derive(Clone, Copy, Debug, PartialEq, Eq)]
+pub enum Step {
+    /// Nothing was part done.
+    Idle,
+    Stored(Named),
+    /// The last store, and the answer of the commit or fold.
+    Last(Named, usize),
+}
+
+/// A batch's index among the log's frames, and the place of its body.
+#[derive(Clone, Copy, Debug, PartialEq, Eq)]
+pub struct Found {
+    pub index: usize,
+    pub body: usize,
+}
+
+/// The store and its four areas.
+pub struct Engine {
+    pub store: sys::Store,
+    pub table: Box<[u32]>,
+    pub log: Box<[u8]>,
+    pub main: Box<[u8]>,
+    pub staging: Box<[u8]>,
+}
+
+fn area<T: Clone + Default>(len: usize) -> Box<[T]> {
+    vec![T::default(); len].into_boxed_slice()
+}
+
+/// A store in which nothing is open: read-only and without pages.
+const CLOSED: sys::Store = sys::Store {
+    current_header: NO_HEADER,
+    wal: sys::Wal {
+        header: sys::WalHeader {
+            version: 0,
+            salt: 0,
+            checkpoint_seq: 0,
+            clock_high_water: 0,
+        },
+        len: 0,
+        good_end: 0,
+        last_commit_offset: 0,
+        frame_count: 0,
+        sealed: 0,
+        last_commit_page_count: 0,
+    },
+    recovered: 0,
+    storage: sys::FileStorage { len: 0, header: NO_HEADER },
+    staged: sys::Staged {
+        count: 0,
+        pages: [0; sys::STAGED_PAGES],
+    },
+    job: sys::Job {
+        kind: 0,
+        salt: 0,
+        page: 0,
+        answer: 0,
+        header: NO_HEADER,
+    },
+    opening: NO_LOG,
+};
+
+/// Opened read-only, and there was no log.
+const NO_LOG: u32 = 3;
+
+const NO_HEADER: DbHeader = DbHeader {
+    page_count: 0,
+    schema_root_page: 0,
+    format_version: 0,
+    freelist_head: 0,
+};
+
+impl Default for Engine {
+    fn default() -> Self {
+        Self::new()
+    }
+}
+
+/// A call over the four areas: what it takes before them, and what behind. The areas are lent whole, and no call keeps one.
+macro_rules! over_areas {
+    ($engine:ident, $address:ident, $call:expr, [$($before:expr),*], [$($behind:expr),*]) => {
+        unsafe {
+            $call(
+                $($before,)*
+                $engine.table.$address(),
+                $engine.table.len(),
+                $engine.log.$address(),
+                $engine.log.len(),
+                $engine.main.$address(),
+                $engine.main.len(),
+                $engine.staging.$address(),
+                $engine.staging.len(),
+                $($behind,)*
+            )
+        }
+    };
+}
+
+// Every `unsafe` below lends whole slices, as the macro does.
+impl Engine {
+    /// Areas of zeros, and nothing open.
+    pub fn new() -> Engine {
+        Engine {
+            store: CLOSED,
+            table: area(PAGES),
+            log: area(LOG_AREA),
+            main: area(MAIN_AREA),
+            staging: area(STAGING_AREA),
+        }
+    }
+
+    /// Whether there is a log file: a store open read-only may have none.
+    pub fn has_log(&self) -> bool {
+        self.store.opening < NO_LOG
+    }
+
+    /// The log file's bytes.
+    pub fn log_file(&self) -> &[u8] {
+        &self.log[..self.store.wal.len.min(LOG_AREA)]
+    }
+
+    /// The main file's bytes.
+    pub fn main_file(&self) -> &[u8] {
+        &self.main[..self.store.storage.len.min(MAIN_AREA)]
+    }
+
+    fn take(&mut self, answered: sys::Answered) -> Result<sys::Answered, Refusal> {
+        Refusal::judge(answered.refusal)?;
+        self.store = answered.store;
+        Ok(answered)
+    }
+
+    /// Makes a new store.
+    pub fn create(&mut self, salt: u32) -> Result<(), Refusal> {
+        let answered = over_areas!(self, as_mut_ptr, sys::lateenbael_create, [], [salt]);
+        self.take(answered).map(drop)
+    }
+
+    /// Puts the files' bytes into the areas (too long: refusal 1). A log that there is not is `None`.
+    fn lend(&mut self, main: &[u8], log: Option<&[u8]>) -> Result<(), Refusal> {
+        let log = log.unwrap_or(&[]);
+        if main.len() > MAIN_AREA || log.len() > LOG_AREA {
+            return Err(Refusal::Area);
+        }
+        self.main[..main.len()].copy_from_slice(main);
+        self.log[..log.len()].copy_from_slice(log);
+        Ok(())
+    }
+
+    /// Plain opening of two files.
+    pub fn open_with_mode(&mut self, main: &[u8], log: Option<&[u8]>, read_only: bool, salt: u32) -> Result<(), Refusal> {
+        self.lend(main, log)?;
+        self.reopen(false, main.len(), log.map(<[u8]>::len), read_only, salt)
+    }
+
+    /// Clean opening of two files.
+    pub fn open_clean(&mut self, main: &[u8], log: Option<&[u8]>, read_only: bool, salt: u32) -> Result<(), Refusal> {
+        self.lend(main, log)?;
+        self.reopen(true, main.len(), log.map(<[u8]>::len), read_only, salt)
+    }
+
+    /// Opening of what lies in the areas already: files of these lengths.
+    pub fn reopen(&mut self, clean: bool, main_len: usize, log_len: Option<usize>, read_only: bool, salt: u32) -> Result<(), Refusal> {
+        let open = if clean {
+            sys::lateenbael_open_clean
+        } else {
+            sys::lateenbael_open_with_mode
+        };
+        let answered = over_areas!(
+            self,
+            as_mut_ptr,
+            open,
+            [],
+            [main_len, log_len.unwrap_or(0), read_only.into(), log_len.is_some().into(), salt]
+        );
+        self.take(answered).map(drop)
+    }
+
+    /// The header that counts.
+    pub fn header(&self) -> Result<DbHeader, Refusal> {
+        let answer = unsafe { sys::lateenbael_header(self.store) };
+        Refusal::judge(answer.refusal)?;
+        Ok(answer.header)
+    }
+
+    pub fn is_read_only(&self) -> Result<bool, Refusal> {
+        let answer = unsafe { sys::lateenbael_access_mode(self.store) };
+        Refusal::judge(answer.refusal)?;
+        Ok(answer.number != 0)
+    }
+
+    pub fn clock_high_water(&self) -> Result<u64, Refusal> {
+        let answer = unsafe { sys::lateenbael_clock_high_water(self.store) };
+        Refusal::judge(answer.refusal)?;
+        Ok(answer.number)
+    }
+
+    pub fn observe_clock_high_water(&mut self, value: u64) -> Result<(), Refusal> {
+        let answered = unsafe { sys::lateenbael_observe_clock_high_water(self.store, value) };
+        self.take(answered).map(drop)
+    }
+
+    /// A page's own bytes, or none.
+    #[inline]
+    pub fn read_page(&self, page_num: u32) -> Result<Option<&[u8]>, Refusal> {
+        let store = &self.store;
+        let (count, job) = (store.current_header.page_count, store.job.kind);
+        let (log_len, main_len) = (store.wal.len, store.storage.len);
+        let staged = &store.staged.pages[..store.staged.count.min(sys::STAGED_PAGES)];
+        let place = sys::lateenbael_place_page;
+        let answer = over_areas!(
+            self,
+            as_ptr,
+            place,
+            [count, job, log_len, main_len, staged.as_ptr(), staged.len()],
+            [page_num]
+        );
+        Refusal::judge(answer.refusal)?;
+        let area = match answer.area {
+            0 => return Ok(None),
+            1 => &self.log,
+            2 => &self.main,
+            _ => &self.staging,
+        };
+        Ok(Some(&area[answer.at..][..PAGE_SIZE]))
+    }
+
+    /// The first batch that the opening recovered, at an index of the log or behind it.
+    pub fn recovered(&self, index: usize) -> Result<Option<Found>, Refusal> {
+        let place = unsafe { sys::lateenbael_recovered_mvcc_commits(self.store, self.log.as_ptr(), self.log.len(), index) };
+        Refusal::judge(place.refusal)?;
+        if place.found == 0 {
+            return Ok(None);
+        }
+        Ok(Some(Found {
+            index: place.index,
+            body: place.offset + (FRAME_SIZE - PAGE_SIZE),
+        }))
+    }
+
+    pub fn stage_page(&mut self, page_num: u32, bytes: &[u8]) -> Result<(), Refusal> {
+        let answered = unsafe {
+            sys::lateenbael_stage_page(
+                self.store,
+                self.staging.as_mut_ptr(),
+                self.staging.len(),
+                page_num,
+                bytes.as_ptr(),
+                bytes.len(),
+            )
+        };
+        self.take(answered).map(drop)
+    }
+
+    pub fn clear_staged(&mut self) -> Result<(), Refusal> {
+        let answered = unsafe { sys::lateenbael_clear_staged(self.store) };
+        self.take(answered).map(drop)
+    }
+
+    /// Appends a batch; the frame that it becomes is named.
+    pub fn append_mvcc_batch(&mut self, body: &[u8]) -> Result<Named, Refusal> {
+        let at = self.store.wal.len;
+        let answered =
+            unsafe { sys::lateenbael_append_mvcc_batch(self.store, self.log.as_mut_ptr(), self.log.len(), body.as_ptr(), body.len()) };
+        self.take(answered)?;
+        Ok(Named {
+            area: Area::Log,
+            at,
+            len: FRAME_SIZE,
+            flush: false,
+        })
+    }
+
+    /// Begins a commit. Beside refusal 14 stands the lowest page that is missing.
+    pub fn begin_commit(&mut self, header: DbHeader, salt: u32) -> Result<(), (Refusal, usize)> {
+        let answered = over_areas!(self, as_mut_ptr, sys::lateenbael_begin_commit, [self.store], [header, salt]);
+        self.take(answered).map(drop).map_err(|refusal| (refusal, answered.answer))
+    }
+
+    /// Begins a fold; false if there is nothing to store, and its answer is 0.
+    pub fn begin_checkpoint(&mut self, salt: u32) -> Result<bool, Refusal> {
+        let answered = over_areas!(self, as_mut_ptr, sys::lateenbael_begin_checkpoint, [self.store], [salt]);
+        self.take(answered).map(|answered| answered.begun != 0)
+    }
+
+    /// Does the next store of what is part done.
+    pub fn next_step(&mut self) -> Result<Step, Refusal> {
+        let step = over_areas!(self, as_mut_ptr, sys::lateenbael_next_step, [self.store], []);
+        Refusal::judge(step.refusal)?;
+        self.store = step.store;
+        let area = if step.area == 1 { Area::Log } else { Area::Main };
+        let named = Named {
+            area,
+            at: step.at,
+            len: step.len,
+            flush: step.flush != 0,
+        };
+        Ok(match step.kind {
+            0 => Step::Idle,
+            1 => Step::Stored(named),
+            _ => Step::Last(named, step.answer),
+        })
+    }
+
+    /// A commit in one call: the number of differing pages.
+    pub fn commit(&mut self, header: DbHeader, salt: u32) -> Result<usize, (Refusal, usize)> {
+        let answered = over_areas!(self, as_mut_ptr, sys::lateenbael_commit, [self.store], [header, salt]);
+        self.take(answered)
+            .map(|answered| answered.answer)
+            .map_err(|refusal| (refusal, answered.answer))
+    }
+
+    /// A fold in one call: the number of pages written.
+    pub fn checkpoint(&mut self, salt: u32) -> Result<usize, Refusal> {
+        let answered = over_areas!(self, as_mut_ptr, sys::lateenbael_checkpoint, [self.store], [salt]);
+        self.take(answered).map(|answered| answered.answer)
+    }
+}

@@ -1,0 +1,108 @@
+//! A log's bytes, read alone: its header, its good frames, where it is sealed, its batches, and its listing.
+use crate::{Batch, Refusal};
+use lateenbael_sys as sys;
+use std::fmt::Write;
+use sys::{FRAME_SIZE, MVCC_FRAME_MARKER, PAGE_SIZE, Wal, WalHeader};
+
+/// A log that opens.
+#[derive(Clone, Copy)]
+pub struct Log<'a> {
+    bytes: &'a [u8],
+    wal: Wal,
+}
+
+/// A good frame.
+#[derive(Clone, Copy)]
+pub struct Frame<'a> {
+    pub index: usize,
+    /// The frame's first byte.
+    pub offset: usize,
+    pub page_num: u32,
+    /// 0: the frame seals nothing.
+    pub commit_page_count: u32,
+    /// The page's bytes, or the batch's.
+    pub body: &'a [u8],
+}
+
+impl<'a> Frame<'a> {
+    /// The batch, if the frame holds one.
+    pub fn batch(&self) -> Option<Batch<'a>> {
+        match self.page_num {
+            MVCC_FRAME_MARKER => Batch::decode(self.body).ok(),
+            _ => None,
+        }
+    }
+}
+
+impl<'a> Log<'a> {
+    /// Refusals 1 to 5.
+    pub fn open(bytes: &'a [u8]) -> Result<Log<'a>, Refusal> {
+        let answer = unsafe { sys::lateenbael_wal_open(bytes.as_ptr(), bytes.len()) };
+        Refusal::judge(answer.refusal)?;
+        Ok(Log { bytes, wal: answer.wal })
+    }
+
+    pub fn header(&self) -> WalHeader {
+        self.wal.header
+    }
+
+    /// The file's length.
+    pub fn file_len(&self) -> usize {
+        self.bytes.len()
+    }
+
+    /// Where the good frames end.
+    pub fn good_end(&self) -> usize {
+        self.wal.good_end
+    }
+
+    /// The commit point: the end of the last seal.
+    pub fn commit_point(&self) -> usize {
+        self.wal.last_commit_offset
+    }
+
+    /// Good frames, sealed or not, and a last batch frame that does not decode.
+    pub fn frame_count(&self) -> usize {
+        self.wal.frame_count
+    }
+
+    /// The last seal's page count.
+    pub fn last_commit_page_count(&self) -> Option<u32> {
+        (self.wal.sealed != 0).then_some(self.wal.last_commit_page_count)
+    }
+
+    /// The good frames.
+    pub fn frames(&self) -> impl Iterator<Item = Frame<'a>> {
+        let log = *self;
+        (0..)
+            .map_while(move |index| log.frame(index))
+            .take_while(move |frame| frame.offset < log.wal.good_end)
+    }
+
+    fn frame(&self, index: usize) -> Option<Frame<'a>> {
+        let answer = unsafe { sys::lateenbael_wal_frame_at(self.bytes.as_ptr(), self.bytes.len(), index) };
+        (answer.found != 0).then(|| Frame {
+            index,
+            offset: answer.offset,
+            page_num: answer.header.page_num,
+            commit_page_count: answer.header.commit_page_count,
+            body: &self.bytes[answer.offset..][..FRAME_SIZE][FRAME_SIZE - PAGE_SIZE..],
+        })
+    }
+
+    /// The lines of document 01's `loglist`, for a log of any length.
+    pub fn listing(&self) -> String {
+        let h = self.wal.header;
+        let mut lines = format!("log {} {:08x} {} {}\n", h.version, h.salt, h.checkpoint_seq, h.clock_high_water);
+        for frame in self.frames() {
+            let what = match frame.batch() {
+                Some(batch) => format!("batch {}", batch.record_count()),
+                None => format!("page {}", frame.page_num),
+            };
+            let _ = writeln!(lines, "{} {what} {}", frame.index, frame.commit_page_count);
+        }
+        let last = self.last_commit_page_count().map_or("-".to_string(), |count| count.to_string());
+        let _ = writeln!(lines, "end {} {} {last}", self.frame_count(), self.commit_point());
+        lines
+    }
+}

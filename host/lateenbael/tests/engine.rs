@@ -1,0 +1,48 @@
+//! The engine in memory.
+mod common;
+use common::{FRAME, page};
+use lateenbael::{Engine, Refusal, Step};
+
+#[test]
+fn a_page_is_committed_and_folded() {
+    let mut engine = Engine::new();
+    assert_eq!(engine.stage_page(1024, &page(9)), Err(Refusal::Page));
+    engine.create(7).unwrap();
+    let mut header = engine.header().unwrap();
+    assert_eq!(header.page_count, 2);
+    engine.stage_page(2, &page(9)).unwrap();
+    header.page_count = 3;
+    assert_eq!(engine.commit(header, 1), Ok(1));
+    assert_eq!(engine.read_page(2).unwrap().unwrap(), page(9));
+    assert_eq!(engine.log_file().len(), 32 + 2 * FRAME);
+    assert_eq!(engine.checkpoint(9), Ok(1));
+    assert_eq!(engine.log_file().len(), 32);
+    assert_eq!(engine.read_page(2).unwrap().unwrap(), page(9));
+    assert_eq!(&engine.main_file()[8192..], page(9));
+}
+
+#[test]
+fn calls_between_steps_are_refused() {
+    let mut engine = Engine::new();
+    engine.create(7).unwrap();
+    engine.stage_page(1, &page(3)).unwrap();
+    let header = engine.header().unwrap();
+    engine.begin_commit(header, 8).unwrap();
+    assert_eq!(engine.header(), Err(Refusal::Busy));
+    assert!(matches!(engine.next_step(), Ok(Step::Stored(named)) if named.at == 32 && !named.flush));
+    assert!(matches!(engine.next_step(), Ok(Step::Last(named, 1)) if named.at == 32 + FRAME && named.flush));
+    assert_eq!(engine.next_step(), Ok(Step::Idle));
+    assert_eq!(engine.header(), Ok(header));
+}
+
+#[test]
+fn every_refusal_has_its_number_and_name() {
+    let numbers: Vec<u32> = (1..=21).map(|n| Refusal::judge(n).unwrap_err().number()).collect();
+    assert_eq!(numbers, (1..=21).collect::<Vec<u32>>());
+    assert_eq!(Refusal::judge(0), Ok(()));
+    for n in 1..=21 {
+        let refusal = Refusal::judge(n).unwrap_err();
+        assert_eq!(format!("{refusal:?}"), refusal.name());
+        assert!(refusal.to_string().starts_with(&format!("refused {n} {}: ", refusal.name())));
+    }
+}

@@ -1,0 +1,210 @@
+//! A store on two real files: creation, commits, folds and openings.
+mod common;
+use common::*;
+use lateenbael::{Error, Mode, Refusal, Store, wal_path_for};
+use std::fs;
+use std::io::ErrorKind;
+
+fn io_kind<T>(answer: Result<T, Error>) -> Option<ErrorKind> {
+    match answer {
+        Err(Error::Io(error)) => Some(error.kind()),
+        _ => None,
+    }
+}
+
+#[test]
+fn creation_writes_both_files() {
+    let folder = Folder::new();
+    let path = folder.store();
+    let files = lateenbael::Files::fresh(&path).unwrap();
+    let store = Store::create_on(files, counting_salts(6)).unwrap();
+    assert_eq!(store.header().unwrap().page_count, 2);
+    let [main, log] = bytes_of(&path).map(Option::unwrap);
+    assert_eq!(main.len(), 8192);
+    assert_eq!(&main[..16], b"SQLRiteFormat\0\0\0");
+    assert_eq!(
+        log,
+        [b"SQLRWAL\0".as_slice(), &[3, 0, 0, 0, 0, 16, 0, 0, 7, 0, 0, 0], &[0; 12]].concat()
+    );
+}
+
+#[test]
+fn creation_spares_what_is_there() {
+    let folder = Folder::new();
+    let path = folder.store();
+    for there in [path.clone(), wal_path_for(&path)] {
+        fs::write(&there, b"precious").unwrap();
+        assert_eq!(io_kind(Store::create(&path)), Some(ErrorKind::AlreadyExists));
+        assert_eq!(fs::read(&there).unwrap(), b"precious");
+        assert_eq!(fs::read_dir(&folder.0).unwrap().count(), 1);
+        fs::remove_file(&there).unwrap();
+    }
+    fs::write(&path, [1; 20000]).unwrap();
+    fs::write(wal_path_for(&path), [1; 20000]).unwrap();
+    drop(Store::create_over(&path).unwrap());
+    assert_eq!(bytes_of(&path).map(|bytes| bytes.unwrap().len()), [8192, 32]);
+    open(&path, Mode::ReadWrite);
+}
+
+#[test]
+fn what_was_committed_is_there_after_every_opening() {
+    let folder = Folder::new();
+    let path = folder.store();
+    let mut store = Store::create(&path).unwrap();
+    store.append_mvcc_batch(batch(5).body()).unwrap();
+    store.append_mvcc_batch(batch(4).body()).unwrap();
+    assert_eq!(commit_pages(&mut store, 2, &[1, 2, 3]), 3);
+    assert_eq!(commit_pages(&mut store, 2, &[1, 9, 3]), 1);
+    let before = shown(&store);
+    assert_eq!(times(&store), []);
+    drop(store);
+    for mode in [Mode::ReadOnly, Mode::Plain, Mode::ReadWrite] {
+        let store = open(&path, mode);
+        assert_eq!(shown(&store), before);
+        assert_eq!(times(&store), [5, 4]);
+        assert_eq!(store.frame_count().unwrap(), 8);
+    }
+    let mut store = open(&path, Mode::ReadWrite);
+    store.observe_clock_high_water(40).unwrap();
+    assert_eq!(store.checkpoint().unwrap(), 3);
+    assert_eq!(times(&store), []);
+    assert_eq!(shown(&store), before);
+    drop(store);
+    let [main, log] = bytes_of(&path).map(Option::unwrap);
+    assert_eq!((main.len(), log.len()), (5 * PAGE, 32));
+    let store = open(&path, Mode::ReadWrite);
+    assert_eq!(shown(&store), before);
+    assert_eq!(store.clock_high_water().unwrap(), 40);
+}
+
+#[test]
+fn the_hundredth_frame_folds() {
+    let folder = Folder::new();
+    let mut store = Store::create(folder.store()).unwrap();
+    for seed in 0..49 {
+        commit_pages(&mut store, 1, &[seed + 1]);
+    }
+    assert_eq!(store.frame_count().unwrap(), 98);
+    let salt = store.wal_header().unwrap().salt;
+    commit_pages(&mut store, 1, &[99]);
+    assert_eq!(store.frame_count().unwrap(), 0);
+    assert_ne!(store.wal_header().unwrap().salt, salt);
+    drop(store);
+    assert_eq!(bytes_of(&folder.store()).map(|bytes| bytes.unwrap().len()), [8192, 32]);
+    assert_eq!(shown(&open(&folder.store(), Mode::ReadOnly)).pages, [(1, page(99).to_vec())]);
+}
+
+#[test]
+fn only_a_clean_opening_cuts_the_tail() {
+    let folder = Folder::new();
+    let path = folder.store();
+    let mut store = Store::create(&path).unwrap();
+    commit_pages(&mut store, 1, &[4]);
+    store.append_mvcc_batch(batch(8).body()).unwrap();
+    drop(store);
+    let with_tail = bytes_of(&path);
+    for mode in [Mode::ReadOnly, Mode::Plain] {
+        assert_eq!(open(&path, mode).frame_count().unwrap(), 3);
+        assert_eq!(bytes_of(&path), with_tail);
+    }
+    let store = open(&path, Mode::default());
+    assert_eq!(store.frame_count().unwrap(), 2);
+    assert_eq!(fs::metadata(wal_path_for(&path)).unwrap().len(), 32 + 2 * FRAME as u64);
+}
+
+#[test]
+fn areas_of_an_earlier_store_show_nothing_of_it() {
+    let folder = Folder::new();
+    let other = folder.0.join("other");
+    let mut earlier = Store::create(&other).unwrap();
+    commit_pages(&mut earlier, 2, &[7; 30]);
+    earlier.stage_page(1, &page(7)).unwrap();
+    let path = folder.store();
+    let mut store = Store::create(&path).unwrap();
+    commit_pages(&mut store, 1, &[4]);
+    let before = shown(&store);
+    drop(store);
+    let store = Store::open_in(earlier.into_engine(), &path, Mode::default()).unwrap();
+    assert_eq!(shown(&store), before);
+    open(&other, Mode::default());
+}
+
+#[test]
+fn a_missing_log_is_made_but_not_read_only() {
+    let folder = Folder::new();
+    let path = folder.store();
+    drop(Store::create(&path).unwrap());
+    for mode in [Mode::Plain, Mode::ReadWrite] {
+        fs::remove_file(wal_path_for(&path)).unwrap();
+        let store = open(&path, Mode::ReadOnly);
+        assert!(store.log().unwrap().is_none());
+        assert!(!wal_path_for(&path).exists());
+        drop(store);
+        let mut store = open(&path, mode);
+        commit_pages(&mut store, 1, &[6]);
+        drop(store);
+        assert_eq!(open(&path, Mode::ReadOnly).read_page(1).unwrap(), Some(&page(6)[..]));
+    }
+}
+
+#[test]
+fn a_store_in_use_is_not_opened() {
+    let folder = Folder::new();
+    let path = folder.store();
+    let store = Store::create(&path).unwrap();
+    assert_eq!(io_kind(Store::open(&path, Mode::ReadWrite)), Some(ErrorKind::WouldBlock));
+    assert_eq!(io_kind(Store::open(&path, Mode::ReadOnly)), Some(ErrorKind::WouldBlock));
+    assert_eq!(io_kind(Store::create_over(&path)), Some(ErrorKind::WouldBlock));
+    drop(store);
+    let reader = open(&path, Mode::ReadOnly);
+    open(&path, Mode::ReadOnly);
+    assert_eq!(io_kind(Store::open(&path, Mode::Plain)), Some(ErrorKind::WouldBlock));
+    drop(reader);
+    open(&path, Mode::Plain);
+    assert_eq!(io_kind(Store::open(folder.0.join("none"), Mode::Plain)), Some(ErrorKind::NotFound));
+}
+
+/// A page of the main file's or the log's, and what an opening says to it.
+type Damage = (
+    Option<usize>,
+    Option<usize>,
+    &'static [(usize, u8)],
+    &'static [(usize, u8)],
+    Refusal,
+);
+
+#[test]
+fn refused_openings_say_which_and_write_nothing() {
+    let folder = Folder::new();
+    let path = folder.store();
+    let mut store = Store::create(&path).unwrap();
+    commit_pages(&mut store, 2, &[1]);
+    drop(store);
+    let good = bytes_of(&path);
+    let table: &[Damage] = &[
+        (Some(4194305), None, &[], &[], Refusal::Area),
+        (None, Some(4210721), &[], &[], Refusal::Area),
+        (Some(4095), None, &[], &[], Refusal::Short),
+        (None, Some(31), &[], &[], Refusal::Short),
+        (None, None, &[(0, 0)], &[], Refusal::Magic),
+        (None, None, &[], &[(0, 0)], Refusal::Magic),
+        (None, None, &[(16, 7)], &[], Refusal::Version),
+        (None, None, &[], &[(8, 4)], Refusal::Version),
+        (None, None, &[(19, 1)], &[], Refusal::PageSize),
+        (None, None, &[], &[(13, 1)], Refusal::PageSize),
+        (Some(8191), None, &[], &[], Refusal::MainShort),
+    ];
+    for (main_len, log_len, main_edits, log_edits, why) in table {
+        let mut bytes = good.clone();
+        for (file, len, edits) in [(0, main_len, main_edits), (1, log_len, log_edits)] {
+            let file = bytes[file].as_mut().unwrap();
+            file.resize(len.unwrap_or(file.len()), 0);
+            edits.iter().for_each(|(at, byte)| file[*at] = *byte);
+        }
+        put_back(&path, &bytes);
+        for mode in [Mode::ReadWrite, Mode::Plain, Mode::ReadOnly] {
+            assert_eq!(refusal(Store::open(&path, mode)), Some(*why));
+            assert!(bytes_of(&path) == bytes);
+        }
+    }
+}

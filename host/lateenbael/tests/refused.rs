@@ -1,0 +1,79 @@
+//! Refused calls alter neither file, and the store goes on.
+mod common;
+use common::*;
+use lateenbael::{BatchBuilder, Disk, Error, Mode, Refusal, Store};
+
+/// Every call that must be refused, each with its refusal.
+fn all_refused<D: Disk>(store: &mut Store<D>, header: lateenbael::DbHeader) {
+    assert_eq!(refusal(store.stage_page(1024, &page(1))), Some(Refusal::Page));
+    assert_eq!(refusal(store.stage_page(1, &page(1)[1..])), Some(Refusal::Area));
+    assert_eq!(refusal(store.append_mvcc_batch(&[0; 17])), Some(Refusal::Short));
+    assert_eq!(refusal(store.append_mvcc_batch(&[0; 18])), Some(Refusal::Magic));
+    assert_eq!(refusal(store.append_mvcc_batch(&batch(1).body()[..30])), Some(Refusal::Truncated));
+    assert_eq!(refusal(store.commit(with_count(header, 0))), Some(Refusal::NewHeader));
+    assert_eq!(refusal(store.commit(with_count(header, 1025))), Some(Refusal::NewHeader));
+    assert!(matches!(store.commit(with_count(header, 9)), Err(Error::Joining { page: 3 })));
+}
+
+#[test]
+fn refused_calls_leave_the_files() {
+    let folder = Folder::new();
+    let path = folder.store();
+    let mut store = Store::create(&path).unwrap();
+    commit_pages(&mut store, 2, &[1]);
+    let before = bytes_of(&path);
+    let header = store.header().unwrap();
+    all_refused(&mut store, header);
+    assert_eq!(bytes_of(&path), before);
+    assert_eq!(commit_pages(&mut store, 1, &[2, 3]), 2);
+    assert_ne!(bytes_of(&path), before);
+}
+
+#[test]
+fn read_only_writes_nothing() {
+    let folder = Folder::new();
+    let path = folder.store();
+    commit_pages(&mut Store::create(&path).unwrap(), 2, &[1]);
+    let before = bytes_of(&path);
+    let mut store = open(&path, Mode::ReadOnly);
+    assert!(store.is_read_only().unwrap());
+    let header = store.header().unwrap();
+    store.stage_page(1, &page(7)).unwrap();
+    assert_eq!(refusal(store.commit(header)), Some(Refusal::ReadOnly));
+    assert_eq!(refusal(store.checkpoint()), Some(Refusal::ReadOnly));
+    assert_eq!(refusal(store.append_mvcc_batch(batch(1).body())), Some(Refusal::ReadOnly));
+    store.observe_clock_high_water(3).unwrap();
+    store.clear_staged().unwrap();
+    assert_eq!(bytes_of(&path), before);
+}
+
+#[test]
+fn a_65th_staged_page_is_refused() {
+    let folder = Folder::new();
+    let mut store = Store::create(folder.store()).unwrap();
+    for n in 0..64 {
+        store.stage_page(n, &page(1)).unwrap();
+    }
+    assert_eq!(refusal(store.stage_page(64, &page(1))), Some(Refusal::Staging));
+    store.stage_page(63, &page(2)).unwrap();
+    store.clear_staged().unwrap();
+    store.stage_page(64, &page(1)).unwrap();
+}
+
+#[test]
+fn a_full_log_refuses_and_a_fold_makes_room() {
+    let folder = Folder::new();
+    let path = folder.store();
+    let mut store = Store::create(&path).unwrap();
+    let empty = BatchBuilder::new(0);
+    for _ in 0..1024 {
+        store.append_mvcc_batch(empty.body()).unwrap();
+    }
+    let before = bytes_of(&path);
+    let header = store.header().unwrap();
+    assert_eq!(refusal(store.append_mvcc_batch(empty.body())), Some(Refusal::LogFull));
+    assert_eq!(refusal(store.commit(header)), Some(Refusal::LogFull));
+    assert!(bytes_of(&path) == before);
+    assert_eq!(store.checkpoint().unwrap(), 0);
+    assert_eq!(store.commit(header).unwrap(), 0);
+}

@@ -1,0 +1,85 @@
+//! The declarations here and in `lateenbael.h` are the same: functions, constants, and the structs' sizes.
+use lateenbael_sys as sys;
+use std::collections::BTreeSet;
+use std::mem::size_of;
+
+const HEADER: &str = include_str!("../../lateenbael.h");
+const DECLARATIONS: &str = include_str!("../src/lib.rs");
+
+/// The functions that a text declares: names with a parenthesis right behind, outside of comments.
+fn functions(text: &str) -> BTreeSet<&str> {
+    let lines = text.lines().filter(|line| !line.trim_start().starts_with(['*', '/']));
+    let words = lines.flat_map(|line| line.split([' ', '*']));
+    words
+        .filter_map(|word| word.split_once('(').map(|(name, _)| name))
+        .filter(|name| name.starts_with("lateenbael_"))
+        .collect()
+}
+
+#[test]
+fn the_functions_are_the_same() {
+    assert_eq!(functions(HEADER), functions(DECLARATIONS));
+    assert_eq!(functions(HEADER).len(), 47);
+}
+
+#[test]
+fn the_constants_are_the_same() {
+    let table = [
+        ("PAGE_SIZE", sys::PAGE_SIZE),
+        ("FRAME_SIZE", sys::FRAME_SIZE),
+        ("LOG_AREA", sys::LOG_AREA),
+        ("MAIN_AREA", sys::MAIN_AREA),
+        ("STAGING_AREA", sys::STAGING_AREA),
+        ("PAGES", sys::PAGES),
+        ("STAGED_PAGES", sys::STAGED_PAGES),
+        ("LISTING_SIZE", sys::LISTING_SIZE),
+        ("MVCC_FRAME_MARKER", sys::MVCC_FRAME_MARKER as usize),
+    ];
+    for (name, value) in table {
+        let line = format!("#define LATEENBAEL_{name} {value}");
+        assert!(
+            HEADER.lines().any(|l| l
+                .strip_prefix(&line)
+                .is_some_and(|rest| !rest.starts_with(|c: char| c.is_ascii_digit()))),
+            "{line}"
+        );
+    }
+}
+
+/// The sizes that the C test checks of the same structs.
+#[test]
+fn the_structs_have_the_sizes_that_c_checks() {
+    let table = [
+        ("db_header", size_of::<sys::DbHeader>()),
+        ("wal_header", size_of::<sys::WalHeader>()),
+        ("wal", size_of::<sys::Wal>()),
+        ("file_storage", size_of::<sys::FileStorage>()),
+        ("staged", size_of::<sys::Staged>()),
+        ("job", size_of::<sys::Job>()),
+        ("store", size_of::<sys::Store>()),
+        ("answered", size_of::<sys::Answered>()),
+        ("header_answer", size_of::<sys::HeaderAnswer>()),
+        ("number_answer", size_of::<sys::NumberAnswer>()),
+        ("page_answer", size_of::<sys::PageAnswer>()),
+        ("batch_place", size_of::<sys::BatchPlace>()),
+        ("step_answered", size_of::<sys::StepAnswered>()),
+        ("wal_answer", size_of::<sys::WalAnswer>()),
+        ("wal_header_answer", size_of::<sys::WalHeaderAnswer>()),
+        ("frame_header", size_of::<sys::FrameHeader>()),
+        ("frame_answer", size_of::<sys::FrameAnswer>()),
+        ("list_answer", size_of::<sys::ListAnswer>()),
+        ("text_place", size_of::<sys::TextPlace>()),
+        ("batch", size_of::<sys::Batch>()),
+        ("record", size_of::<sys::Record>()),
+        ("value", size_of::<sys::Value>()),
+        ("value_answer", size_of::<sys::ValueAnswer>()),
+        ("column", size_of::<sys::Column>()),
+        ("element", size_of::<sys::Element>()),
+        ("building", size_of::<sys::Building>()),
+    ];
+    let checked = include_str!("../../c_test/layout.c");
+    for (name, size) in table {
+        assert!(checked.contains(&format!("\nSIZE({name}, {size});\n")), "{name} has {size} bytes");
+    }
+    assert_eq!(checked.matches("\nSIZE(").count(), table.len());
+}
