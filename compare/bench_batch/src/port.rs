@@ -1,5 +1,7 @@
-//! The port's side: the functions that its static library exports. A slice
-//! goes over as its address and its length.
+//! The port's side: the calls of its static library. A slice goes over as its
+//! address and its length.
+
+use lateenbael_sys as sys;
 
 use crate::builder::build;
 use crate::side::Side;
@@ -7,15 +9,10 @@ use crate::side::Side;
 pub const SIDE: Side = Side {
     name: "port",
     // Safety: both read the slices lent to them, and write `out` alone.
-    decode: |body| unsafe { port_decode(body.as_ptr(), body.len()) },
+    decode: |body| unsafe { sys::lateenbael_mvcc_decode(body.as_ptr(), body.len()).end as u64 },
     encode: build,
     canonical: |body, out| unsafe {
-        port_encode_canonical(body.as_ptr(), body.len(), out.as_mut_ptr(), out.len())
+        sys::lateenbael_mvcc_canonicalize(body.as_ptr(), body.len(), out.as_mut_ptr(), out.len())
+            .into()
     },
 };
-
-unsafe extern "C" {
-    fn port_decode(body: *const u8, body_len: usize) -> u64;
-    fn port_encode_canonical(body: *const u8, body_len: usize, out: *mut u8, out_len: usize)
-    -> u64;
-}

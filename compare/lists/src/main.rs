@@ -7,25 +7,12 @@
 //! With the feature `port`, also compares any number of logs, drawn from a
 //! seed, with the port's own listing.
 
-mod batch;
-mod cases;
-mod checksum;
-mod frame;
-mod header;
-mod hex;
-mod list;
-mod log;
-#[cfg(feature = "port")]
-mod port;
-mod random;
-mod refusal;
-mod sum;
-mod utf8;
-
 use std::env;
 use std::process::ExitCode;
 
-use list::List;
+use lists::list::List;
+#[cfg(feature = "port")]
+use lists::{log, port};
 
 fn main() -> ExitCode {
     let words: Vec<String> = env::args().skip(1).collect();
@@ -41,7 +28,7 @@ fn main() -> ExitCode {
 
 /// Acts on the lists that are named; on all if none is.
 fn each(act: fn(&List) -> Result<(), String>, names: &[&str]) -> ExitCode {
-    let mut lists = lists();
+    let mut lists = lists::lists();
     if !names
         .iter()
         .all(|name| lists.iter().any(|list| list.name == *name))
@@ -83,27 +70,4 @@ fn usage() -> ExitCode {
     eprintln!("usage: lists (write | check) [LIST ..]");
     eprintln!("       lists logs SEED COUNT (with the feature port)");
     ExitCode::FAILURE
-}
-
-fn lists() -> Vec<List> {
-    vec![
-        header::list(),
-        checksum::list(),
-        sum::list(),
-        utf8::list(),
-        batch::list(),
-        log::list(),
-    ]
-}
-
-#[cfg(test)]
-mod tests {
-    use super::*;
-
-    #[test]
-    fn the_stored_lists_are_those_of_today() {
-        for list in lists() {
-            assert_eq!(list.check(), Ok(()));
-        }
-    }
 }

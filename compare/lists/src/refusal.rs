@@ -2,9 +2,13 @@
 
 use engine::error::SQLRiteError;
 
-/// The answer to what was refused: the number beside the one part that the
-/// error's text has.
+/// The answer to what was refused.
 pub fn answer(error: &SQLRiteError, parts: &[(&str, u32)]) -> String {
+    format!("refused {}", number(error, parts))
+}
+
+/// The number beside the one part that the error's text has.
+pub fn number(error: &SQLRiteError, parts: &[(&str, u32)]) -> u32 {
     let text = error.to_string();
     let found: Vec<_> = parts
         .iter()
@@ -12,7 +16,7 @@ pub fn answer(error: &SQLRiteError, parts: &[(&str, u32)]) -> String {
         .map(|(_, number)| *number)
         .collect();
     match found[..] {
-        [number] => format!("refused {number}"),
+        [number] => number,
         _ => panic!("no number, or several, for: {text}"),
     }
 }

@@ -16,11 +16,19 @@ impl Salts {
         self.queue.push_back(salt);
     }
 
+    /// The salt that the next draw gives.
+    pub fn peek(&self) -> u32 {
+        match self.queue.front() {
+            Some(salt) => *salt,
+            None => mix(self.draws + 1) as u32,
+        }
+    }
+
     pub fn draw(&mut self) -> u32 {
+        let salt = self.peek();
+        self.queue.pop_front();
         self.draws += 1;
-        self.queue
-            .pop_front()
-            .unwrap_or_else(|| mix(self.draws) as u32)
+        salt
     }
 }
 
@@ -44,6 +52,7 @@ mod tests {
         salts.queue(0);
         assert_eq!(salts.draw(), 7);
         assert_eq!(salts.draw(), 0);
+        assert_eq!(salts.peek(), mix(3) as u32);
         assert_eq!(salts.draw(), mix(3) as u32);
         salts.queue(9);
         assert_eq!(salts.draw(), 9);

@@ -4,9 +4,8 @@ use std::cell::RefCell;
 
 use crate::disk::Disk;
 use crate::path::Path;
-use crate::salts::Salts;
 
-pub use crate::salts::mix;
+pub use crate::salts::{Salts, mix};
 pub use crate::stores::{Cut, CutStore, Store};
 
 #[derive(Default)]
@@ -31,6 +30,12 @@ pub fn reset() {
 /// A file's bytes, if it is there.
 pub fn read_file(path: &Path) -> Option<Vec<u8>> {
     with_disk(|disk| disk.read_file(path).cloned())
+}
+
+/// Looks at a file's bytes where they are. Nothing else may be asked of the
+/// world meanwhile.
+pub fn look_at<T>(path: &Path, look: impl FnOnce(Option<&[u8]>) -> T) -> T {
+    with_disk(|disk| look(disk.read_file(path).map(Vec::as_slice)))
 }
 
 /// Makes or replaces a file, beside the engine: no store is listed.

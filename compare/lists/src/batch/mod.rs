@@ -11,7 +11,7 @@ mod damaged;
 mod faults;
 mod good;
 mod limits;
-mod print;
+pub mod print;
 mod samples;
 
 use engine::mvcc::MvccCommitBatch;
@@ -47,7 +47,7 @@ fn answer(case: &[u8]) -> String {
 }
 
 /// By the text of the check that refused.
-const REFUSALS: [(&str, u32); 6] = [
+pub const REFUSALS: [(&str, u32); 6] = [
     ("body shorter than fixed header", 2),
     ("bad magic", 3),
     ("MVCC log: truncated", 17),

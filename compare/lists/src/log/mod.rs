@@ -13,7 +13,7 @@ mod cuts;
 mod damaged;
 mod garbage;
 mod headers;
-mod oracle;
+pub mod oracle;
 mod recipe;
 mod seals;
 mod zeros;

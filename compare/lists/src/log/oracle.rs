@@ -47,7 +47,7 @@ pub fn listed(log: &[u8]) -> String {
 }
 
 /// By the text of the check that refused.
-const REFUSALS: [(&str, u32); 4] = [
+pub const REFUSALS: [(&str, u32); 4] = [
     ("(too short / bad magic)", 2),
     ("(bad magic)", 3),
     (OTHER_VERSION, 4),

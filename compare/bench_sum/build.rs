@@ -1,5 +1,4 @@
 //! With the feature `port`, links the static library that PORT_ARCHIVE names.
-//! It is the build script of the other crates with that feature too.
 
 use std::env;
 use std::path::Path;

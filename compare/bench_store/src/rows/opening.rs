@@ -1,0 +1,41 @@
+//! Openings of a store of 501 pages with a full log and with a small one.
+
+use super::{Folder, assert_agreed, begin};
+use crate::files::{self, PAGES};
+use crate::side::Side;
+use crate::table::Table;
+use crate::timing::{clock, each};
+use crate::{port, rust};
+
+pub fn rows(table: &Table) {
+    let folder = Folder::new();
+    for (frames, seal_each) in [(1_024, 8), (10, 5)] {
+        let log = files::log(PAGES, frames, seal_each);
+        for (clean, mode) in [(false, ""), (true, " (port: clean)")] {
+            let memory = (rust::InMemory::new(), port::InMemory::new(clean));
+            let what = format!("log of {frames} frames, in memory{mode}");
+            row(table, &what, memory, &log);
+            let rust = rust::InFiles::new(folder.path());
+            let port = port::InFiles::new(folder.path(), clean);
+            let what = format!("log of {frames} frames, files{mode}");
+            row(table, &what, (rust, port), &log);
+        }
+    }
+}
+
+fn row(table: &Table, what: &str, sides: (impl Side, impl Side), log: &[u8]) {
+    let (mut rust, mut port) = sides;
+    let main = files::main();
+    begin(&mut rust, &main, log);
+    begin(&mut port, &main, log);
+    assert_agreed(&rust, &port);
+    let rust = Box::new(|| sample(&mut rust));
+    let port = Box::new(|| sample(&mut port));
+    table.row(what, rust, port, None);
+}
+
+/// What was open is given back before.
+fn sample(side: &mut impl Side) -> f64 {
+    side.close();
+    each(clock(|| side.open()), 1)
+}

@@ -1,0 +1,85 @@
+//! A commit's own cost: what it takes beside the frames that it appends.
+
+use std::cell::RefCell;
+
+use lateenbael::sys;
+
+use engine::sql::pager::header::encode_header;
+use engine::sql::pager::page::PAGE_SIZE;
+
+use super::commit::{Commits, in_a_row};
+use super::{begin, in_words};
+use crate::files::{self, Differs, Pool};
+use crate::port::{HEADER, InMemory};
+use crate::side::Side;
+use crate::table::Table;
+use crate::timing::{clock, each};
+
+pub fn rows(table: &Table) {
+    for differs in [Differs::FromTheFirst, Differs::AtTheLast] {
+        for pages in [1, 4, 8, 16, 64] {
+            let what = format!("{}, {}", in_words(pages), differs.name());
+            row(table, &what, pages, differs);
+        }
+    }
+}
+
+fn row(table: &Table, what: &str, pages: usize, differs: Differs) {
+    let commits = Commits::alone(pages, differs);
+    let mut pool = Pool::new(differs);
+    let mut port = InMemory::new(false);
+    begin(&mut port, &files::main(), &files::empty_log());
+    commits.sample(&mut port, &mut pool);
+    let port = RefCell::new(port);
+    let whole = Box::new(|| commits.sample(&mut *port.borrow_mut(), &mut pool));
+    let part = Box::new(|| frames(&mut port.borrow_mut(), pages));
+    table.own_cost(what, whole, part);
+}
+
+/// Appends the same frames with the log's own call, to the log area behind a
+/// fold, as the commits between two folds do; the mean of a commit's.
+fn frames(port: &mut InMemory, pages: usize) -> f64 {
+    port.fold();
+    let engine = &mut port.engine;
+    let mut wal = engine.store.wal;
+    let header = header_page();
+    let commits = in_a_row(pages);
+    let time = (0..commits)
+        .map(|_| {
+            clock(|| {
+                let bodies = engine.staging.chunks_exact(PAGE_SIZE);
+                for (k, body) in bodies.take(pages).enumerate() {
+                    append(&mut engine.log, &mut wal, k as u32 + 1, body, 0);
+                }
+                append(&mut engine.log, &mut wal, 0, &header, HEADER.page_count);
+            })
+        })
+        .sum();
+    each(time, commits)
+}
+
+fn append(log: &mut [u8], wal: &mut sys::Wal, page_num: u32, body: &[u8], count: u32) {
+    // Safety: it reads the body lent to it, and writes the log alone.
+    let answer = unsafe {
+        sys::lateenbael_wal_append_frame(
+            log.as_mut_ptr(),
+            log.len(),
+            *wal,
+            page_num,
+            body.as_ptr(),
+            body.len(),
+            count,
+        )
+    };
+    assert_eq!(answer.refusal, 0);
+    *wal = answer.wal;
+}
+
+fn header_page() -> [u8; PAGE_SIZE] {
+    encode_header(&engine::sql::pager::header::DbHeader {
+        page_count: HEADER.page_count,
+        schema_root_page: HEADER.schema_root_page,
+        format_version: HEADER.format_version,
+        freelist_head: HEADER.freelist_head,
+    })
+}

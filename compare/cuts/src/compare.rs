@@ -1,0 +1,102 @@
+//! An open store against the book.
+use crate::batch;
+use crate::judge::{Answer, Refused};
+use crate::law::Law;
+use crate::port;
+use lateenbael::Engine;
+
+/// What was found different, in words.
+pub type Check = Result<(), String>;
+
+pub fn ensure(holds: bool, what: impl FnOnce() -> String) -> Check {
+    if holds { Ok(()) } else { Err(what()) }
+}
+
+fn first_bytes(page: Option<&[u8]>) -> String {
+    page.map_or("no page".into(), |bytes| {
+        format!("a page {:02x?} ..", &bytes[..8])
+    })
+}
+
+/// An answer, in words.
+fn shown(answer: &Result<Answer, Refused>) -> String {
+    match answer {
+        Err((14, page)) => format!("refused 14 {page}"),
+        Err((number, _)) => format!("refused {number}"),
+        Ok(Answer::Page(page)) => first_bytes(page.as_deref()),
+        Ok(Answer::Told(header, clock, read_only)) => {
+            format!("{header}, clock {clock}, read-only {read_only}")
+        }
+        Ok(answer) => format!("{answer:?}"),
+    }
+}
+
+/// The port's answer against the document's.
+pub fn compare_answers(found: &Result<Answer, Refused>, wanted: &Result<Answer, Refused>) -> Check {
+    ensure(found == wanted, || {
+        format!(
+            "the port answers {}, the document {}",
+            shown(found),
+            shown(wanted)
+        )
+    })
+}
+
+/// Header and clock, and that the store can be written.
+pub fn compare_header(engine: &Engine, law: &Law) -> Check {
+    let wanted = Answer::Told(law.book.header, law.clock, false);
+    compare_answers(&port::query(engine), &Ok(wanted))
+}
+
+/// Every page's reading from 1 to 1,023.
+pub fn compare_pages(engine: &Engine, law: &Law) -> Check {
+    for page in 1..1024 {
+        let found = engine
+            .read_page(page)
+            .map_err(|refusal| format!("page {page}: {refusal}"))?;
+        let wanted = law.book.read(page).map(|bytes| &bytes[..]);
+        let what = || {
+            format!(
+                "page {page} reads {}, by the book {}",
+                first_bytes(found),
+                first_bytes(wanted)
+            )
+        };
+        ensure(found == wanted, what)?;
+    }
+    Ok(())
+}
+
+/// The recovered batches, in order, each as `encode` writes it.
+pub fn compare_batches(engine: &Engine, law: &Law) -> Check {
+    let mut index = 0;
+    let mut wanted = law.book.sealed.iter();
+    loop {
+        let found = engine
+            .recovered(index)
+            .map_err(|refusal| format!("batches: {refusal}"))?;
+        let (found, batch) = match (found, wanted.next()) {
+            (None, None) => return Ok(()),
+            (None, Some(batch)) => {
+                return Err(format!("the batch of time {} is lost", batch.commit_time));
+            }
+            (Some(found), None) => {
+                return Err(format!(
+                    "a batch at index {} that the book hasn't",
+                    found.index
+                ));
+            }
+            (Some(found), Some(batch)) => (found, batch),
+        };
+        let body = &engine.log[found.body..][..batch::BODY];
+        let same = batch::decode(body).as_ref() == Ok(&**batch) && body == batch::encode(batch);
+        let what = || {
+            format!(
+                "the batch at index {} isn't the book's of time {}",
+                found.index, batch.commit_time
+            )
+        };
+        ensure(same, what)?;
+        index = found.index + 1;
+    }
+}

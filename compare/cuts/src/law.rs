@@ -1,0 +1,214 @@
+//! The plain book, and beside it what refusals and stores depend on by document 01: the log's
+//! frames, the pages of log and main file, the clock. From the document alone. All openings are
+//! clean, so behind the commit point the log has nothing but unsealed good frames. (`judge.rs`
+//! judges calls by it.)
+use crate::book::{Book, Entry, Header, PAGE, Page};
+use crate::call::{Call, page_bytes};
+use crate::judge::Plan;
+use crate::store::{FRAME, Kind, LOG_HEADER, Store};
+use crate::wrong::Wrong;
+use std::collections::{BTreeMap, VecDeque};
+
+/// What refusals and stores depend on beside the book.
+#[derive(Clone, Debug)]
+pub struct Disk {
+    pub frames: usize,
+    pub sealed_frames: usize,
+    pub log_pages: BTreeMap<u32, Page>,
+    main_pages: BTreeMap<u32, Page>,
+    pub main_count: u32,
+    clock: u64,
+}
+
+#[derive(Clone, Debug)]
+pub struct Law {
+    pub book: Book,
+    pub disk: Disk,
+    /// The stores still to do: a commit or fold is part done while there are any.
+    pub todo: VecDeque<Store>,
+    /// What the commit or fold under way answers at its end.
+    pub number: usize,
+    pub clock: u64,
+    pub wrong: Wrong,
+}
+
+/// "Bytes 0..16 `SQLRiteFormat` and three zeros; 16..18 version; 18..20 page size; 20..24 page
+/// count; 24..28 schema root; 28..32 freelist head; the rest is written zero".
+pub fn encode_header(header: &Header) -> Page {
+    let mut page = b"SQLRiteFormat\0\0\0".to_vec();
+    page.extend(header.version.to_le_bytes());
+    page.extend((PAGE as u16).to_le_bytes());
+    page.extend(
+        [header.page_count, header.schema_root, header.freelist_head]
+            .map(u32::to_le_bytes)
+            .concat(),
+    );
+    page.resize(PAGE, 0);
+    page.into()
+}
+
+impl Disk {
+    pub fn log_len(&self) -> usize {
+        LOG_HEADER + FRAME * self.frames
+    }
+
+    /// "The commit point is the end of the last seal, else 32."
+    pub fn commit_point(&self) -> usize {
+        LOG_HEADER + FRAME * self.sealed_frames
+    }
+
+    /// "The main file's pages from 1 to below its own header's count".
+    fn main_page(&self, page: u32) -> Option<&Page> {
+        self.main_pages
+            .get(&page)
+            .filter(|_| 1 <= page && page < self.main_count)
+    }
+}
+
+impl Law {
+    pub fn created(wrong: Wrong) -> Law {
+        let book = Book::created();
+        let disk = Disk {
+            frames: 0,
+            sealed_frames: 0,
+            log_pages: BTreeMap::new(),
+            main_pages: book.pages.clone(),
+            main_count: book.header.page_count,
+            clock: 0,
+        };
+        Law {
+            book,
+            disk,
+            todo: VecDeque::new(),
+            number: 0,
+            clock: 0,
+            wrong,
+        }
+    }
+
+    /// "9: a commit or fold is part done and a call other than the next step or an opening comes".
+    pub fn busy(&self) -> bool {
+        !self.todo.is_empty()
+    }
+
+    /// "Staged pages whose bytes differ from the log's, else the main file's (where page 0 never
+    /// is), even at or above the page count, or that are in neither, ascending".
+    pub fn differing(&self) -> BTreeMap<u32, Page> {
+        let there = |page: &u32| {
+            self.disk
+                .log_pages
+                .get(page)
+                .or_else(|| self.disk.main_page(*page))
+        };
+        let staged = self
+            .book
+            .staged
+            .iter()
+            .filter(|(page, bytes)| there(page) != Some(bytes));
+        staged.map(|(page, bytes)| (*page, bytes.clone())).collect()
+    }
+
+    /// As the book says. It has pages from 1 only: page 0 reads as "staged; .. else log", and in
+    /// the main file it "never is".
+    pub fn read(&self, page: u32) -> Option<&Page> {
+        let log = self.disk.log_pages.get(&page).filter(|_| page == 0);
+        self.book.read(page).or(log)
+    }
+
+    fn enter(&mut self, entry: Entry) {
+        self.wrong.enter(&mut self.book, entry);
+    }
+
+    /// A call that wasn't refused: its stores are still to do.
+    pub fn start(&mut self, call: &Call, plan: Plan) {
+        match call {
+            Call::Stage(page, seed, len) => {
+                self.enter(Entry::Stage(*page, page_bytes(*seed, *len)));
+            }
+            Call::DropStaging => self.enter(Entry::DropStaging),
+            // "A lower one is .. ignored by the pager."
+            Call::Clock(value) => self.clock = self.clock.max(*value),
+            Call::Commit(header, _) | Call::BeginCommit(header, _) => {
+                self.enter(Entry::Commit(*header))
+            }
+            _ => (),
+        }
+        if !plan.stores.is_empty() {
+            self.todo = plan.stores.into();
+            self.number = plan.number;
+        }
+    }
+
+    /// "Refused .. : no change."
+    pub fn refused(&mut self, call: &Call) {
+        self.wrong.refused(call, &mut self.book);
+    }
+
+    /// The next of the stores still to do is whole.
+    pub fn whole(&mut self) {
+        let Some(store) = self.todo.pop_front() else {
+            return;
+        };
+        match store.kind {
+            Kind::BatchFrame(batch) => {
+                self.disk.frames += 1;
+                self.enter(Entry::BatchFrame(batch));
+            }
+            Kind::PageFrame => self.disk.frames += 1,
+            Kind::Seal => self.seal(),
+            Kind::MainPage(page) => {
+                let bytes = self.disk.log_pages.get(&page).cloned();
+                self.disk
+                    .main_pages
+                    .extend(bytes.map(|bytes| (page, bytes)));
+            }
+            Kind::MainHeader => self.disk.main_count = self.book.header.page_count,
+            Kind::MainLength => {
+                let count = self.book.header.page_count;
+                self.disk.main_pages.retain(|page, _| *page < count);
+            }
+            Kind::LogLength => {
+                self.disk.frames = 0;
+                self.disk.sealed_frames = 0;
+                self.disk.log_pages.clear();
+                self.enter(Entry::FoldLogLength);
+            }
+            // "A raised clock reaches the log header only at a fold".
+            Kind::LogHeader => self.disk.clock = self.clock,
+            Kind::OpeningLength => self.open(),
+        }
+    }
+
+    /// The log's pages are "this session's own commits" too, page 0 as the seal has it.
+    fn seal(&mut self) {
+        self.disk.frames += 1;
+        self.disk.sealed_frames = self.disk.frames;
+        let differing = self.differing();
+        self.disk.log_pages.extend(differing);
+        if let Some(header) = self.book.given {
+            self.disk.log_pages.insert(0, encode_header(&header));
+        }
+        self.enter(Entry::Seal);
+    }
+
+    /// "A clean opening cuts the log at the commit point; its frame count is the frames kept, its
+    /// clock the log header's."
+    pub fn open(&mut self) {
+        self.todo.clear();
+        self.disk.frames = self.disk.sealed_frames;
+        self.clock = self.disk.clock;
+        self.enter(Entry::CleanOpening);
+    }
+
+    /// A clean opening after a cut inside the next store: a main header of which more than its
+    /// first 32 bytes are new counts for the main file's own pages.
+    pub fn opened_after(&self, bytes: usize) -> Law {
+        let mut law = self.clone();
+        let next = self.todo.front().map(|store| &store.kind);
+        if matches!(next, Some(Kind::MainHeader)) && bytes >= LOG_HEADER {
+            law.disk.main_count = law.book.header.page_count;
+        }
+        law.open();
+        law
+    }
+}

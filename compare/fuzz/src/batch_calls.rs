@@ -1,0 +1,291 @@
+//! The calls of batches: reading any bytes, and building.
+
+use lateenbael_sys as sys;
+use sys::{Building, PAGE_SIZE, TextPlace};
+
+use crate::area::Area;
+use crate::closed::NO_BUILDING;
+use crate::forge;
+use crate::world::{Call, World, Writes};
+
+pub const CALLS: [Call; 15] = [
+    ("mvcc_decode", decode),
+    ("mvcc_decode_record", decode_record),
+    ("mvcc_decode_column", decode_column),
+    ("mvcc_decode_value", decode_value),
+    ("mvcc_vector_bits", vector_bits),
+    ("mvcc_canonicalize", canonicalize),
+    ("mvcc_start", start),
+    ("mvcc_add_tombstone", add_tombstone),
+    ("mvcc_begin_present", begin_present),
+    ("mvcc_add_null", add_null),
+    ("mvcc_add_integer", add_integer),
+    ("mvcc_add_real_bits", add_real_bits),
+    ("mvcc_add_text", add_text),
+    ("mvcc_add_bool", add_bool),
+    ("mvcc_add_vector", add_vector),
+];
+
+/// A body: the one being built, cut, lengthened or spoiled, or any bytes.
+pub fn any_body(world: &mut World) -> Area<u8> {
+    let mut bytes = world.body.bytes().to_vec();
+    let len = match world.random.below(6) {
+        0 => world.random.below(40),
+        1 => world.random.below(PAGE_SIZE + 200),
+        2 => (world.building.at as usize).min(PAGE_SIZE),
+        _ => PAGE_SIZE,
+    };
+    bytes.resize(len, 0);
+    match world.random.below(5) {
+        0 => world.random.fill(&mut bytes),
+        1 if len > 0 => {
+            let at = world.random.below(len.min(200));
+            bytes[at] = world.random.next() as u8;
+        }
+        2 if len > 18 => world.random.fill(&mut bytes[16..]),
+        _ => {}
+    }
+    world.slice(&bytes)
+}
+
+/// A cursor into a body: mostly where something begins.
+fn cursor(world: &mut World) -> usize {
+    match world.random.below(6) {
+        0 => world.random.number() as usize,
+        1 => world.random.below(200),
+        2 => 18,
+        _ => world.random.pick(&world.begins),
+    }
+}
+
+/// A text's place is inside the body.
+fn text_inside(world: &mut World, export: &str, text: TextPlace, body: &Area<u8>) {
+    world.inside(export, text.start, text.len, body.bytes().len());
+}
+
+/// What a value tells stands inside the body.
+fn value_inside(world: &mut World, export: &str, value: &sys::Value, body: &Area<u8>) {
+    let bytes = match value.tag {
+        3 => value.place.len,
+        5 => value.place.len.saturating_mul(4),
+        _ => return,
+    };
+    world.inside(export, value.place.start, bytes, body.bytes().len());
+}
+
+fn decode(world: &mut World, export: &'static str) {
+    let mut body = any_body(world);
+    let lent = body.lend_own();
+    let answer = unsafe { sys::lateenbael_mvcc_decode(lent.at, lent.len) };
+    world.end(export, answer.refusal, true, &Writes::default());
+    if answer.refusal == 0 {
+        world.inside(export, answer.end, 0, lent.len);
+    }
+    world.unaltered(export, &body);
+}
+
+fn decode_record(world: &mut World, export: &'static str) {
+    let mut body = any_body(world);
+    let at = cursor(world);
+    let lent = body.lend_own();
+    let answer = unsafe { sys::lateenbael_mvcc_decode_record(lent.at, lent.len, at) };
+    world.end(export, answer.refusal, true, &Writes::default());
+    if answer.refusal == 0 {
+        world.inside(export, answer.next, 0, lent.len);
+        text_inside(world, export, answer.table, &body);
+    }
+    world.unaltered(export, &body);
+}
+
+fn decode_column(world: &mut World, export: &'static str) {
+    let mut body = any_body(world);
+    let at = cursor(world);
+    let lent = body.lend_own();
+    let answer = unsafe { sys::lateenbael_mvcc_decode_column(lent.at, lent.len, at) };
+    world.end(export, answer.refusal, true, &Writes::default());
+    if answer.refusal == 0 {
+        world.inside(export, answer.next, 0, lent.len);
+        text_inside(world, export, answer.name, &body);
+        value_inside(world, export, &answer.value, &body);
+    }
+    world.unaltered(export, &body);
+}
+
+fn decode_value(world: &mut World, export: &'static str) {
+    let mut body = any_body(world);
+    let at = cursor(world);
+    let lent = body.lend_own();
+    let answer = unsafe { sys::lateenbael_mvcc_decode_value(lent.at, lent.len, at) };
+    world.end(export, answer.refusal, true, &Writes::default());
+    if answer.refusal == 0 {
+        world.inside(export, answer.next, 0, lent.len);
+        value_inside(world, export, &answer.value, &body);
+    }
+    world.unaltered(export, &body);
+}
+
+fn vector_bits(world: &mut World, export: &'static str) {
+    let mut body = any_body(world);
+    let (first, count, index) = (cursor(world), cursor(world), cursor(world));
+    let lent = body.lend_own();
+    unsafe { sys::lateenbael_mvcc_vector_bits(lent.at, lent.len, first, count, index) };
+    world.end(export, 0, true, &Writes::default());
+    world.unaltered(export, &body);
+}
+
+fn canonicalize(world: &mut World, export: &'static str) {
+    let mut body = any_body(world);
+    let mut out = world.slice(&[0x55; PAGE_SIZE]);
+    let lent = body.lend_own();
+    let to = out.lend(&mut world.random);
+    let refusal = unsafe { sys::lateenbael_mvcc_canonicalize(lent.at, lent.len, to.at, to.len) };
+    world.end(export, refusal, to.right, &Writes::default());
+    if refusal == 0 {
+        out.adopt(&out.all());
+    }
+    world.unaltered(export, &out);
+    world.unaltered(export, &body);
+}
+
+/// A call that builds: it is lent the body, and gives what it has become.
+fn build(
+    world: &mut World,
+    export: &'static str,
+    call: impl FnOnce(&mut World, *mut u8, usize) -> Building,
+) {
+    let lent = world.body.lend(&mut world.random);
+    let building = call(world, lent.at, lent.len);
+    world.end(export, building.refusal, lent.right, &Writes::default());
+    if building.refusal == 0 {
+        world.body.adopt(&world.body.all());
+        world.building = building;
+        world.inside(export, building.at as usize, 0, PAGE_SIZE);
+    } else {
+        let refusal = building.refusal;
+        if building
+            != (Building {
+                refusal,
+                ..NO_BUILDING
+            })
+        {
+            world.tally.fault(export, "refused with a batch");
+        }
+        if !world.body.holds(&world.body.all()) {
+            world.tally.fault(export, "a refused call altered the body");
+            world.body.adopt(&world.body.all());
+        }
+    }
+}
+
+fn start(world: &mut World, export: &'static str) {
+    build(world, export, |world, at, len| {
+        let commit_ts = world.random.number();
+        unsafe { sys::lateenbael_mvcc_start(at, len, commit_ts) }
+    });
+}
+
+/// A name or text: mostly short and UTF-8.
+fn text(world: &mut World) -> Area<u8> {
+    let len = match world.random.below(20) {
+        0 => world.random.below(5_000),
+        1 => 65_536 + world.random.below(10),
+        2 => 0,
+        _ => world.random.below(20),
+    };
+    let mut bytes = vec![b'a'; len];
+    if world.random.percent(20) {
+        world.random.fill(&mut bytes);
+    }
+    world.slice(&bytes)
+}
+
+/// A call that adds with a name.
+fn add(
+    world: &mut World,
+    export: &'static str,
+    call: impl FnOnce(&mut World, *mut u8, usize, Building, *const u8, usize) -> Building,
+) {
+    let mut name = text(world);
+    let building = forge::building(&mut world.random, world.building);
+    let lent = name.lend_own();
+    // The record or column, and a column's value.
+    let begin = building.at as usize;
+    let k = world.random.below(world.begins.len() / 2) * 2;
+    world.begins[k] = begin;
+    world.begins[k + 1] = begin.saturating_add(2 + lent.len);
+    build(world, export, |world, at, len| {
+        call(world, at, len, building, lent.at, lent.len)
+    });
+    world.unaltered(export, &name);
+}
+
+fn add_tombstone(world: &mut World, export: &'static str) {
+    add(world, export, |world, at, len, building, name, name_len| {
+        let rowid = world.random.number() as i64;
+        unsafe { sys::lateenbael_mvcc_add_tombstone(at, len, building, name, name_len, rowid) }
+    });
+}
+
+fn begin_present(world: &mut World, export: &'static str) {
+    add(world, export, |world, at, len, building, name, name_len| {
+        let rowid = world.random.number() as i64;
+        unsafe { sys::lateenbael_mvcc_begin_present(at, len, building, name, name_len, rowid) }
+    });
+}
+
+fn add_null(world: &mut World, export: &'static str) {
+    add(
+        world,
+        export,
+        |_, at, len, building, name, name_len| unsafe {
+            sys::lateenbael_mvcc_add_null(at, len, building, name, name_len)
+        },
+    );
+}
+
+fn add_integer(world: &mut World, export: &'static str) {
+    add(world, export, |world, at, len, building, name, name_len| {
+        let value = world.random.number() as i64;
+        unsafe { sys::lateenbael_mvcc_add_integer(at, len, building, name, name_len, value) }
+    });
+}
+
+fn add_real_bits(world: &mut World, export: &'static str) {
+    add(world, export, |world, at, len, building, name, name_len| {
+        let bits = world.random.number();
+        unsafe { sys::lateenbael_mvcc_add_real_bits(at, len, building, name, name_len, bits) }
+    });
+}
+
+fn add_bool(world: &mut World, export: &'static str) {
+    add(world, export, |world, at, len, building, name, name_len| {
+        let value = world.random.number() as u32;
+        unsafe { sys::lateenbael_mvcc_add_bool(at, len, building, name, name_len, value) }
+    });
+}
+
+fn add_text(world: &mut World, export: &'static str) {
+    let mut value = text(world);
+    let lent = value.lend_own();
+    add(
+        world,
+        export,
+        |_, at, len, building, name, name_len| unsafe {
+            sys::lateenbael_mvcc_add_text(at, len, building, name, name_len, lent.at, lent.len)
+        },
+    );
+    world.unaltered(export, &value);
+}
+
+fn add_vector(world: &mut World, export: &'static str) {
+    let mut value = text(world);
+    let lent = value.lend_own();
+    add(
+        world,
+        export,
+        |_, at, len, building, name, name_len| unsafe {
+            sys::lateenbael_mvcc_add_vector(at, len, building, name, name_len, lent.at, lent.len)
+        },
+    );
+    world.unaltered(export, &value);
+}

@@ -1,0 +1,108 @@
+//! A batch printed by the port's own decoders, through the C interface.
+
+use lateenbael::sys;
+use lists::hex;
+
+use crate::side::Recovered;
+
+/// The number of a body's records, or the refusal's number.
+pub fn records(body: &[u8]) -> Result<usize, u32> {
+    let batch = decoded(body);
+    match batch.refusal {
+        0 => Ok(batch.records),
+        number => Err(number),
+    }
+}
+
+fn decoded(body: &[u8]) -> sys::Batch {
+    // Safety: the body is lent whole, and only read.
+    unsafe { sys::lateenbael_mvcc_decode(body.as_ptr(), body.len()) }
+}
+
+/// A body that decodes, printed.
+pub fn printed(body: &[u8]) -> Recovered {
+    let batch = decoded(body);
+    assert_eq!(batch.refusal, 0, "a recovered batch decodes");
+    let mut lines = vec![format!("batch {} {}", batch.commit_ts, batch.records)];
+    let mut at = 18;
+    for index in 0..batch.records {
+        at = record(body, index, at, &mut lines);
+    }
+    let mut encoded = vec![0xee; sys::PAGE_SIZE];
+    // Safety: the body is lent whole and only read, the buffer is written.
+    let refusal = unsafe {
+        let (out, length) = (encoded.as_mut_ptr(), encoded.len());
+        sys::lateenbael_mvcc_canonicalize(body.as_ptr(), body.len(), out, length)
+    };
+    assert_eq!(refusal, 0, "a recovered batch can be written");
+    lines.push(format!("encoded {}", hex::digits(&encoded)));
+    Recovered {
+        time: batch.commit_ts,
+        records: batch.records,
+        lines,
+        encoded,
+    }
+}
+
+/// Prints a record and its columns; answers the next one's cursor.
+fn record(body: &[u8], index: usize, at: usize, lines: &mut Vec<String>) -> usize {
+    // Safety: the body is lent whole, and only read.
+    let record = unsafe { sys::lateenbael_mvcc_decode_record(body.as_ptr(), body.len(), at) };
+    assert_eq!(record.refusal, 0, "a record of a batch that decodes");
+    let table = text(body, record.table);
+    let (kind, count) = match record.op {
+        0 => ("tombstone", String::new()),
+        _ => ("present", format!(" {}", record.count)),
+    };
+    lines.push(format!(
+        "record {index} {kind} {table} {}{count}",
+        record.rowid
+    ));
+    let mut at = record.first;
+    for index in 0..record.count {
+        // Safety: as above.
+        let column = unsafe { sys::lateenbael_mvcc_decode_column(body.as_ptr(), body.len(), at) };
+        assert_eq!(column.refusal, 0, "a column of a batch that decodes");
+        let name = text(body, column.name);
+        lines.push(format!(
+            "column {index} {name} {}",
+            value(body, &column.value)
+        ));
+        at = column.next;
+    }
+    record.next
+}
+
+fn value(body: &[u8], value: &sys::Value) -> String {
+    match value.tag {
+        0 => "null".to_string(),
+        1 => format!("integer {}", value.integer),
+        2 => format!("real {:016x}", value.bits),
+        3 => format!("text {}", text(body, value.place)),
+        4 => format!("bool {}", value.flag != 0),
+        5 => {
+            let elements = (0..value.place.len).map(|index| element(body, value.place, index));
+            format!("vector {}{}", value.place.len, elements.collect::<String>())
+        }
+        tag => format!("tag {tag}"),
+    }
+}
+
+fn element(body: &[u8], vector: sys::TextPlace, index: usize) -> String {
+    // Safety: the body is lent whole, and only read.
+    let element = unsafe {
+        let (start, count) = (vector.start, vector.len);
+        sys::lateenbael_mvcc_vector_bits(body.as_ptr(), body.len(), start, count, index)
+    };
+    match element.found {
+        0 => " -".to_string(),
+        _ => format!(" {:08x}", element.bits),
+    }
+}
+
+fn text(body: &[u8], place: sys::TextPlace) -> String {
+    match &body[place.start..place.start + place.len] {
+        [] => "-".to_string(),
+        bytes => hex::digits(bytes),
+    }
+}

@@ -1,0 +1,94 @@
+//! Page numbers, page contents, headers and batch bodies.
+
+use engine::sql::pager::header::DbHeader;
+use lists::batch::at_random;
+
+use super::Draw;
+use crate::call::Call;
+use crate::spec::Spec;
+
+impl Draw {
+    /// A page to stage or read, mostly below the count.
+    pub(super) fn page(&mut self, count: u32) -> u32 {
+        let below = self.random.below(count.max(2) as usize) as u32;
+        let behind = count.saturating_add(self.random.below(4) as u32);
+        match self.random.below(120) {
+            0..70 => below.max(1),
+            70..90 => behind,
+            90..96 => 0,
+            96..102 => 1_023 - self.random.below(3) as u32,
+            102..117 => self.random.below(1_024) as u32,
+            _ => self.random.pick(&[1_024, 1_025, 65_536, u32::MAX]),
+        }
+    }
+
+    /// Few contents, so that pages are often staged with the bytes they have.
+    pub(super) fn content(&mut self) -> Spec {
+        match self.random.below(40) {
+            0..20 => Spec::Seed(1 + self.random.below(4) as u64),
+            20..26 => Spec::Seed(0),
+            26..30 => Spec::Seed(self.random.u64()),
+            30..34 => Spec::Fill(self.random.u8()),
+            34..37 => Spec::Header(self.header(2)),
+            _ => {
+                let length = self.random.pick(&[0, 1, 31, 500, 4_096, 4_097]);
+                Spec::Inline(self.random.bytes(length))
+            }
+        }
+    }
+
+    /// A header that can be committed.
+    pub(super) fn header(&mut self, page_count: u32) -> DbHeader {
+        let any = self.random.u32();
+        DbHeader {
+            page_count,
+            schema_root_page: self.random.pick(&[0, 1, 1, 1, 2, any]),
+            format_version: self.random.pick(&[4, 4, 4, 5, 6]),
+            freelist_head: self.random.pick(&[0, 0, 0, 3, any]),
+        }
+    }
+
+    /// A header that can't.
+    pub(super) fn bad_header(&mut self, page_count: u32) -> DbHeader {
+        let mut header = self.header(page_count);
+        let kind = self.random.below(3);
+        if kind != 1 {
+            header.page_count = self.random.pick(&[0, 0, 1_025, 1_026, u32::MAX]);
+        }
+        if kind != 0 {
+            header.format_version = self.random.pick(&[0, 3, 7, 8, 260, u16::MAX]);
+        }
+        header
+    }
+
+    /// A batch's bytes, good in half of the cases.
+    pub(super) fn body(&mut self) -> Vec<u8> {
+        match self.random.below(24) {
+            0 => self.random.bytes(17),
+            1 => b"MVCC0001\0\0\0\0\0\0\0\0\0\0".to_vec(),
+            2 => b"MVCC0002\0\0\0\0\0\0\0\0\0\0".to_vec(),
+            3 => vec![0; self.random.pick(&[0, 18, 4_096])],
+            4 => self.random.bytes(4_097),
+            5 => tombstones(self.random.pick(&[369, 370, 371])),
+            way => at_random::bytes(&mut self.random, way % 6),
+        }
+    }
+
+    pub(super) fn batch(&mut self) -> Call {
+        let body = Spec::Inline(self.body());
+        match self.random.below(3) {
+            0 => Call::BatchRaw(body),
+            1 if self.one_in(8) => Call::Batch(self.content()),
+            _ => Call::Batch(body),
+        }
+    }
+}
+
+/// So many tombstones with empty table names, as far as they fit.
+fn tombstones(count: u16) -> Vec<u8> {
+    let heading = [&b"MVCC0001\x09\0\0\0\0\0\0\0"[..], &count.to_le_bytes()];
+    let mut body = heading.concat();
+    body.resize(18 + 11 * usize::from(count), 0);
+    body.truncate(4_096);
+    body
+}

@@ -1,0 +1,197 @@
+//! What the random lists have reached, so that a run shows its worth.
+
+use std::collections::BTreeMap;
+use std::fmt::{self, Display, Formatter};
+
+use super::draw::Theme;
+use super::view::View;
+use crate::call::{Call, Edit, Opening};
+use crate::port::Probe;
+use crate::run::Outcome;
+use crate::side::{Area, CutStore};
+
+#[derive(Default)]
+pub struct Tally {
+    pub calls: u64,
+    /// Calls by name and result, and cases.
+    found: BTreeMap<String, u64>,
+    /// A plain opening found unsealed frames, which nothing has ended since;
+    /// a commit has sealed them.
+    tail: bool,
+    sealed: bool,
+}
+
+impl Tally {
+    pub fn begin(&mut self, theme: Theme) {
+        self.case(&format!("list, {theme:?}"));
+        self.tail = false;
+        self.sealed = false;
+    }
+
+    pub fn end(&mut self, probe: &Probe) {
+        let found = &mut self.found;
+        found.insert("case: busy store asked".to_string(), probe.asked);
+        found.insert(
+            "case: commit or fold in one call, too".to_string(),
+            probe.twice,
+        );
+    }
+
+    /// How often a case was reached.
+    pub fn of(&self, name: &str) -> u64 {
+        self.found.get(name).copied().unwrap_or(0)
+    }
+
+    fn case(&mut self, name: &str) {
+        *self.found.entry(format!("case: {name}")).or_insert(0) += 1;
+    }
+
+    fn case_if(&mut self, is: bool, name: &str) {
+        if is {
+            self.case(name);
+        }
+    }
+
+    pub fn add(&mut self, before: &View, call: &Call, outcome: &Outcome, after: &View) {
+        self.calls += 1;
+        let name = match call {
+            Call::Open(opening) => format!("open {opening}"),
+            call => call.name().to_string(),
+        };
+        let kind = kind_of(&outcome.result);
+        *self.found.entry(format!("call: {name}{kind}")).or_insert(0) += 1;
+        if let Some(cut) = &outcome.cut {
+            self.cut(call, cut);
+        }
+        match call {
+            Call::Open(opening) if after.open => self.opened(*opening, before, after, outcome),
+            Call::Commit(_) if outcome.result.starts_with("ok") => {
+                self.committed(before, after, outcome);
+            }
+            Call::Fold if !outcome.stores.is_empty() => {
+                self.tail = false;
+                self.case_if(
+                    before.header.page_count == 0,
+                    "fold of no page, main length 0",
+                );
+            }
+            Call::Batches => self.case_if(!outcome.below.is_empty(), "batches, some recovered"),
+            Call::Create => self.tail = false,
+            Call::Edit(edit) => self.edited(edit),
+            _ => {}
+        }
+        self.case_if(
+            after.state.staged == 64 && before.state.staged == 63,
+            "64 pages staged",
+        );
+    }
+
+    fn opened(&mut self, opening: Opening, before: &View, after: &View, outcome: &Outcome) {
+        let how = opening.to_string();
+        let log = after.log.unwrap_or(0);
+        let unsealed = after.commit_point < after.good_end;
+        self.case_if(before.log.is_none(), &format!("open {how}, no log"));
+        self.case_if(unsealed, &format!("open {how}, unsealed frames kept"));
+        self.case_if(
+            log > after.good_end,
+            &format!("open {how}, torn or bad tail kept"),
+        );
+        let cut = before.log.is_some_and(|before| before > log);
+        self.case_if(cut, "open clean, tail cut off");
+        self.case_if(after.header.page_count == 0, "open, page count 0");
+        self.case_if(after.header.page_count == 1_024, "open, page count 1,024");
+        self.case_if(after.state.frames >= 100, "open, 100 frames or more");
+        let fresh = outcome.stores.len() > 1;
+        self.case_if(fresh, "open, log made");
+        self.case_if(
+            self.tail && self.sealed && !fresh,
+            "open, after a commit sealed an old tail",
+        );
+        self.tail = opening == Opening::ReadWrite && unsealed && log == after.good_end;
+        self.sealed = false;
+    }
+
+    fn committed(&mut self, before: &View, after: &View, outcome: &Outcome) {
+        let frames = outcome.stores.iter();
+        let frames = frames.filter(|store| store.length == 4_112).count();
+        let folded = outcome.result.ends_with("folded");
+        let (kept, count) = (!folded, before.state.frames + frames);
+        self.case_if(kept && count == 99, "commit to 99 frames, kept");
+        self.case_if(folded && count == 100, "commit to 100 frames, folded");
+        self.case_if(
+            folded && count > 100,
+            "commit to more than 100 frames, folded",
+        );
+        let (old, new) = (before.header.page_count, after.header.page_count);
+        self.case_if(new > old, "commit, growing");
+        self.case_if(old == 0, "commit, growing from no page");
+        self.case_if(new < old, "commit, shrinking");
+        self.case_if(new == 1_024, "commit to 1,024 pages");
+        self.case_if(frames == 1, "commit of no differing page");
+        self.case_if(frames == 65, "commit of 64 differing pages");
+        self.case_if(
+            frames - 1 < before.state.staged,
+            "commit, a staged page not differing",
+        );
+        let torn = before.log.is_some_and(|log| log > before.good_end);
+        self.case_if(torn, "commit behind a torn or bad tail");
+        self.case_if(kept && self.tail, "commit seals an old tail");
+        self.sealed |= kept;
+        self.tail &= kept;
+        let behind = after.state.log_pages > new as usize;
+        self.case_if(behind, "commit, pages at or above the count in the log");
+        let length = after.log.unwrap_or(0);
+        self.case_if(length > 4_210_720 - 4_112, "commit, the log's area full");
+    }
+
+    fn edited(&mut self, edit: &Edit) {
+        let name = match edit {
+            Edit::Frame(u32::MAX, 0, _) => "frame, a batch",
+            Edit::Frame(u32::MAX, ..) => "frame, a batch, with a count",
+            Edit::Frame(page, ..) if *page >= 1_024 => "frame, page above 1,023",
+            Edit::Frame(0, ..) => "frame, page 0",
+            Edit::Frame(_, 0, _) => "frame, a page",
+            Edit::Frame(..) => "frame, a page, sealing",
+            _ => return,
+        };
+        self.case(name);
+    }
+
+    fn cut(&mut self, call: &Call, cut: &CutStore) {
+        let CutStore { store, bytes, .. } = cut;
+        let kind = match (store.area, store.length) {
+            (area, 0) => format!("{} length", area.name()),
+            (Area::Log, 32) => "log header".to_string(),
+            (Area::Log, _) => "frame".to_string(),
+            (Area::Main, _) if store.first == 0 => "main header".to_string(),
+            (Area::Main, _) => "main page".to_string(),
+        };
+        let part = match *bytes {
+            0 => "none",
+            bytes if bytes == store.length.max(1) => "whole",
+            _ => "part",
+        };
+        self.case(&format!("cut in {}, {kind}, {part}", call.name()));
+    }
+}
+
+/// What is told of a result: that it is a refusal, and which; or how a
+/// commit ended.
+fn kind_of(result: &str) -> String {
+    let words: Vec<_> = result.split(' ').collect();
+    match words[..] {
+        ["refused", number, ..] => format!(", refused {number}"),
+        ["ok", _, kept] => format!(", {kept}"),
+        ["cut" | "closed" | "open" | "none"] => format!(", {result}"),
+        _ => String::new(),
+    }
+}
+
+impl Display for Tally {
+    fn fmt(&self, f: &mut Formatter<'_>) -> fmt::Result {
+        for (name, count) in &self.found {
+            writeln!(f, "{count:9} {name}")?;
+        }
+        Ok(())
+    }
+}

@@ -1,0 +1,319 @@
+//! The Rust: the published pager over the stand-in's files. What document 01
+//! adds by design is put before it, by as little as is needed.
+
+mod book;
+mod judge;
+
+use engine::error::{Result, SQLRiteError};
+use engine::mvcc::MvccCommitBatch;
+use engine::sql::pager::header::DbHeader;
+use engine::sql::pager::pager::{AccessMode, Pager};
+use engine::sql::pager::wal::Wal;
+use lists::{batch, hex, log};
+use stand_in::fs::OpenOptions;
+use stand_in::path::Path;
+use stand_in::world;
+
+use crate::call::{Edit, Opening};
+use crate::side::{Act, Answer, Area, Cut, CutStore, Named, Recovered, Side, State, Stored};
+use book::{Book, Pages};
+
+/// One to a thread, since the world is the thread's.
+#[derive(Default)]
+pub struct Rust {
+    pager: Option<Pager>,
+    book: Book,
+}
+
+fn path(area: Area) -> Path {
+    Path::from(area.file())
+}
+
+fn length_of(area: Area) -> usize {
+    world::look_at(&path(area), |file| file.map_or(0, <[u8]>::len))
+}
+
+fn main_file() -> Vec<u8> {
+    world::read_file(&path(Area::Main)).unwrap_or_default()
+}
+
+impl Rust {
+    pub fn new() -> Self {
+        Self::default()
+    }
+
+    fn open_pager(&self) -> &Pager {
+        self.pager.as_ref().expect("a store is open")
+    }
+
+    fn create(&mut self) -> Answer<usize> {
+        let pager = Pager::create(&path(Area::Main)).map_err(|error| judge::of_call(&error))?;
+        self.pager = Some(pager);
+        self.book = Book::opened(Pages::new(), &main_file(), 2);
+        Ok(0)
+    }
+
+    /// Plain opening is the Rust's. "A clean opening, read-write only, cuts
+    /// the log at the commit point": it is judged by a read-only opening,
+    /// which stores nothing; then the log is cut and opened plainly.
+    fn open(&mut self, opening: Opening) -> Answer<usize> {
+        let main = main_file();
+        judge::before_opening(&main, length_of(Area::Log))?;
+        if opening == Opening::Clean && path(Area::Log).exists() {
+            let judged = opened(AccessMode::ReadOnly, &main)?;
+            cut_at_commit_point(&judged).map_err(|error| judge::of_call(&error))?;
+        }
+        let mode = match opening {
+            Opening::ReadOnly => AccessMode::ReadOnly,
+            Opening::ReadWrite | Opening::Clean => AccessMode::ReadWrite,
+        };
+        let pager = opened(mode, &main)?;
+        let count = judge::main_header(&main).map_or(0, |header| header.page_count);
+        self.book = Book::opened(log_pages(), &main, count);
+        self.pager = Some(pager);
+        Ok(0)
+    }
+
+    fn batch(&mut self, body: &[u8]) -> Answer<usize> {
+        let pager = self.pager.as_mut().expect("a store is open");
+        let read_only = pager.access_mode() == AccessMode::ReadOnly;
+        let batch = judge::of_batch(body, read_only, length_of(Area::Log))?;
+        let appended = pager.append_mvcc_batch(&batch);
+        appended.map_err(|error| judge::of_call(&error))?;
+        Ok(batch.records.len())
+    }
+
+    /// The Rust itself refuses a read-only commit (10), before all else.
+    fn commit(&mut self, header: DbHeader) -> Answer<usize> {
+        let pager = self.pager.as_mut().expect("a store is open");
+        if pager.access_mode() == AccessMode::ReadWrite {
+            let log = length_of(Area::Log);
+            judge::of_commit(&self.book, pager.header(), header, log)?;
+        }
+        let answer = pager.commit(header);
+        let answer = answer.map_err(|error| judge::of_call(&error))?;
+        assert_eq!(answer, self.book.differing(), "the judge's own count");
+        self.book.commit(&header);
+        if Told::by(pager).frames == 0 {
+            self.book.fold(header.page_count);
+        }
+        Ok(answer)
+    }
+
+    fn fold(&mut self) -> Answer<usize> {
+        let pager = self.pager.as_mut().expect("a store is open");
+        let frames = Told::by(pager).frames;
+        let answer = pager.checkpoint();
+        let answer = answer.map_err(|error| judge::of_call(&error))?;
+        if frames > 0 {
+            self.book.fold(pager.header().page_count);
+        }
+        Ok(answer)
+    }
+}
+
+fn opened(mode: AccessMode, main: &[u8]) -> Answer<Pager> {
+    let pager = Pager::open_with_mode(&path(Area::Main), mode);
+    let pager = pager.map_err(|error| judge::of_opening(&error, main))?;
+    judge::after_opening(pager.header())?;
+    Ok(pager)
+}
+
+/// The one store of a clean opening, and a flush (DECISIONS.md, 38).
+fn cut_at_commit_point(judged: &Pager) -> Result<()> {
+    let frames = Told::by(judged).frames;
+    let point = world::look_at(&path(Area::Log), |log| {
+        judge::commit_point(log.unwrap_or_default(), frames)
+    });
+    let log = OpenOptions::new()
+        .read(true)
+        .write(true)
+        .open(&path(Area::Log));
+    let cut = log.and_then(|log| log.set_len(point as u64).and_then(|()| log.sync_all()));
+    cut.map_err(SQLRiteError::from)
+}
+
+/// The log's pages as the pager gets them.
+fn log_pages() -> Pages {
+    let mut pages = Pages::new();
+    if path(Area::Log).exists() {
+        Wal::open_with_mode(&path(Area::Log), AccessMode::ReadOnly)
+            .and_then(|mut wal| wal.load_committed_into(&mut pages))
+            .expect("the pager has opened it");
+    }
+    pages
+}
+
+/// What the pager tells of itself for debugging.
+struct Told {
+    frames: usize,
+    log_pages: usize,
+    main_pages: usize,
+    staged: usize,
+}
+
+impl Told {
+    fn by(pager: &Pager) -> Self {
+        let text = format!("{pager:?}");
+        let number = |name: &str| {
+            let (_, after) = text.split_once(name).expect("the field is told");
+            let digits = after.split([',', ' ']).next().expect("a number");
+            digits.parse().expect("a number")
+        };
+        Self {
+            frames: number("wal_frames: "),
+            log_pages: number("wal_pages: "),
+            main_pages: number("cached_pages: "),
+            staged: number("staged_pages: "),
+        }
+    }
+}
+
+impl Side for Rust {
+    fn reset(&mut self) {
+        self.close();
+        world::reset();
+    }
+
+    fn queue_salt(&mut self, salt: u32) {
+        world::queue_salt(salt);
+    }
+
+    fn look_at<T>(&self, area: Area, look: impl FnOnce(Option<&[u8]>) -> T) -> T {
+        world::look_at(&path(area), look)
+    }
+
+    fn edit(&mut self, edit: &Edit) {
+        for area in edit.areas() {
+            let mut file = world::read_file(&path(*area));
+            edit.apply(&mut file);
+            match file {
+                Some(bytes) => world::write_file(&path(*area), &bytes),
+                None => world::remove_file(&path(*area)),
+            }
+        }
+    }
+
+    fn list_log(&self) -> String {
+        let log = world::read_file(&path(Area::Log)).unwrap_or_default();
+        match judge::before_listing(&log) {
+            Ok(()) => log::oracle::listed(&log),
+            Err(refused) => refused.to_string(),
+        }
+    }
+
+    fn is_open(&self) -> bool {
+        self.pager.is_some()
+    }
+
+    fn close(&mut self) {
+        self.pager = None;
+    }
+
+    fn store(&mut self, act: Act, cut: Option<Cut>) -> Stored {
+        let call = || match act {
+            Act::Create => self.create(),
+            Act::Open(opening) => self.open(opening),
+            Act::Batch(body) => self.batch(body),
+            Act::Commit(header) => self.commit(header),
+            Act::Fold => self.fold(),
+        };
+        let listed = match cut {
+            None => world::list(call),
+            Some(cut) => world::list_cut(cut, call),
+        };
+        Stored {
+            answer: listed.answer,
+            stores: listed.stores.iter().map(named).collect(),
+            cut: listed.cut.map(|cut| {
+                let store = named(&cut.store);
+                CutStore {
+                    store,
+                    bytes: cut.bytes as usize,
+                    file: length_of(store.area),
+                }
+            }),
+        }
+    }
+
+    fn stage(&mut self, page: u32, bytes: &[u8]) -> Answer<()> {
+        judge::of_staging(&self.book, page, bytes)?;
+        let bytes = book::page_of(bytes);
+        let pager = self.pager.as_mut().expect("a store is open");
+        pager.stage_page(page, *bytes);
+        self.book.staged.insert(page, bytes);
+        Ok(())
+    }
+
+    fn clear(&mut self) {
+        self.pager.as_mut().expect("a store is open").clear_staged();
+        self.book.staged.clear();
+    }
+
+    fn observe_clock(&mut self, value: u64) -> u64 {
+        let pager = self.pager.as_mut().expect("a store is open");
+        let observed = pager.observe_clock_high_water(value);
+        observed.expect("a lower one is ignored");
+        pager.clock_high_water()
+    }
+
+    fn read(&self, page: u32) -> Option<&[u8]> {
+        self.open_pager().read_page(page).map(|bytes| &bytes[..])
+    }
+
+    fn header(&self) -> DbHeader {
+        self.open_pager().header()
+    }
+
+    /// "L: pages from 0 to 1,023 that the log has": the Rust's map may have
+    /// others, which no call can reach.
+    fn state(&self) -> State {
+        let pager = self.open_pager();
+        let told = Told::by(pager);
+        assert_eq!(told.log_pages, self.book.log.len(), "the judge's own book");
+        assert_eq!(
+            told.main_pages,
+            self.book.main.len(),
+            "the judge's own book"
+        );
+        assert_eq!(told.staged, self.book.staged.len(), "the judge's own book");
+        let reachable = self.book.log.keys().filter(|page| **page < 1_024);
+        State {
+            frames: told.frames,
+            log_pages: reachable.count(),
+            main_pages: told.main_pages,
+            staged: told.staged,
+            clock: pager.clock_high_water(),
+        }
+    }
+
+    fn recovered(&self) -> Vec<Recovered> {
+        let batches = self.open_pager().recovered_mvcc_commits();
+        batches.iter().map(recovered).collect()
+    }
+}
+
+fn recovered(batch: &MvccCommitBatch) -> Recovered {
+    let encoded = batch.encode().expect("it came out of a body");
+    let mut lines = batch::print::lines(batch);
+    lines.push(format!("encoded {}", hex::digits(&encoded[..])));
+    Recovered {
+        time: batch.commit_ts,
+        records: batch.records.len(),
+        lines,
+        encoded: encoded.to_vec(),
+    }
+}
+
+fn named(store: &world::Store) -> Named {
+    let area = match store.file == path(Area::Main) {
+        true => Area::Main,
+        false => Area::Log,
+    };
+    Named {
+        area,
+        first: store.first as usize,
+        length: store.length as usize,
+        flush: store.flush,
+    }
+}
