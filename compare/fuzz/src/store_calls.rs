@@ -23,7 +23,6 @@ pub const CALLS: [Call; 18] = [
     ("clock_high_water", clock_high_water),
     ("observe_clock_high_water", observe_clock_high_water),
     ("find_page", find_page),
-    ("place_page", place_page),
     ("recovered_mvcc_commits", recovered_mvcc_commits),
     ("stage_page", stage_page),
     ("clear_staged", clear_staged),
@@ -33,6 +32,7 @@ pub const CALLS: [Call; 18] = [
     ("next_step", next_step),
     ("commit", commit),
     ("checkpoint", checkpoint),
+    ("place_page", place_page),
 ];
 
 /// A call over the four areas: what stands before them, and what behind.
