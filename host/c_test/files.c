@@ -101,7 +101,7 @@ static bool killed(const files *f, uint8_t byte, unsigned stores) {
 }
 
 void test_files(void) {
-    char folder[] = "/tmp/lateenbael-c-XXXXXX";
+    char folder[] = "files-XXXXXX";
     CHECK(mkdtemp(folder) != NULL);
     files f = open_both(folder);
     create_on(&f);
