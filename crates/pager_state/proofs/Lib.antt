@@ -1,6 +1,5 @@
 -- The root of the laws of `pager_state`.
 pub mod Slots
-pub mod Blocks
 pub mod Held
 pub mod Searches
 pub mod Stored

@@ -1,25 +1,66 @@
 -- Laws of the search for a staged page's slot.
-use Prim.Native.Nat.{ℕ, suc, _+_, _≤_, _<_, min}
-use mathlib.Core.List.{List}
-use mathlib.Core.Bool.{true}
-use mathlib.Core.Path.{_≡_}
+use Prim.Native.Nat.{ℕ, zero, suc, _+_, _-_, _≤_, _<_, min, max}
+use mathlib.Core.List.{List, [], _∷_}
+use mathlib.Core.Bool.{Bool, true, false}
+use mathlib.Core.Logic.{_⊎_, inl, inr, ⊎-elim}
+use mathlib.Core.Path.{_≡_, refl}
 use native.Mathlib.Omega.{arith}
 use native.Mathlib.Numerals.{add-one}
-use lib.ListN.{length, getD, take, drop, length-take, drop-of-length-le}
-use lib.Seq.{drop-cons, getD-take}
-use borrow.Author.Tests.{eq-eqb, ne-eqb}
+use lib.Dec.{eqb}
+use lib.ListN.{length, getD, take, drop, drop-of-length-le}
+use lib.Seq.{drop-cons}
+use borrow.Author.Tests.{eq-eqb, ne-eqb, eqb-true, eqb-false}
+use Rattle.le.specs.Choice.{pick}
 use Rattle.pager_state.specs.Overlay.{findIn}
+
+-- ---- one number after the other
 
 -- past the end there is nothing
 pub find-end : (l : List ℕ) (i p : ℕ) → length l ≤ i → findIn (drop i l) p ≡ 0
 find-end l i p h = rw (drop-of-length-le l h)
 
-module _ (s : List ℕ) (n i p : ℕ) (hn : i < n) (hs : i < length s) where
-  within : i < length (take n s)
-  within = simp length-take (omega arith)
+module _ (l : List ℕ) (i p : ℕ) (h : i < length l) where
+  pub find-hit : getD l i 0 ≡ p → findIn (drop i l) p ≡ 0
+  find-hit e = rw (drop-cons l i 0 h, eq-eqb _ _ e)
 
-  pub find-hit : getD s i 0 ≡ p → findIn (drop i (take n s)) p ≡ 0
-  find-hit e = rw (drop-cons (take n s) i 0 within, getD-take n s i 0 hn, eq-eqb _ _ e)
+  pub find-miss : (getD l i 0 ≡ p → ⊥) → findIn (drop i l) p ≡ suc (findIn (drop (i + 1) l) p)
+  find-miss e = rw (add-one, drop-cons l i 0 h, ne-eqb _ _ e)
 
-  pub find-miss : (getD s i 0 ≡ p → ⊥) → findIn (drop i (take n s)) p ≡ suc (findIn (drop (i + 1) (take n s)) p)
-  find-miss e = rw (add-one, drop-cons (take n s) i 0 within, getD-take n s i 0 hn, ne-eqb _ _ e)
+-- ---- among the first n
+
+next : (n a b : ℕ) (t : Bool) → a ≡ min n b → pick t 0 (suc a) ≡ min (suc n) (pick t 0 (suc b))
+next n a b true e = omega arith
+next n a b false e = omega arith
+
+pub find-take : (l : List ℕ) (n p : ℕ) → findIn (take n l) p ≡ min n (findIn l p)
+find-take [] zero p = omega arith
+find-take [] (suc n) p = omega arith
+find-take (x ∷ l) zero p = omega arith
+find-take (x ∷ l) (suc n) p = next n (findIn (take n l) p) (findIn l p) (eqb x p) (find-take l n p)
+
+-- ---- 64 numbers, every one looked at
+
+-- b is 0 if the first i lack p, else 64 less the index of the first that is p
+abbrev pub Best : List ℕ → ℕ → ℕ → ℕ → Type 0
+Best l p i b = ((b ≡ 0) × (findIn l p ≡ i + findIn (drop i l) p)) ⊎ ((64 < b + i) × (findIn l p + b ≡ 64))
+
+module _ (l : List ℕ) (p i b w : ℕ) {c d : ℕ} (n : length l ≡ 64) (h : i < 64) (k : w + i ≡ 64) where
+  best-by : (t : Bool) → eqb (getD l i 0) p ≡ t → d ≡ pick t w 0 → c ≡ max b d → Best l p i b → Best l p (i + 1) c
+  best-by true t g e (inl q) =
+      let z = find-hit l i p (omega arith) (eqb-true _ _ t) in
+      inr (omega (arith, q, z), omega (arith, q, z))
+  best-by false t g e (inl q) =
+      let z = find-miss l i p (omega arith) (eqb-false _ _ t) in
+      inl (omega (arith, q, z), omega (arith, q, z))
+  best-by true t g e (inr q) = inr (omega (arith, q), omega (arith, q))
+  best-by false t g e (inr q) = inr (omega (arith, q), omega (arith, q))
+
+  -- one number more
+  pub best-next : d ≡ pick (eqb (getD l i 0) p) w 0 → c ≡ max b d → Best l p i b → Best l p (i + 1) c
+  best-next g e = best-by (eqb (getD l i 0) p) refl g e
+
+pub best-end : (l : List ℕ) (p i b : ℕ) → length l ≡ 64 → 64 ≤ i → i ≤ 64 → Best l p i b → findIn l p + b ≡ 64
+best-end l p i b n h k (inl q) =
+    let z = find-end l i p (omega arith) in
+    omega (arith, q, z)
+best-end l p i b n h k (inr q) = q .1

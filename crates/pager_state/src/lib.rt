@@ -1,11 +1,9 @@
 // The open store: what it holds, and what its calls answer. The definitions of every call are this crate's specs.
 ghost use mathlib.Core.Path.{_≡_};
-ghost use mathlib.Core.Bool.{true};
-ghost use mathlib.Core.List.{List};
-ghost use Prim.Native.Nat.{ℕ, _+_, _≤_, _<_};
+ghost use Prim.Native.Nat.{_+_, min, max};
 ghost use lib.Dec.{leb, eqb};
-ghost use lib.ListN.{length, take, drop, getD};
-ghost use Rattle.le.specs.Choice.{both};
+ghost use lib.ListN.{length, take};
+ghost use Rattle.le.specs.Choice.{pick, both};
 ghost use Rattle.pager_state.specs.World.{busyWith, readOnlyBy, fineIn, fineBy, withJob, withWal};
 ghost use Rattle.pager_state.specs.Overlay.{pageFrom, findIn, slotOf, frameOf, onMain};
 use header::DbHeader;
@@ -397,62 +395,76 @@ fn widen(x: u32) -> usize
     x as usize
 }
 
-fn both(a: bool, b: bool) -> bool
-    ensures { λ r. ⌜ r ≡ both a b ⌝ }
+fn larger(a: u16, b: u16) -> u16
+    ensures { λ r. ⌜ r ≡ max a b ⌝ }
 {
-    if a { b } else { false }
+    if a < b { b } else { a }
 }
 
-// Whether none of 8 numbers from `i` on is p. Every number is looked at: with no way out in between the compiler compares all at once.
-fn lacks_8(s: &[u16], i: usize, p: u16) -> bool
-    requires { ⌜ i + 8 ≤ length (now s) ⌝ }
-    ensures { λ r. ⌜ (r ≡ true → (k : ℕ) → k < 8 → getD (now (s .entry)) (i + k) 0 ≡ p → ⊥) ⌝ }
+fn smaller(a: usize, b: usize) -> usize
+    ensures { λ r. ⌜ r ≡ min a b ⌝ }
 {
-    let mut none = true;
-    let mut k: usize = 0;
-    while k < 8 {
-        none = both(none, s[i + k] != p);
-        k += 1;
+    if b < a { b } else { a }
+}
+
+fn weight(hit: bool, w: u16) -> u16
+    ensures { λ r. ⌜ r ≡ pick hit w 0 ⌝ }
+{
+    if hit { w } else { 0 }
+}
+
+// 64 less the index of the first p among 64 numbers, or 0. Every number is looked at: with no way out in between the compiler
+// compares several at once.
+fn find_of_64(s: &[u16], p: u16) -> u16
+    requires { ⌜ length (now s) ≡ 64 ⌝ }
+    ensures { λ r. ⌜ findIn (now (s .entry)) p + r ≡ 64 ⌝ }
+{
+    let mut best: u16 = 0;
+    let mut left: u16 = 64;
+    let mut i: usize = 0;
+    while i < STAGED_PAGES {
+        best = larger(best, weight(s[i] == p, left));
+        left -= 1;
+        i += 1;
     }
-    none
+    best
 }
 
-// Where to look for p among the first n: behind blocks of 8 that lack it.
-fn look_from(s: &[u16], n: usize, p: usize) -> usize
-    ensures { λ r. ⌜ (r ≤ length (now (s .entry))) × ((r ≤ n) × (findIn (take n (now (s .entry))) p ≡ r + findIn (drop r (take n (now (s .entry)))) p)) ⌝ }
+// The index of the first p, or the length.
+fn find_each(s: &[u16], p: usize) -> usize
+    ensures { λ r. ⌜ r ≡ findIn (now (s .entry)) p ⌝ }
 {
     let mut i = 0;
-    if (u16::MAX as usize) < p {
-        return i;
-    }
-    let number = p as u16;
-    while 8 <= s.len() - i {
-        if n < i + 8 {
-            return i;
-        }
-        if !lacks_8(s, i, number) {
-            return i;
-        }
-        i += 8;
-    }
-    i
-}
-
-// The index of the first p among the first n, or their number.
-pub fn find_in(s: &[u16], n: usize, p: usize) -> usize
-    ensures { λ r. ⌜ r ≡ findIn (take n (now (s .entry))) p ⌝ }
-{
-    let mut i = look_from(s, n, p);
     while i < s.len() {
-        if n <= i {
-            return i;
-        }
         if wide(s[i]) == p {
             return i;
         }
         i += 1;
     }
     i
+}
+
+fn find(s: &[u16], p: usize) -> usize
+    ensures { λ r. ⌜ r ≡ findIn (now (s .entry)) p ⌝ }
+{
+    if s.len() != STAGED_PAGES {
+        return find_each(s, p);
+    }
+    if (u16::MAX as usize) < p {
+        return find_each(s, p);
+    }
+    let found = wide(find_of_64(s, p as u16));
+    STAGED_PAGES - found
+}
+
+// The index of the first p among the first n, or their number.
+pub fn find_in(s: &[u16], n: usize, p: usize) -> usize
+    ensures { λ r. ⌜ r ≡ findIn (take n (now (s .entry))) p ⌝ }
+{
+    if n == 0 {
+        return 0;
+    }
+    smaller(n, find(s, p))
 }
 
 // The slot that has the page, else the next free one.
