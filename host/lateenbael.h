@@ -245,13 +245,17 @@ lateenbael_page_answer lateenbael_find_page(lateenbael_store store, const uint32
                                             size_t log_size, const uint8_t *main, size_t main_size, const uint8_t *staging,
                                             size_t staging_size, uint32_t page_num);
 
-/* The same for hosts that read often, since a whole store is 296 bytes to hand over, with only what a reading takes of it: page_count is
- * current_header.page_count, job is job.kind (any but 0 is refused with 9), log_len is wal.len, main_len is storage.len, and `staged` the
- * first staged.count numbers of staged.pages. */
-lateenbael_page_answer lateenbael_place_page(uint32_t page_count, uint32_t job, size_t log_len, size_t main_len,
-                                             const uint16_t *staged, size_t staged_count, const uint32_t *table, size_t table_entries, const uint8_t *log, size_t log_size,
-                                             const uint8_t *main, size_t main_size, const uint8_t *staging, size_t staging_size,
-                                             uint32_t page_num);
+/* The same in two calls, for hosts that read often: a whole store is 296 bytes to hand over, and its refusals stay what they are until the
+ * next call that gives a store back. may_read answers the refusal that find_page would, or 0: page_count is current_header.page_count, job
+ * is job.kind (any but 0 is refused with 9), log_len is wal.len, main_len is storage.len. */
+uint32_t lateenbael_may_read(uint32_t page_count, uint32_t job, size_t log_len, size_t main_len, const uint32_t *table,
+                             size_t table_entries, const uint8_t *log, size_t log_size, const uint8_t *main, size_t main_size,
+                             const uint8_t *staging, size_t staging_size);
+
+/* Where a page stands, of a store that may_read answers 0 for: staged_count is staged.count, and `staged` is staged.pages, with all its
+ * numbers. Refusal 1 where a made-up table names a place with no whole page behind it. */
+lateenbael_page_answer lateenbael_place_page(uint32_t page_count, uint32_t page_num, size_t staged_count,
+                                             const uint16_t staged[LATEENBAEL_STAGED_PAGES], const uint32_t *table, size_t table_entries);
 
 /* The batches that the opening found sealed, until a fold ends them: the first whose frame has that index or a higher one. Ask for
  * index 0, then for the index answered plus 1. Refusals 1 and 9. */

@@ -37,8 +37,9 @@ static void call_all(host *h, lateenbael_store store, const uint8_t *body) {
     lateenbael_page_answer found = lateenbael_find_page(store, AREAS(h), page);
     const size_t sizes[] = {0, LATEENBAEL_LOG_AREA, LATEENBAEL_MAIN_AREA, LATEENBAEL_STAGING_AREA};
     CHECK(found.area <= LATEENBAEL_AREA_STAGING && (found.area == LATEENBAEL_AREA_NONE || found.at + PAGE <= sizes[found.area]));
-    size_t staged = random_number() % (LATEENBAEL_STAGED_PAGES + 1);
-    found = lateenbael_place_page(READING(&store), store.staged.pages, staged, AREAS(h), page);
+    uint32_t refusal = lateenbael_may_read(READING(&store), AREAS(h));
+    CHECK(refusal == LATEENBAEL_OK || refusal == LATEENBAEL_REFUSED_AREA || refusal == LATEENBAEL_REFUSED_BUSY);
+    found = lateenbael_place_page(store.current_header.page_count, page, store.staged.count, store.staged.pages, h->table, LATEENBAEL_PAGES);
     CHECK(found.area <= LATEENBAEL_AREA_STAGING && (found.area == LATEENBAEL_AREA_NONE || found.at + PAGE <= sizes[found.area]));
     lateenbael_batch_place place = lateenbael_recovered_mvcc_commits(store, h->log, LATEENBAEL_LOG_AREA, (size_t)some_number());
     CHECK(place.found == 0 || place.offset + FRAME <= LATEENBAEL_LOG_AREA);
@@ -64,8 +65,10 @@ static void wrong_lengths(host *h) {
     CHECK(lateenbael_find_page(h->store, h->table, 1023, h->log, LATEENBAEL_LOG_AREA, h->main, LATEENBAEL_MAIN_AREA, h->staging,
                                LATEENBAEL_STAGING_AREA, 1)
               .refusal == LATEENBAEL_REFUSED_AREA);
-    const uint16_t many[LATEENBAEL_STAGED_PAGES + 1] = {0};
-    CHECK(lateenbael_place_page(2, 0, 32, 8192, many, LATEENBAEL_STAGED_PAGES + 1, AREAS(h), 1).refusal == LATEENBAEL_REFUSED_AREA);
+    CHECK(lateenbael_may_read(READING(&h->store), h->table, LATEENBAEL_PAGES, h->log, LATEENBAEL_LOG_AREA, h->main, LATEENBAEL_MAIN_AREA,
+                              h->staging, 0) == LATEENBAEL_REFUSED_AREA);
+    /* A count above the slots that there are. */
+    CHECK(lateenbael_place_page(2, 1, SIZE_MAX, h->store.staged.pages, h->table, LATEENBAEL_PAGES).area == LATEENBAEL_AREA_MAIN);
     CHECK(lateenbael_commit(h->store, h->table, LATEENBAEL_PAGES, h->log, 32, h->main, LATEENBAEL_MAIN_AREA, h->staging,
                             LATEENBAEL_STAGING_AREA, header, 1)
               .refusal == LATEENBAEL_REFUSED_AREA);

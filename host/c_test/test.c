@@ -132,7 +132,11 @@ static bool all_are(const uint8_t *bytes, uint8_t byte) {
 
 lateenbael_page_answer found_in(const host *h, const lateenbael_store *store, uint32_t page) {
     lateenbael_page_answer found = lateenbael_find_page(*store, AREAS(h), page);
-    lateenbael_page_answer placed = lateenbael_place_page(READING(store), store->staged.pages, store->staged.count, AREAS(h), page);
+    lateenbael_page_answer placed = {lateenbael_may_read(READING(store), AREAS(h)), 0, 0};
+    if (placed.refusal == LATEENBAEL_OK) {
+        placed = lateenbael_place_page(store->current_header.page_count, page, store->staged.count, store->staged.pages, h->table,
+                                       LATEENBAEL_PAGES);
+    }
     CHECK(found.refusal == placed.refusal && found.area == placed.area && found.at == placed.at);
     return found;
 }

@@ -34,7 +34,7 @@ bool guards_stand(const host *h);
 #define AREAS(h)                                                                                                                           \
     (h)->table, LATEENBAEL_PAGES, (h)->log, LATEENBAEL_LOG_AREA, (h)->main, LATEENBAEL_MAIN_AREA, (h)->staging, LATEENBAEL_STAGING_AREA
 
-/* What a reading takes of a store, as lateenbael_place_page takes it. */
+/* What a reading takes of a store, as lateenbael_may_read takes it. */
 #define READING(s) (s)->current_header.page_count, (s)->job.kind, (s)->wal.len, (s)->storage.len
 
 /* Two files. */

@@ -55,6 +55,7 @@ macro_rules! called_alike {
     () => {
         type Batch = MvccCommitBatch;
 
+        #[inline]
         fn read(&self, page_num: u32) -> Option<&[u8]> {
             let read = self.called().read_page(page_num);
             read.expect("nothing is part done")

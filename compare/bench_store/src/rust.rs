@@ -47,6 +47,7 @@ macro_rules! pager_of {
                 self.pager = Some(pager.expect("good files"));
             }
 
+            #[inline]
             fn read(&self, page_num: u32) -> Option<&[u8]> {
                 let pager = self.pager.as_ref().expect("it is open");
                 pager.read_page(page_num).map(|page| &page[..])

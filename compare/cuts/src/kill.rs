@@ -283,7 +283,7 @@ impl Killing {
                 law.whole();
             }
         }
-        let header = from_port(&self.engine.store.current_header);
+        let header = from_port(&self.engine.store().current_header);
         Err(format!(
             "acknowledged {last}, found a store with {header} that is no moment's of the next commit: {reason}"
         ))

@@ -99,8 +99,8 @@ fn reopen(
     log: Option<usize>,
     read_only: bool,
 ) -> Result<(), Refusal> {
-    let main = main.unwrap_or(engine.store.storage.len);
-    let log = log.unwrap_or(engine.store.wal.len);
+    let main = main.unwrap_or(engine.store().storage.len);
+    let log = log.unwrap_or(engine.store().wal.len);
     engine.reopen(true, main, Some(log), read_only, 1)
 }
 
@@ -129,7 +129,7 @@ fn bad_open(engine: &mut Engine, fault: Fault, read_only: bool) -> Result<(), Re
         }
         Fault::PageZeroBad => open_with_page_zero(engine, &[7; PAGE], read_only),
         Fault::PageZeroCount(page_count) => {
-            let mut header = from_port(&engine.store.current_header);
+            let mut header = from_port(&engine.store().current_header);
             header.page_count = page_count;
             open_with_page_zero(engine, &encode_header(&header), read_only)
         }
@@ -139,7 +139,7 @@ fn bad_open(engine: &mut Engine, fault: Fault, read_only: bool) -> Result<(), Re
 /// Behind the log's length stands a good frame of page 0 that seals, and the opening is told that
 /// it belongs to the file.
 fn open_with_page_zero(engine: &mut Engine, body: &[u8], read_only: bool) -> Result<(), Refusal> {
-    let len = engine.store.wal.len;
+    let len = engine.store().wal.len;
     let mut heading = [0u32.to_le_bytes(), 2u32.to_le_bytes()].concat();
     heading.extend(&engine.log[16..20]);
     // "Start at 0; for each of 12 heading bytes, then 4,096 body bytes, rotate the 32-bit sum left
@@ -156,20 +156,24 @@ fn short(engine: &mut Engine, lent: Lent, call: &Call) -> Result<Answer, Refused
         let less = vec![T::default(); area.len() - 1];
         std::mem::replace(area, less.into())
     }
-    match lent {
+    let answer = match lent {
         Lent::Table => {
             let whole = without_last(&mut engine.table);
+            engine.judge();
             let answer = run(engine, call);
             engine.table = whole;
             answer
         }
         _ => {
             let whole = without_last(lent_bytes(engine, lent));
+            engine.judge();
             let answer = run(engine, call);
             *lent_bytes(engine, lent) = whole;
             answer
         }
-    }
+    };
+    engine.judge();
+    answer
 }
 
 fn lent_bytes(engine: &mut Engine, lent: Lent) -> &mut Box<[u8]> {

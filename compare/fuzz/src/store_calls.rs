@@ -14,7 +14,7 @@ pub const WAL_HEADER_SIZE: usize = 32;
 const LOG_HEADER: Range<usize> = 0..WAL_HEADER_SIZE;
 
 /// The names of the exports, and what calls them.
-pub const CALLS: [Call; 18] = [
+pub const CALLS: [Call; 19] = [
     ("create", create),
     ("open_with_mode", open),
     ("open_clean", open_clean),
@@ -33,6 +33,7 @@ pub const CALLS: [Call; 18] = [
     ("commit", commit),
     ("checkpoint", checkpoint),
     ("place_page", place_page),
+    ("may_read", may_read),
 ];
 
 /// A call over the four areas: what stands before them, and what behind.
@@ -178,30 +179,39 @@ fn find_page(world: &mut World, export: &'static str) {
     page_inside(world, export, answer);
 }
 
-/// The same of what a reading takes of the store, with any numbers as those of
-/// the staged pages.
+/// Of what a reading takes of the store.
+fn may_read(world: &mut World, export: &'static str) {
+    let (store, _) = world.any_store();
+    let (count, job) = (store.current_header.page_count, store.job.kind);
+    let (log_len, main_len) = (store.wal.len, store.storage.len);
+    let may_read = sys::lateenbael_may_read;
+    let (refusal, right) = over_areas!(world, may_read, [count, job, log_len, main_len], []);
+    world.end(export, refusal, right, &Writes::default());
+}
+
+/// The same, with any number of staged pages, and no more of the table than
+/// there is: its length is not judged.
 fn place_page(world: &mut World, export: &'static str) {
     let (store, _) = world.any_store();
     let page_num = page_num(world);
-    let pages = world.random.below(sys::STAGED_PAGES + 2);
-    let mut staged = [page_num as u16; sys::STAGED_PAGES + 1];
-    staged[..sys::STAGED_PAGES].copy_from_slice(&store.staged.pages);
-    let staged = &staged[..pages];
-    let (count, job) = (store.current_header.page_count, store.job.kind);
-    let (log_len, main_len) = (store.wal.len, store.storage.len);
-    let place = sys::lateenbael_place_page;
-    let (answer, right) = over_areas!(
-        world,
-        place,
-        [count, job, log_len, main_len, staged.as_ptr(), staged.len()],
-        [page_num]
-    );
-    world.end(
-        export,
-        answer.refusal,
-        right && pages <= sys::STAGED_PAGES,
-        &Writes::default(),
-    );
+    let staged_count = match world.random.percent(50) {
+        true => store.staged.count,
+        false => world.random.below(sys::STAGED_PAGES + 2),
+    };
+    // Of its own, so that valgrind sees an access outside.
+    let staged = Box::new(store.staged.pages);
+    let table = world.table.lend(&mut world.random);
+    let answer = unsafe {
+        sys::lateenbael_place_page(
+            store.current_header.page_count,
+            page_num,
+            staged_count,
+            &staged,
+            table.at,
+            table.len.min(sys::PAGES),
+        )
+    };
+    world.end(export, answer.refusal, true, &Writes::default());
     page_inside(world, export, answer);
 }
 

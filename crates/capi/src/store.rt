@@ -9,7 +9,7 @@ ghost use Rattle.pager_state.specs.Batches.{appendBatch, appendAfter, nextRecov
 ghost use Rattle.pager_state.specs.Opening.{create, createTable, createLog, createMain, openPager, openTable, openLogArea};
 ghost use Rattle.pager_state.specs.Steps.{beginCommit, beginCheckpoint, stepAnswer, stepped, commitAnswer, commitWorld, checkpointAnswer, checkpointWorld};
 ghost use Rattle.pager_open.specs.Given.{how, files};
-ghost use Rattle.pager_read.specs.Reading.{reading, placePage};
+ghost use Rattle.pager_read.specs.Reading.{mayRead, placePage, readRefusal};
 ghost use Rattle.capi_numbers.specs.Numbers.{pagerIn};
 ghost use Rattle.capi_answers.specs.Answers.{flagIn, modeIn, createdAs, openedAs, headerAs, modeAs, clockAs, observedAs, foundAs, recoveredAs, stagedAs, clearedAs, appendedAs, commitBegunAs, foldBegunAs, committedAs, writtenAs, steppedAs};
 use capi_answers::Answered;
@@ -20,7 +20,7 @@ use capi_answers::PageAnswer;
 use capi_answers::StepAnswered;
 use capi_numbers::Store;
 use header::DbHeader;
-use pager_read::Reading;
+use pager_read::ReadAnswer;
 
 // ---- creation and openings
 
@@ -158,36 +158,59 @@ pub extern "C" fn lateenbael_find_page(
     ))
 }
 
-// The same, of what a reading takes of the store.
+fn read_refusal(answer: ReadAnswer) -> u32
+    ensures { λ r. ⌜ r ≡ readRefusal answer ⌝ }
+{
+    match answer {
+        ReadAnswer::Allowed => 0,
+        ReadAnswer::Area => 1,
+        ReadAnswer::Busy => 9,
+    }
+}
+
+// The same in two calls, of what a reading takes of the store: its refusals, which stay the same until the store changes, ..
 #[no_mangle]
-pub extern "C" fn lateenbael_place_page(
+pub extern "C" fn lateenbael_may_read(
     page_count: u32,
     job: u32,
     log_len: usize,
     main_len: usize,
-    staged: &[u16],
     table: &[u32],
     log: &[u8],
     main: &[u8],
     staging: &[u8],
-    page_num: u32,
-) -> PageAnswer
-    ensures { λ r. ⌜ r ≡ foundAs (placePage (reading «page_count» job «log_len» «main_len») (now (staged .entry)) (now (table .entry)) (now (log .entry)) (now (main .entry)) (now (staging .entry)) «page_num») ⌝ }
+) -> u32
+    ensures { λ r. ⌜ r ≡ readRefusal (mayRead «page_count» job «log_len» «main_len» (now (table .entry)) (now (log .entry)) (now (main .entry)) (now (staging .entry))) ⌝ }
 {
-    let reading = Reading {
+    read_refusal(pager_read::may_read(
         page_count,
         job,
         log_len,
         main_len,
-    };
-    capi_answers::found_as(pager_read::place_page(
-        reading,
-        staged,
         table,
         log,
         main,
         staging,
+    ))
+}
+
+// .. and a page's place behind them.
+#[no_mangle]
+pub extern "C" fn lateenbael_place_page(
+    page_count: u32,
+    page_num: u32,
+    staged_count: usize,
+    staged: &[u16; 64],
+    table: &[u32],
+) -> PageAnswer
+    ensures { λ r. ⌜ r ≡ foundAs (placePage «page_count» «page_num» «staged_count» (now (staged .entry)) (now (table .entry))) ⌝ }
+{
+    capi_answers::found_as(pager_read::place_page(
+        page_count,
         page_num,
+        staged_count,
+        staged,
+        table,
     ))
 }
 

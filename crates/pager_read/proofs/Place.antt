@@ -1,34 +1,56 @@
--- place_page answers what find_page does, for every store whose slots are those that there are.
-use mathlib.Core.Path.{_≡_, refl}
+-- A page of a store, judged by may_read and found by place_page, is what find_page answers.
+use mathlib.Core.Path.{_≡_, refl, sym, ap, _∙_}
 use mathlib.Core.Bool.{Bool, true, false}
 use mathlib.Core.List.{List}
-use Prim.Native.Nat.{ℕ}
+use Prim.Native.Nat.{ℕ, _*_, _≤_, _<_, min}
 use native.Mathlib.Omega.{arith}
-use lib.Dec.{leb, eqb}
-use lib.ListN.{length, length-take}
-use borrow.Author.Tests.{le-leb}
+use borrow.Author.Tests.{lt-ltb, le-ltb}
+use lib.Dec.{eqb}
+use lib.ListN.{length, take, length-take}
 use Rattle.le.specs.Choice.{pick, both}
-use Rattle.pager_state.specs.World.{world, fine, busyWith, stagedLimit}
-use Rattle.pager_state.specs.Overlay.{stagedPages, slotOf, isStaged, overlay, findPage}
+use Rattle.page.specs.Page.{pageSize}
+use Rattle.pager_state.specs.World.{world, fine, fineBy, stagingFine, busyWith, stagedLimit}
+use Rattle.pager_state.specs.Overlay.{findIn, below, slotOf, isStaged, stagedAt, overlay, findPage}
 use Rattle.pager_state.specs.declared.Pager.{Pager}
+use Rattle.pager_state.specs.declared.Staged.{Staged}
 use Rattle.pager_state.specs.declared.PageFound.{PageFound}
-use Rattle.pager_read.specs.Reading.{readingOf, placePage}
+use Rattle.pager_state.specs.declared.PageFound.the-variants as found
+use Rattle.pager_read.specs.declared.ReadAnswer.the-variants as may
+use Rattle.pager_read.specs.Reading.{mayRead, placePage, readAs, jobTold}
 
-both-true : (a : Bool) → both a true ≡ a
-both-true true = refl
-both-true false = refl
+-- ---- what place_page finds
 
-idle : (b : Bool) (x y : PageFound) → pick (eqb (pick b 1 0) 0) x y ≡ pick b y x
-idle true x y = refl
-idle false x y = refl
+module _ (count n k : ℕ) (s t : List ℕ) (e : length s ≡ stagedLimit) {slot : ℕ} (b : slot ≡ findIn (take k s) n) where
+  slots : length (take k s) ≡ min k stagedLimit
+  slots = length-take k s ∙ ap (min k) e
 
-few : (p : Pager) → length (p .staged .pages) ≡ stagedLimit → leb (length (stagedPages (p .staged))) stagedLimit ≡ true
-few p k =
-    let e = length-take (p .staged .count) (p .staged .pages) in
-    le-leb (length (stagedPages (p .staged))) stagedLimit (omega (arith, e, k))
+  pub placed : slot < k → slot < stagedLimit → found.Staged (pageSize * slot) ≡ placePage count n k s t
+  unfolding placePage
+  placed g h = rw (sym b, slots, lt-ltb slot (min k stagedLimit) (omega arith))
+
+  pub not-placed : {r : PageFound} → min k stagedLimit ≤ slot → r ≡ below count t n → r ≡ placePage count n k s t
+  unfolding placePage
+  not-placed h e = rw (sym b, slots, le-ltb slot (min k stagedLimit) h) e
+
+-- ---- beside find_page
+
+allowed : (a b : Bool) (f : PageFound) → pick a (pick b found.Busy f) found.Area ≡ readAs (pick a (pick (eqb (pick b 1 0) 0) may.Allowed may.Busy) may.Area) f
+allowed false b f = refl
+allowed true true f = refl
+allowed true false f = refl
+
+-- the staged pages of a store
+pub staged-place : (s : Staged) (count : ℕ) (t : List ℕ) (n : ℕ)
+    → placePage count n (s .count) (s .pages) t ≡ pick (isStaged s n) (found.Staged (stagedAt s n)) (below count t n)
+unfolding placePage isStaged slotOf
+staged-place s count t n = refl
 
 pub place-find :
-    (p : Pager) (t l m g : List ℕ) (n : ℕ) → length (p .staged .pages) ≡ stagedLimit
-    → placePage (readingOf p) (stagedPages (p .staged)) t l m g n ≡ findPage (world p t l m) g n
-unfolding placePage findPage fine overlay isStaged slotOf
-place-find p t l m g n k = rw (few p k, both-true _, idle (busyWith (p .job)) _ _)
+    (p : Pager) (t l m g : List ℕ) (n : ℕ)
+    → let count = p .«current_header» .«page_count» in
+    findPage (world p t l m) g n ≡ readAs (mayRead count (jobTold p) (p .wal .len) (p .storage .len) t l m g) (placePage count n (p .staged .count) (p .staged .pages) t)
+unfolding mayRead findPage fine overlay
+place-find p t l m g n =
+    let count = p .«current_header» .«page_count» in
+    rw (sym (staged-place (p .staged) count t n))
+    (allowed (both (fineBy p (length t) (length l) (length m)) (stagingFine g)) (busyWith (p .job)) (placePage count n (p .staged .count) (p .staged .pages) t))

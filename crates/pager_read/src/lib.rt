@@ -1,13 +1,12 @@
 // Reading the open store: its header, access mode and clock, its pages, and the batches that the opening found.
 // A page is read where it lies. Every public function is total.
 ghost use mathlib.Core.Path.{_≡_};
-ghost use Prim.Native.Nat.{min};
 ghost use Rattle.le.specs.Choice.{pick};
 ghost use Rattle.pager_state.specs.World.{world};
 ghost use Rattle.pager_state.specs.Overlay.{isStaged, stagedAt, below, findPage, readPage};
 ghost use Rattle.pager_state.specs.Queries.{header, modeBy, accessMode, clockHighWater, raised, observedBy, observeClock};
 ghost use Rattle.pager_state.specs.Batches.{recoveredAs, nextRecovered};
-ghost use Rattle.pager_read.specs.Reading.{placePage};
+ghost use Rattle.pager_read.specs.Reading.{mayRead, placePage};
 use frame::FRAME_HEADER_SIZE;
 use page::PAGE_SIZE;
 use pager_state::AccessMode;
@@ -137,26 +136,32 @@ fn below(count: u32, table: &[u32], page_num: u32) -> PageFound
     PageFound::Nothing
 }
 
-// The slots that a count says are taken, of those that there are.
-fn slots_taken(count: usize) -> usize
-    ensures { λ r. ⌜ r ≡ min count 64 ⌝ }
+// Where a page is found: staged before anything else, also at or above the page count. What a reading refuses is judged before (may_read).
+pub fn place_page(
+    page_count: u32,
+    page_num: u32,
+    staged_count: usize,
+    staged: &[u16; 64],
+    table: &[u32],
+) -> PageFound
+    ensures { λ r. ⌜ r ≡ placePage «page_count» «page_num» «staged_count» (now (staged .entry)) (now (table .entry)) ⌝ }
 {
-    if count < STAGED_PAGES {
-        count
-    } else {
-        STAGED_PAGES
+    let slot = pager_state::find_in(staged, staged_count, page_num as usize);
+    if staged_count <= slot {
+        return below(page_count, table, page_num);
     }
+    if STAGED_PAGES <= slot {
+        return below(page_count, table, page_num);
+    }
+    PageFound::Staged(PAGE_SIZE * slot)
 }
 
-// Where a page is found: staged before anything else, also at or above the page count.
+// The same of a store's staged pages.
 fn overlay(staged: Staged, count: u32, table: &[u32], page_num: u32) -> PageFound
     ensures { λ r. ⌜ r ≡ pick (isStaged staged «page_num») (PageFound.Staged (stagedAt staged «page_num»)) (below count (now (table .entry)) «page_num») ⌝ }
 {
-    let slot = pager_state::slot_of(staged, page_num as usize);
-    if slot < slots_taken(staged.count) {
-        return PageFound::Staged(PAGE_SIZE * slot);
-    }
-    below(count, table, page_num)
+    let n = staged.count;
+    place_page(count, page_num, n, &staged.pages, table)
 }
 
 // The area and place of a page's bytes: staged, else none if at or above the page count, else in the log, else in the main file.
@@ -182,51 +187,43 @@ pub fn find_page(
     overlay(staged, header.page_count, table, page_num)
 }
 
-// What reading a page takes of a store; the numbers of its staged pages are lent beside it.
-pub struct Reading {
-    pub page_count: u32,
-    // 0: nothing is part done.
-    pub job: u32,
-    pub log_len: usize,
-    pub main_len: usize,
+// What judging a reading answers.
+pub enum ReadAnswer {
+    Allowed,
+    Area,
+    Busy,
 }
 
-// The same as find_page, for a host that reads often: the store is not handed over whole.
-pub fn place_page(
-    reading: Reading,
-    staged: &[u16],
+// What a reading refuses, judged once for all pages of a store: for a host that reads often. A job of 0 is none.
+pub fn may_read(
+    page_count: u32,
+    job: u32,
+    log_len: usize,
+    main_len: usize,
     table: &[u32],
     log: &[u8],
     main: &[u8],
     staging: &[u8],
-    page_num: u32,
-) -> PageFound
-    ensures { λ r. ⌜ r ≡ placePage reading (now (staged .entry)) (now (table .entry)) (now (log .entry)) (now (main .entry)) (now (staging .entry)) «page_num» ⌝ }
+) -> ReadAnswer
+    ensures { λ r. ⌜ r ≡ mayRead «page_count» job «log_len» «main_len» (now (table .entry)) (now (log .entry)) (now (main .entry)) (now (staging .entry)) ⌝ }
 {
     if !pager_state::is_inside(
-        reading.page_count,
-        reading.log_len,
-        reading.main_len,
+        page_count,
+        log_len,
+        main_len,
         table.len(),
         log.len(),
         main.len(),
     ) {
-        return PageFound::Area;
+        return ReadAnswer::Area;
     }
     if staging.len() != STAGING_AREA {
-        return PageFound::Area;
+        return ReadAnswer::Area;
     }
-    if STAGED_PAGES < staged.len() {
-        return PageFound::Area;
+    if job != 0 {
+        return ReadAnswer::Busy;
     }
-    if reading.job != 0 {
-        return PageFound::Busy;
-    }
-    let slot = pager_state::find_in(staged, staged.len(), page_num as usize);
-    if slot < staged.len() {
-        return PageFound::Staged(PAGE_SIZE * slot);
-    }
-    below(reading.page_count, table, page_num)
+    ReadAnswer::Allowed
 }
 
 // A page's own bytes inside the staging area, the log or the main file; no byte where there is no page.

@@ -45,7 +45,9 @@ pub struct Found {
 
 /// The store and its four areas.
 pub struct Engine {
-    pub store: sys::Store,
+    store: sys::Store,
+    /// What a reading is refused with; 0: nothing.
+    unreadable: u32,
     pub table: Box<[u32]>,
     pub log: Box<[u8]>,
     pub main: Box<[u8]>,
@@ -129,13 +131,37 @@ macro_rules! over_areas {
 impl Engine {
     /// Areas of zeros, and nothing open.
     pub fn new() -> Engine {
-        Engine {
+        let mut engine = Engine {
             store: CLOSED,
+            unreadable: 0,
             table: area(PAGES),
             log: area(LOG_AREA),
             main: area(MAIN_AREA),
             staging: area(STAGING_AREA),
-        }
+        };
+        engine.judge();
+        engine
+    }
+
+    /// The store as the last call gave it.
+    pub fn store(&self) -> &sys::Store {
+        &self.store
+    }
+
+    /// Puts another store over the areas.
+    pub fn set_store(&mut self, store: sys::Store) {
+        self.store = store;
+        self.judge();
+    }
+
+    /// Judges whether pages may be read, which no reading does anew. A caller that puts an area of another length in the place of
+    /// one calls it too.
+    pub fn judge(&mut self) {
+        let store = &self.store;
+        let (count, job) = (store.current_header.page_count, store.job.kind);
+        let (log_len, main_len) = (store.wal.len, store.storage.len);
+        let may_read = sys::lateenbael_may_read;
+        self.unreadable = over_areas!(self, as_ptr, may_read, [count, job, log_len, main_len], []);
     }
 
     /// Whether there is a log file: a store open read-only may have none.
@@ -155,7 +181,7 @@ impl Engine {
 
     fn take(&mut self, answered: sys::Answered) -> Result<sys::Answered, Refusal> {
         Refusal::judge(answered.refusal)?;
-        self.store = answered.store;
+        self.set_store(answered.store);
         Ok(answered)
     }
 
@@ -232,21 +258,12 @@ impl Engine {
     /// A page's own bytes, or none.
     #[inline]
     pub fn read_page(&self, page_num: u32) -> Result<Option<&[u8]>, Refusal> {
-        let store = &self.store;
-        let (count, job) = (store.current_header.page_count, store.job.kind);
-        let (log_len, main_len) = (store.wal.len, store.storage.len);
-        let staged = &store.staged.pages[..store.staged.count.min(sys::STAGED_PAGES)];
-        let place = sys::lateenbael_place_page;
-        let answer = over_areas!(
-            self,
-            as_ptr,
-            place,
-            [count, job, log_len, main_len, staged.as_ptr(), staged.len()],
-            [page_num]
-        );
-        Refusal::judge(answer.refusal)?;
+        Refusal::judge(self.unreadable)?;
+        let (count, staged) = (self.store.current_header.page_count, &self.store.staged);
+        let answer =
+            unsafe { sys::lateenbael_place_page(count, page_num, staged.count, &staged.pages, self.table.as_ptr(), self.table.len()) };
         let area = match answer.area {
-            0 => return Ok(None),
+            0 => return Refusal::judge(answer.refusal).map(|()| None),
             1 => &self.log,
             2 => &self.main,
             _ => &self.staging,
@@ -316,7 +333,7 @@ impl Engine {
     pub fn next_step(&mut self) -> Result<Step, Refusal> {
         let step = over_areas!(self, as_mut_ptr, sys::lateenbael_next_step, [self.store], []);
         Refusal::judge(step.refusal)?;
-        self.store = step.store;
+        self.set_store(step.store);
         let area = if step.area == 1 { Area::Log } else { Area::Main };
         let named = Named {
             area,

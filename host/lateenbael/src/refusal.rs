@@ -59,11 +59,19 @@ const ALL: [(Refusal, &str, &str); 21] = [
 
 impl Refusal {
     /// `Err` with the refusal of that number; 0 is none.
+    #[inline]
     pub fn judge(number: u32) -> Result<(), Refusal> {
         match number.checked_sub(1) {
             None => Ok(()),
-            Some(k) => Err(ALL[k as usize].0),
+            Some(k) => Err(Refusal::at(k)),
         }
+    }
+
+    /// Out of line, so that calls which are not refused stay short.
+    #[cold]
+    #[inline(never)]
+    fn at(k: u32) -> Refusal {
+        ALL[k as usize].0
     }
 
     pub fn number(self) -> u32 {

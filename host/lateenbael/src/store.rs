@@ -97,7 +97,7 @@ impl<D: Disk> Store<D> {
             self.carry(put(Area::Log, 0, WAL_HEADER_SIZE, true))?;
         }
         if mode == Mode::ReadWrite {
-            self.carry(put(Area::Log, self.engine.store.wal.len, 0, true))?;
+            self.carry(put(Area::Log, self.engine.store().wal.len, 0, true))?;
         }
         Ok(self)
     }
@@ -281,13 +281,13 @@ impl<D: Disk> Store<D> {
     /// The log's header as the store has it; the clock may be ahead of the file's.
     pub fn wal_header(&self) -> Result<WalHeader, Error> {
         self.running()?;
-        Ok(self.engine.store.wal.header)
+        Ok(self.engine.store().wal.header)
     }
 
     /// How many frames the log has.
     pub fn frame_count(&self) -> Result<usize, Error> {
         self.running()?;
-        Ok(self.engine.store.wal.frame_count)
+        Ok(self.engine.store().wal.frame_count)
     }
 
     /// The main file's bytes.

@@ -287,13 +287,11 @@ unsafe extern "C" {
     pub fn lateenbael_access_mode(store: Store) -> NumberAnswer;
     pub fn lateenbael_clock_high_water(store: Store) -> NumberAnswer;
     pub fn lateenbael_observe_clock_high_water(store: Store, value: u64) -> Answered;
-    pub fn lateenbael_place_page(
+    pub fn lateenbael_may_read(
         page_count: u32,
         job: u32,
         log_len: usize,
         main_len: usize,
-        staged: *const u16,
-        staged_count: usize,
         table: *const u32,
         table_entries: usize,
         log: *const u8,
@@ -302,7 +300,14 @@ unsafe extern "C" {
         main_size: usize,
         staging: *const u8,
         staging_size: usize,
+    ) -> u32;
+    pub fn lateenbael_place_page(
+        page_count: u32,
         page_num: u32,
+        staged_count: usize,
+        staged: &[u16; STAGED_PAGES],
+        table: *const u32,
+        table_entries: usize,
     ) -> PageAnswer;
     pub fn lateenbael_find_page(
         store: Store,

@@ -41,7 +41,7 @@ fn row(table: &Table, what: &str, pages: usize, differs: Differs) {
 fn frames(port: &mut InMemory, pages: usize) -> f64 {
     port.fold();
     let engine = &mut port.engine;
-    let mut wal = engine.store.wal;
+    let mut wal = engine.store().wal;
     let header = header_page();
     let commits = in_a_row(pages);
     let time = (0..commits)

@@ -98,7 +98,7 @@ impl Port {
             (Opening::ReadOnly, _) | (Opening::ReadWrite, Some(_)) => {}
             // "cuts the log at the commit point"; DECISIONS, 38.
             (Opening::Clean, Some(_)) => {
-                let point = self.engine.store.wal.len;
+                let point = self.engine.store().wal.len;
                 self.carry(carrier, length(Area::Log, point, true));
             }
             // "absent means a fresh log"
@@ -242,10 +242,10 @@ impl Side for Port {
             entries.copied().filter(test).count()
         };
         State {
-            frames: self.engine.store.wal.frame_count,
+            frames: self.engine.store().wal.frame_count,
             log_pages: entries(|entry| entry / 2 != 0),
             main_pages: entries(|entry| entry % 2 != 0),
-            staged: self.engine.store.staged.count,
+            staged: self.engine.store().staged.count,
             clock: self.clock(),
         }
     }

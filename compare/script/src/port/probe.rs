@@ -45,7 +45,7 @@ impl Probe {
         };
         self.twice += 1;
         let same = wanted == answer
-            && twin.store == engine.store
+            && twin.store() == engine.store()
             && twin.table == engine.table
             && twin.log_file() == engine.log_file()
             && twin.main_file() == engine.main_file();
@@ -61,7 +61,7 @@ impl Probe {
             return;
         }
         self.asked += 1;
-        let before = engine.store;
+        let before = *engine.store();
         let answers = [
             ("header", engine.header().err()),
             ("access mode", engine.is_read_only().err()),
@@ -82,7 +82,7 @@ impl Probe {
                 self.faults.push(format!("busy, {call}: {answer:?}"));
             }
         }
-        if engine.store != before {
+        if *engine.store() != before {
             self.faults.push("busy: the store has changed".to_string());
         }
     }
@@ -109,7 +109,7 @@ fn commit(engine: &mut Engine) -> Option<Refusal> {
 /// The files' bytes, the table and the staging; the other bytes of the twin
 /// stay what they were.
 fn copy(from: &Engine, to: &mut Engine) {
-    to.store = from.store;
+    to.set_store(*from.store());
     to.table.copy_from_slice(&from.table);
     to.staging.copy_from_slice(&from.staging);
     to.log[..from.log_file().len()].copy_from_slice(from.log_file());

@@ -23,7 +23,7 @@ pub struct View {
 impl View {
     pub fn of(port: &Port) -> Self {
         let length = |area| port.look_at(area, |file| file.map(<[u8]>::len));
-        let store = &port.engine.store;
+        let store = port.engine.store();
         let open = port.is_open();
         Self {
             open,
