@@ -2,4 +2,5 @@
 pub mod Areas
 pub mod Table
 pub mod Folding
+pub mod Blocks
 pub mod Scan

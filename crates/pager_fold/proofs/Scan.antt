@@ -4,11 +4,12 @@ use mathlib.Core.Bool.{Bool, true, false}
 use mathlib.Core.List.{List, [], _∷_}
 use mathlib.Core.Logic.{⊎-elim}
 use Prim.Native.Nat.{ℕ, zero, suc, _+_, _-_, _/_, _≤_, _<_, max}
+use native.Mathlib.Nat.{add-zero}
 use native.Mathlib.Omega.{arith}
 use borrow.Author.Tests.{le-leb, lt-ltb, le-ltb, eq-eqb, ne-eqb}
 use lib.Dec.{leb, ltb}
 use lib.ListN.{length, getD}
-use Rattle.le.specs.Choice.{pick, both}
+use Rattle.le.specs.Choice.{both}
 use Rattle.le.proofs.Tests.{le-or-lt}
 use Rattle.pager_state.specs.Overlay.{frameOf, inLog}
 use Rattle.pager_state.specs.Pages.{pagesFrom}
@@ -52,6 +53,25 @@ module _ (count : ℕ) (t : List ℕ) where
   -- the end: no page is left
   pub scanned : (p : ℕ) → foldingEnd count (length t) ≤ p → pagesFrom (foldsBy count t) p ≡ []
   scanned p h = none-from (1024 - p) p refl h
+
+  -- an entry passed over
+  low : (p : ℕ) → getD t p 0 ≤ 1 → pagesFrom (foldsBy count t) p ≡ pagesFrom (foldsBy count t) (suc p)
+  low p e =
+      ⊎-elim (λ h. pages-end (foldsBy count t) p h ∙ sym (pages-end (foldsBy count t) (suc p) (omega (arith, h))))
+      (λ h. pages-miss (foldsBy count t) p h (miss p e)) (le-or-lt 1024 p)
+
+  low-run : (d p : ℕ) → ((k : ℕ) → p ≤ k → k < p + d → getD t k 0 ≤ 1) → pagesFrom (foldsBy count t) p ≡ pagesFrom (foldsBy count t) (p + d)
+  low-run zero p a = rw add-zero
+  low-run (suc d) p a =
+      low p (a p (omega arith) (omega arith))
+      ∙ low-run d (suc p) (λ k h l. a k (omega (arith, h)) (omega (arith, l)))
+      ∙ ap (pagesFrom (foldsBy count t)) {x = suc p + d} {y = p + suc d} (omega arith)
+
+  -- entries passed over
+  pub past : (p q : ℕ) → p ≤ q → ((k : ℕ) → p ≤ k → k < q → getD t k 0 ≤ 1) → pagesFrom (foldsBy count t) p ≡ pagesFrom (foldsBy count t) q
+  past p q h a =
+      let e : p + (q - p) ≡ q = omega (arith, h) in
+      rw e at (low-run (q - p) p (λ k l m. a k l (omega (arith, m, h))))
 
   -- the start: page 0 is none of them
   pub from-one : (p : ℕ) → pagesFrom (foldsBy count t) p ≡ pagesFrom (foldsBy count t) (max p 1)

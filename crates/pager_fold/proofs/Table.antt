@@ -1,14 +1,19 @@
 -- The table that a fold leaves, entry by entry, and whether it names a page of the log. Assumes nothing.
 use mathlib.Core.Path.{_≡_, refl, sym, ap, _∙_}
-use mathlib.Core.Bool.{true, false}
+use mathlib.Core.Bool.{Bool, true, false}
 use mathlib.Core.List.{List, [], _∷_, _++_, append-nil}
-use Prim.Native.Nat.{ℕ, zero, suc, _+_, _≤_, _<_}
+use mathlib.Core.Logic.{⊎-elim}
+use Prim.Native.Nat.{ℕ, zero, suc, _+_, _-_, _≤_, _<_, min}
 use native.Mathlib.Nat.{add-zero}
 use native.Mathlib.Numerals.{add-one, unary-clauses}
 use native.Mathlib.Omega.{arith}
-use borrow.Author.Tests.{le-leb, lt-leb}
-use lib.ListN.{length, getD, take, drop, set, drop-of-length-le}
-use lib.Seq.{getD-append-add, getD-drop, drop-cons, take-suc, set-at, append-snoc, length-take-le, take-all}
+use borrow.Author.Tests.{le-leb, lt-leb, ne-eqb}
+use lib.Dec.{eqb}
+use lib.ListN.{length, getD, take, drop, set, replicate, drop-of-length-le, length-append, length-drop, length-replicate, take-append-drop}
+use lib.Seq.{getD-append-add, getD-drop, drop-cons, take-suc, set-at, append-snoc, length-take-le, take-all, take-append-le}
+use Rattle.le.specs.Choice.{pick}
+use Rattle.le.specs.Le.{put}
+use Rattle.le.proofs.Tests.{le-or-lt}
 use Rattle.pager_state.specs.Fold.{foldedEntry, foldedFrom}
 use Rattle.pager_state.specs.Steps.{noLogPages}
 
@@ -33,9 +38,6 @@ front-suc old new j ho hn =
     ∙ sym (append-snoc (take j new) (getD new j 0) (drop (suc j) old))
     ∙ ap (λ (r : List ℕ). r ++ drop (suc j) old) (sym (take-suc new j 0 hn))
 
-front-all : (old new : List ℕ) (j : ℕ) → length old ≤ j → length new ≤ j → front old new j ≡ new
-front-all old new j ho hn = rw (drop-of-length-le old ho, take-all j new hn, append-nil)
-
 -- ---- the table after a fold
 
 length-folded : (count p : ℕ) (t : List ℕ) → length (foldedFrom count p t) ≡ length t
@@ -50,25 +52,89 @@ getD-folded count p (a ∷ t) zero h = simp unary-clauses
 getD-folded count p (a ∷ t) (suc i) h =
     getD-folded count (suc p) t i (omega arith) ∙ ap (λ (n : ℕ). foldedEntry count n (getD t i 0)) {x = suc p + i} {y = p + suc i} (omega arith)
 
-module _ (count : ℕ) (old : List ℕ) where
-  abbrev new : List ℕ
-  new = foldedFrom count 0 old
+-- the entries below end, one by one
 
-  -- one entry more
-  pub entry-folded : (p : ℕ) {t : List ℕ} {n x : ℕ} → p < length old → n ≡ count → t ≡ front old new p → x ≡ foldedEntry n p (getD t p 0)
-      → set t p x ≡ front old new (p + 1)
-  entry-folded p {t} {n} {x} h c e f =
-      let m = length-folded count 0 old in
-      let g : getD new p 0 ≡ foldedEntry count p (getD old p 0) =
-      getD-folded count 0 old p h ∙ ap (λ (k : ℕ). foldedEntry count k (getD old p 0)) {x = 0 + p} {y = p} (omega arith) in
-      let i : x ≡ getD new p 0 = f ∙ rw (c, e, getD-front old new p (omega arith)) (sym g) in
+module _ (end : ℕ) (old : List ℕ) where
+  abbrev new : List ℕ
+  new = foldedFrom end 0 old
+
+  one-more : (p : ℕ) {t : List ℕ} {x : ℕ} → p < length old → t ≡ front old new p → x ≡ foldedEntry end p (getD t p 0) → set t p x ≡ front old new (p + 1)
+  one-more p {t} {x} h e f =
+      let m = length-folded end 0 old in
+      let g : getD new p 0 ≡ foldedEntry end p (getD old p 0) =
+      getD-folded end 0 old p h ∙ ap (λ (k : ℕ). foldedEntry end k (getD old p 0)) {x = 0 + p} {y = p} (omega arith) in
+      let i : x ≡ getD new p 0 = f ∙ rw (e, getD-front old new p (omega arith)) (sym g) in
       rw (i, e, add-one p) (front-suc old new p h (omega arith))
 
-  -- all of them
-  pub table-folded : (p : ℕ) {t : List ℕ} → length old ≤ p → t ≡ front old new p → t ≡ new
-  table-folded p h e =
-      let m = length-folded count 0 old in
-      e ∙ front-all old new p h (omega arith)
+  -- one of those behind it
+  pub entry-folded : (p : ℕ) {t : List ℕ} {x : ℕ} → 1 ≤ p → p < end → p < length old → t ≡ front old new p → x ≡ pick (eqb (getD t p 0) 0) 0 1
+      → set t p x ≡ front old new (p + 1)
+  entry-folded p {t} {x} l m h e f =
+      let z : p ≡ 0 → ⊥ = λ q. omega (arith, q) in
+      one-more p h e (f ∙ rw (ne-eqb p 0 z, lt-leb end p m))
+
+-- entry 0 is 0, whatever it was
+
+pub first-folded : (end : ℕ) (t : List ℕ) → 0 < length t → set t 0 0 ≡ front (set t 0 0) (foldedFrom end 0 (set t 0 0)) 1
+unfolding foldedFrom
+first-folded end [] h = absurd (omega arith)
+first-folded end (a ∷ t) h = refl
+
+pub first-any : (end : ℕ) (t : List ℕ) → 1 ≤ end → front (set t 0 0) (foldedFrom end 0 (set t 0 0)) end ≡ front t (foldedFrom end 0 t) end
+unfolding foldedFrom
+first-any end [] h = refl
+first-any zero (a ∷ t) h = absurd (omega arith)
+first-any (suc k) (a ∷ t) h = refl
+
+-- the others
+
+pick-same : (b : Bool) → pick {A = ℕ} b 0 0 ≡ 0
+pick-same true = refl
+pick-same false = refl
+
+zeros-above : (end p : ℕ) (t : List ℕ) → end ≤ p → foldedFrom end p t ≡ replicate (length t) 0
+unfolding foldedFrom
+zeros-above end p [] h = refl
+zeros-above end p (a ∷ t) h = rw (le-leb end p h, pick-same (eqb p 0), zeros-above end (suc p) t (omega arith))
+
+drop-folded : (end k p : ℕ) (t : List ℕ) → drop k (foldedFrom end p t) ≡ foldedFrom end (p + k) (drop k t)
+unfolding foldedFrom
+drop-folded end zero p t = rw add-zero
+drop-folded end (suc k) p [] = refl
+drop-folded end (suc k) p (a ∷ t) = drop-folded end k (suc p) t ∙ ap (λ (n : ℕ). foldedFrom end n (drop k t)) {x = suc p + k} {y = p + suc k} (omega arith)
+
+-- a count past the table's end folds as the table's length
+same-folded : (a b p : ℕ) (t : List ℕ) → p + length t ≤ a → p + length t ≤ b → foldedFrom a p t ≡ foldedFrom b p t
+unfolding foldedFrom
+same-folded a b p [] h k = refl
+same-folded a b p (x ∷ t) h k =
+    rw (lt-leb a p (omega arith), lt-leb b p (omega arith), same-folded a b (suc p) t (omega arith) (omega arith))
+
+folded-below : (count : ℕ) (t : List ℕ) → foldedFrom (min count (length t)) 0 t ≡ foldedFrom count 0 t
+folded-below count t =
+    ⊎-elim (λ h. let e : min count (length t) ≡ count = omega (arith, h) in rw e)
+    (λ h. same-folded (min count (length t)) count 0 t (omega (arith, h)) (omega (arith, h))) (le-or-lt count (length t))
+
+put-front : (old l : List ℕ) (end : ℕ) → end ≤ length old → length l ≡ length old
+    → put (front old l end) end (replicate (length old - end) 0) ≡ take end l ++ replicate (length old - end) 0
+unfolding put
+put-front old l end h m =
+    let n = length-replicate {A = ℕ} (length old - end) 0 in
+    let f : length (take end l) ≡ end = length-take-le end l (omega arith) in
+    let g : length (front old l end) ≡ length old = simp (length-append, length-drop) (omega (arith, f)) in
+    let d : drop (end + length (replicate {A = ℕ} (length old - end) 0)) (front old l end) ≡ [] =
+    drop-of-length-le (front old l end) {i = end + length (replicate {A = ℕ} (length old - end) 0)} (omega (arith, n, g)) in
+    rw (d, append-nil, take-append-le end (take end l) (drop end old) (omega (arith, f)), take-all end (take end l) (omega (arith, f)))
+
+-- the whole table: its entries below end, and zeros
+pub table-folded : (count : ℕ) (old : List ℕ) {end : ℕ} {t u : List ℕ} → end ≡ min count (length old) → t ≡ front old (foldedFrom end 0 old) end
+    → u ≡ put t end (replicate (length old - end) 0) → u ≡ foldedFrom count 0 old
+table-folded count old {end} {t} {u} c e f =
+    let l = foldedFrom end 0 old in
+    let m : length l ≡ length old = length-folded end 0 old in
+    let z : drop end l ≡ replicate (length old - end) 0 =
+    drop-folded end end 0 old ∙ zeros-above end (0 + end) (drop end old) (omega arith) ∙ rw (length-drop end old) in
+    f ∙ rw e (put-front old l end (omega arith) m) ∙ ap (λ (r : List ℕ). take end l ++ r) (sym z) ∙ take-append-drop end l ∙ rw c (folded-below count old)
 
 -- ---- whether a page is in the log
 
@@ -84,3 +150,10 @@ module _ (t : List ℕ) (i : ℕ) where
   pub no-log-end : length t ≤ i → noLogPages (drop i t) ≡ true
   unfolding noLogPages
   no-log-end h = rw (drop-of-length-le t h)
+
+-- entries that were passed over
+pub no-log-past : (t : List ℕ) (i : ℕ) → i ≤ length t → ((k : ℕ) → 0 ≤ k → k < i → getD t k 0 ≤ 1) → noLogPages t ≡ noLogPages (drop i t)
+no-log-past t zero h a = refl
+no-log-past t (suc i) h a =
+    let r = no-log-past t i (omega arith) (λ k l m. a k l (omega (arith, m))) in
+    r ∙ rw add-one at (no-log-step t i (omega arith) (a i (omega arith) (omega arith)))

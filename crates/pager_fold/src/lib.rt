@@ -1,10 +1,10 @@
 // The stores of a fold, one at a time, and the call that starts a fold.
 ghost use mathlib.Core.Path.{_≡_};
 ghost use mathlib.Core.Bool.{true, false};
-ghost use mathlib.Core.List.{List};
-ghost use Prim.Native.Nat.{_+_, _*_, _≤_, _<_, min, max};
+ghost use mathlib.Core.List.{List, _++_};
+ghost use Prim.Native.Nat.{ℕ, _+_, _*_, _≤_, _<_, min, max};
 ghost use lib.Dec.{leb, eqb};
-ghost use lib.ListN.{length};
+ghost use lib.ListN.{length, take, drop, getD, replicate};
 ghost use Rattle.le.specs.Choice.{pick, both};
 ghost use Rattle.header.specs.Header.{encodeHeader};
 ghost use Rattle.wal.specs.Header.{encodeWalHeader};
@@ -14,7 +14,7 @@ ghost use Rattle.pager_state.specs.World.{world, headerOf, countOf, withJob, wi
 ghost use Rattle.pager_state.specs.Overlay.{logBytes, mainAt};
 ghost use Rattle.pager_state.specs.Stores.{Put, SetLen, Other, placeOf, grown, putFile};
 ghost use Rattle.pager_state.specs.Pages.{pagesFrom, firstOf, folds};
-ghost use Rattle.pager_state.specs.Fold.{foldedEntry, foldedFrom, withoutFrames, logLengthAct, pagesTodo, pagesAdvance};
+ghost use Rattle.pager_state.specs.Fold.{foldedFrom, withoutFrames, logLengthAct, pagesTodo, pagesAdvance};
 ghost use Rattle.pager_state.specs.Steps.{named, noLogPages, beginCheckpoint};
 ghost use Rattle.pager_fold.specs.FoldStep.{foldAnswer, foldStepped, foldsBy, foldingEnd, fileOf, withMain, pagePut, headerPut, startedAs};
 use header::DbHeader;
@@ -52,12 +52,51 @@ fn folding_end(count: u32, len: usize) -> usize
     lesser(lesser(widen(count), PAGES), len)
 }
 
+// The bits of both numbers: no less than either.
+fn bits_of(a: u32, b: u32) -> u32
+    ensures { λ r. ⌜ (a ≤ r) × (b ≤ r) ⌝ }
+{
+    a | b
+}
+
+// A bound of 32 entries from `i` on, and 0 or 1 if they are. With no way out in between the compiler takes four at once.
+fn bound_32(table: &[u32], i: usize) -> u32
+    requires { ⌜ i + 32 ≤ length (now table) ⌝ }
+    ensures { λ r. ⌜ ((k : ℕ) → k < 32 → getD (now (table .entry)) (i + k) 0 ≤ r) ⌝ }
+{
+    let mut bits: u32 = 0;
+    let mut k: usize = 0;
+    while k < 32 {
+        bits = bits_of(bits, table[i + k]);
+        k += 1;
+    }
+    bits
+}
+
+// Where to look for pages of the log from `from` on, below `end`: behind blocks of 32 entries that have none.
+fn look_from(table: &[u32], from: usize, end: usize) -> usize
+    requires { ⌜ end ≤ length (now table) ⌝ }
+    ensures { λ r. ⌜ (from ≤ r) × ((r ≤ max from end) × ((k : ℕ) → from ≤ k → k < r → getD (now (table .entry)) k 0 ≤ 1)) ⌝ }
+{
+    let mut i = from;
+    if end < i {
+        return i;
+    }
+    while 32 <= end - i {
+        if 1 < bound_32(table, i) {
+            return i;
+        }
+        i += 32;
+    }
+    i
+}
+
 // The first page from `page` on that a fold stores; 1,024 if there is none.
 fn next_folding(count: u32, table: &[u32], page: usize) -> usize
     ensures { λ r. ⌜ r ≡ firstOf (pagesFrom (foldsBy count (now (table .entry))) page) ⌝ }
 {
     let end = folding_end(count, table.len());
-    let mut p = reached(page, 1);
+    let mut p = look_from(table, reached(page, 1), end);
     while p < end {
         if 1 < table[p] {
             return p;
@@ -67,25 +106,25 @@ fn next_folding(count: u32, table: &[u32], page: usize) -> usize
     PAGES
 }
 
-fn tally(n: usize, yes: bool) -> usize
+fn tally(n: u32, yes: bool) -> u32
     requires { ⌜ n < 1024 ⌝ }
     ensures { λ r. ⌜ r ≡ pick yes (n + 1) n ⌝ }
 {
     if yes { n + 1 } else { n }
 }
 
-// How many pages a fold stores.
+// How many pages a fold stores. The count is as wide as the entries, so that the compiler counts four at once.
 fn count_folding(count: u32, table: &[u32]) -> usize
     ensures { λ r. ⌜ r ≡ length (pagesFrom (foldsBy count (now (table .entry))) 0) ⌝ }
 {
     let end = folding_end(count, table.len());
-    let mut n: usize = 0;
+    let mut n: u32 = 0;
     let mut p: usize = 1;
     while p < end {
         n = tally(n, 1 < table[p]);
         p += 1;
     }
-    n
+    widen(n)
 }
 
 // Makes a file of `len` bytes `to` bytes long, with zeros, if it is shorter.
@@ -125,33 +164,50 @@ fn store_header(main: &mut [u8], len: usize, header: DbHeader) -> usize
     reached(len, PAGE_SIZE)
 }
 
-// A page's entry once the log is folded.
-fn entry_after(count: usize, page: usize, entry: u32) -> u32
-    ensures { λ r. ⌜ r ≡ foldedEntry count page entry ⌝ }
+// The entry of a page that stays, once the log is folded.
+fn mark(entry: u32) -> u32
+    ensures { λ r. ⌜ r ≡ pick (eqb entry 0) 0 1 ⌝ }
 {
-    if page == 0 {
-        return 0;
-    }
-    if count <= page {
-        return 0;
-    }
-    if entry == 0 {
-        return 0;
-    }
-    1
+    if entry == 0 { 0 } else { 1 }
 }
 
-// The table once the log is folded.
+// The entries below `end`, as they are once a log is folded that has so many pages.
+fn fold_front(table: &mut [u32], end: usize)
+    requires { ⌜ end ≤ length (now table) ⌝ }
+    ensures { λ _. ⌜ now (table .exit) ≡ take end (foldedFrom end 0 (now (table .entry))) ++ drop end (now (table .entry)) ⌝ }
+{
+    if end == 0 {
+        return;
+    }
+    table[0] = 0;
+    let mut p: usize = 1;
+    while p < end {
+        let entry = table[p];
+        table[p] = mark(entry);
+        p += 1;
+    }
+}
+
+// Puts n zeros from `at` on.
+fn clear(table: &mut [u32], at: usize, n: usize)
+    requires { ⌜ at + n ≤ length (now table) ⌝ }
+    ensures { λ _. ⌜ now (table .exit) ≡ put (now (table .entry)) at (replicate n 0) ⌝ }
+{
+    let mut i = 0;
+    while i < n {
+        table[at + i] = 0;
+        i += 1;
+    }
+}
+
+// The table once the log is folded. One loop with all tests would take one entry at a time.
 fn fold_table(table: &mut [u32], count: u32)
     ensures { λ _. ⌜ now (table .exit) ≡ foldedFrom count 0 (now (table .entry)) ⌝ }
 {
-    let n = widen(count);
-    let mut p = 0;
-    while p < table.len() {
-        let entry = table[p];
-        table[p] = entry_after(n, p, entry);
-        p += 1;
-    }
+    let len = table.len();
+    let end = lesser(widen(count), len);
+    fold_front(table, end);
+    clear(table, end, len - end);
 }
 
 // The store with another main file and the next job.
@@ -396,7 +452,7 @@ pub fn fold_step(pager: Pager, table: &mut [u32], log: &mut [u8], main: &mut [u8
 fn no_log_pages(table: &[u32]) -> bool
     ensures { λ r. ⌜ r ≡ noLogPages (now (table .entry)) ⌝ }
 {
-    let mut i = 0;
+    let mut i = look_from(table, 0, table.len());
     while i < table.len() {
         if 1 < table[i] {
             return false;

@@ -1,5 +1,5 @@
 use native.Mathlib.Omega.{arith}
-use mathlib.Core.Path.{_≡_, refl, sym, ap, _∙_}
+use mathlib.Core.Path.{_≡_, ap, _∙_}
 use denote.Ref.{now}
 use borrow.Author.Needs.{needs}
 use Prim.Native.Nat.{_+_, _-_, _≤_}
@@ -50,12 +50,12 @@ loop-again c =
 
 returns : tie.Need-returns Inv-loop μ-loop
 returns c =
-    let L = c .before in
+    let L = c .before .before in
     let S = L .before .before .before in
     let e = L .before .folding-end .ensures in
-    let z = ap length (scanned (S .args .count) (now (S .args .table)) (L .loop .p) (omega (arith, c .loop-test .left))) in
-    omega (arith, z, L .loop .inv .1 .1)
+    let z = ap length (scanned (S .args .count) (now (S .args .table)) (L .loop .p) (omega (arith, c .before .loop-test .left))) in
+    omega (arith, c .widen .ensures, z, L .loop .inv .1 .1)
 
 pub count-folding-spec : {M : Type 1} → statement M
 count-folding-spec =
-    tie.close (tie.spec Inv-loop μ-loop (search needs) loop-holds (search needs) (search needs) tally-requires add-p loop-less loop-again returns)
+    tie.close (tie.spec Inv-loop μ-loop (search needs) loop-holds (search needs) (search needs) tally-requires add-p loop-less loop-again (search needs) returns)

@@ -1,13 +1,13 @@
 use native.Mathlib.Omega.{arith}
 use native.Mathlib.Numerals.{add-one}
-use mathlib.Core.Path.{_≡_, refl, sym, ap, _∙_}
+use mathlib.Core.Path.{_≡_, sym, ap, _∙_}
 use denote.Ref.{now}
 use borrow.Author.Needs.{needs}
 use Prim.Native.Nat.{_-_, _≤_}
 use Rattle.pager_state.specs.Pages.{pagesFrom, firstOf}
 use Rattle.pager_fold.specs.FoldStep.{foldsBy}
 use Rattle.pager_state.proofs.Searches.{pages-hit, pages-miss}
-use Rattle.pager_fold.proofs.Scan.{hit, miss, scanned, from-one}
+use Rattle.pager_fold.proofs.Scan.{hit, miss, scanned, past, from-one}
 use Rattle.pager_fold.proofs.next_folding.Statement.{statement}
 use Rattle.pager_fold.proofs.next_folding.Tie as tie
 
@@ -17,16 +17,23 @@ Inv-loop count table page end p₀ p = (1 ≤ p) × (pagesFrom (foldsBy count ta
 abbrev μ-loop : tie.MeasureT-loop
 μ-loop count table page end p₀ p = end - p
 
+look-from-requires : tie.Need-look-from-requires Inv-loop μ-loop
+look-from-requires c κs = omega (arith, c .before .folding-end .ensures)
+
 loop-holds : tie.Need-loop-holds Inv-loop μ-loop
 loop-holds c =
-    let S = c .before .before .before in
-    (omega (arith, c .reached .ensures), from-one (S .args .count) (now (S .args .table)) (S .args .page) ∙ ap (pagesFrom (foldsBy (S .args .count) (now (S .args .table)))) (sym (c .reached .ensures)))
+    let S = c .before .before .before .before in
+    let t = now (S .args .table) in
+    let r = c .before .reached .ensures in
+    let l = c .look-from .ensures in
+    let e = from-one (S .args .count) t (S .args .page) ∙ ap (pagesFrom (foldsBy (S .args .count) t)) (sym r) in
+    (omega (arith, r, l .0), e ∙ past (S .args .count) t _ _ (l .0) (l .1 .1))
 
 returns : tie.Need-returns Inv-loop μ-loop
 returns c =
     let L = c .before .before .before in
-    let S = L .before .before .before .before in
-    let e = L .before .before .folding-end .ensures in
+    let S = L .before .before .before .before .before in
+    let e = L .before .before .before .folding-end .ensures in
     let t = c .before .before .loop-test .taken in
     let p = L .loop .p in
     sym (ap firstOf (L .loop .inv .1 ∙ pages-hit (foldsBy (S .args .count) (now (S .args .table))) p (omega arith) (hit (S .args .count) (now (S .args .table)) p (L .loop .inv .0) (omega arith) (c .if1 .taken))))
@@ -34,7 +41,7 @@ returns c =
 add-p : tie.Need-add-p Inv-loop μ-loop
 add-p c =
     let L = c .before .before .before in
-    let e = L .before .before .folding-end .ensures in
+    let e = L .before .before .before .folding-end .ensures in
     omega (arith, c .before .before .loop-test .taken)
 
 loop-less : tie.Need-loop-less Inv-loop μ-loop
@@ -43,8 +50,8 @@ loop-less c = omega (arith, c .before .before .loop-test .taken)
 loop-again : tie.Need-loop-again Inv-loop μ-loop
 loop-again c =
     let L = c .before .before .before in
-    let S = L .before .before .before .before in
-    let e = L .before .before .folding-end .ensures in
+    let S = L .before .before .before .before .before in
+    let e = L .before .before .before .folding-end .ensures in
     let t = c .before .before .loop-test .taken in
     let p = L .loop .p in
     let f = foldsBy (S .args .count) (now (S .args .table)) in
@@ -53,10 +60,10 @@ loop-again c =
 returns-2 : tie.Need-returns-2 Inv-loop μ-loop
 returns-2 c =
     let L = c .before in
-    let S = L .before .before .before .before in
-    let e = L .before .before .folding-end .ensures in
+    let S = L .before .before .before .before .before in
+    let e = L .before .before .before .folding-end .ensures in
     sym (ap firstOf (L .loop .inv .1 ∙ scanned (S .args .count) (now (S .args .table)) (L .loop .p) (omega (arith, c .loop-test .left))))
 
 pub next-folding-spec : {M : Type 1} → statement M
 next-folding-spec =
-    tie.close (tie.spec Inv-loop μ-loop (search needs) (search needs) loop-holds (search needs) (search needs) returns add-p loop-less loop-again returns-2)
+    tie.close (tie.spec Inv-loop μ-loop (search needs) (search needs) look-from-requires loop-holds (search needs) (search needs) returns add-p loop-less loop-again returns-2)

@@ -1,9 +1,10 @@
 use native.Mathlib.Omega.{arith}
-use mathlib.Core.Path.{_≡_, refl, sym, _∙_}
+use mathlib.Core.Path.{_≡_, sym, _∙_}
+use denote.Ref.{now}
 use borrow.Author.Needs.{needs}
 use Prim.Native.Nat.{_-_, _≤_}
 use lib.ListN.{length, drop}
-use Rattle.pager_fold.proofs.Table.{no-log-step, no-log-not, no-log-end}
+use Rattle.pager_fold.proofs.Table.{no-log-step, no-log-not, no-log-end, no-log-past}
 use Rattle.pager_state.specs.Steps.{noLogPages}
 use Rattle.pager_fold.proofs.no_log_pages.Statement.{statement}
 use Rattle.pager_fold.proofs.no_log_pages.Tie as tie
@@ -15,7 +16,10 @@ abbrev μ-loop : tie.MeasureT-loop
 μ-loop table i₀ i = length table - i
 
 loop-holds : tie.Need-loop-holds Inv-loop μ-loop
-loop-holds c = (search needs, refl)
+loop-holds c =
+    let l = c .look-from .ensures in
+    let h = l .1 .0 in
+    (omega (arith, h), no-log-past (now (c .before .before .args .table)) _ (omega (arith, h)) (l .1 .1))
 
 returns : tie.Need-returns Inv-loop μ-loop
 returns c =
@@ -41,4 +45,4 @@ returns-2 c =
 pub no-log-pages-spec : {M : Type 1} → statement M
 no-log-pages-spec =
     tie.close
-    (tie.spec Inv-loop μ-loop loop-holds (search needs) (search needs) returns add-i loop-less loop-again returns-2)
+    (tie.spec Inv-loop μ-loop (search needs) loop-holds (search needs) (search needs) returns add-i loop-less loop-again returns-2)
