@@ -2,20 +2,22 @@
 use mathlib.Core.Path.{_≡_, refl, sym, ap, _∙_}
 use mathlib.Core.Bool.{Bool, true, false}
 use mathlib.Core.List.{List}
-use Prim.Native.Nat.{ℕ}
+use Prim.Native.Nat.{ℕ, _+_, _-_, _≤_}
+use native.Mathlib.Omega.{arith}
+use Rattle.le.specs.Choice.{pick}
 use Rattle.le.proofs.Compare.{no-test}
 use Rattle.header.specs.declared.DbHeader.{DbHeader}
 use Rattle.pager_state.specs.World.{World}
-use Rattle.pager_state.specs.Steps.{commitStart, isBegun, beginCommit, checkpointStart, isFolding, beginCheckpoint, answerOf, steps, onStore, committedAs, commitAnswer, commitWorld, writtenAs, checkpointAnswer, checkpointWorld}
+use Rattle.pager_state.specs.Steps.{differing, commitStart, isBegun, beginCommit, checkpointStart, isFolding, beginCheckpoint, answerOf, steps, onStore, committedAs, commitAnswer, commitWorld, writtenAs, checkpointAnswer, checkpointWorld}
 use Rattle.pager_state.specs.declared.CommitStart.{CommitStart}
 use Rattle.pager_state.specs.declared.CommitStart.the-variants as commit
-use Rattle.pager_state.specs.declared.CommitStarted.{CommitStarted}
 use Rattle.pager_state.specs.declared.CommitAnswer.{CommitAnswer}
 use Rattle.pager_state.specs.declared.CheckpointStart.{CheckpointStart}
 use Rattle.pager_state.specs.declared.CheckpointStart.the-variants as checkpoint
 use Rattle.pager_state.specs.declared.CheckpointStarted.{CheckpointStarted}
 use Rattle.pager_state.specs.declared.CheckpointAnswer.{CheckpointAnswer}
-use Rattle.pager_state.proofs.Answers.{commit-answer, checkpoint-answer}
+use Rattle.pager_state.proofs.Runs.{steps-add}
+use Rattle.pager_state.proofs.Answers.{checkpoint-answer}
 
 -- a start that is not begun comes to the same with any number
 refused-alike : (a : CommitStart) (m n : ℕ) → isBegun a ≡ false → committedAs a m ≡ committedAs a n
@@ -27,25 +29,24 @@ refused-alike commit.NewHeader m n e = refl
 refused-alike (commit.Joining p) m n e = refl
 refused-alike commit.LogFull m n e = refl
 
-module _ (g : List ℕ) (w : World) (h : DbHeader) (salt : ℕ) {b : CommitStarted} (k : b ≡ beginCommit g w h salt) where
-  start-is : b .answer ≡ commitStart g w h
-  unfolding beginCommit
-  start-is = ap (λ (x : CommitStarted). x .answer) k
-
-  pub commit-refused : {r : CommitAnswer} → isBegun (b .answer) ≡ false → r ≡ committedAs (b .answer) 0
-      → (r ≡ commitAnswer g w h) × (onStore w (b .pager) ≡ commitWorld g w h salt)
-  unfolding commitAnswer commitWorld beginCommit
-  commit-refused e f =
-      let n : isBegun (commitStart g w h) ≡ false = sym (ap isBegun start-is) ∙ e in
-      (f ∙ rw start-is (refused-alike (commitStart g w h) 0 _ n), rw k (rw n))
-
-  pub commit-run : {r : CommitAnswer} {m : ℕ} {v : World} → isBegun (b .answer) ≡ true → m ≡ answerOf (b .pager .job) → r ≡ committedAs (b .answer) m
-      → v ≡ steps g 2200 (onStore w (b .pager)) → (r ≡ commitAnswer g w h) × (v ≡ commitWorld g w h salt)
+-- x is the start's answer, and v the world k steps behind it
+module _ (g : List ℕ) (w : World) (h : DbHeader) (salt : ℕ) {x : CommitStart} {v : World} (j : x ≡ commitStart g w h) (k : ℕ)
+    (f : v ≡ pick (isBegun (commitStart g w h)) (steps g k (onStore w (beginCommit g w h salt .pager))) w) where
+  pub commit-refused : {r : CommitAnswer} → isBegun x ≡ false → r ≡ committedAs x 0 → (r ≡ commitAnswer g w h) × (v ≡ commitWorld g w h salt)
   unfolding commitAnswer commitWorld
-  commit-run e a f s =
-      let n : isBegun (commitStart g w h) ≡ true = sym (ap isBegun start-is) ∙ e in
-      let d = a ∙ ap (λ (x : CommitStarted). answerOf (x .pager .job)) k ∙ commit-answer g w h salt n in
-      (f ∙ rw (start-is, d), s ∙ rw (k, n))
+  commit-refused e a =
+      let n : isBegun (commitStart g w h) ≡ false = sym (ap isBegun j) ∙ e in
+      (a ∙ rw j (refused-alike (commitStart g w h) 0 _ n), f ∙ rw n)
+
+  pub commit-run : {r : CommitAnswer} {m : ℕ} {u : World} → isBegun x ≡ true → m ≡ pick (isBegun (commitStart g w h)) (differing g w) 0 → r ≡ committedAs x m → k ≤ 2200
+      → u ≡ steps g (2200 - k) v → (r ≡ commitAnswer g w h) × (u ≡ commitWorld g w h salt)
+  unfolding commitAnswer commitWorld
+  commit-run {m = m} e a b l s =
+      let n : isBegun (commitStart g w h) ≡ true = sym (ap isBegun j) ∙ e in
+      let d : m ≡ differing g w = a ∙ rw n in
+      let z : k + (2200 - k) ≡ 2200 = omega arith in
+      let y : v ≡ steps g k (onStore w (beginCommit g w h salt .pager)) = f ∙ rw n in
+      (b ∙ rw (j, d), s ∙ rw (y, n, ← (steps-add g k (2200 - k) (onStore w (beginCommit g w h salt .pager))), z))
 
 written-alike : (a : CheckpointStart) (m n : ℕ) → isFolding a ≡ false → writtenAs a m ≡ writtenAs a n
 written-alike checkpoint.Begun m n e = no-test (sym e)

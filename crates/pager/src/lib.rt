@@ -2,8 +2,9 @@
 // A step does one store and names it, for a host to carry to the disk. Every public function is total.
 ghost use mathlib.Core.Path.{_≡_};
 ghost use mathlib.Core.Bool.{true};
+ghost use Prim.Native.Nat.{_-_};
 ghost use Rattle.pager_state.specs.World.{world};
-ghost use Rattle.pager_state.specs.Steps.{isBegun, isFolding, answerOf, stepAnswer, stepped, steps, committedAs, commitAnswer, commitWorld, writtenAs, checkpointAnswer, checkpointWorld};
+ghost use Rattle.pager_state.specs.Steps.{isFolding, answerOf, stepAnswer, stepped, steps, committedAs, commitAnswer, commitWorld, writtenAs, checkpointAnswer, checkpointWorld};
 ghost use Rattle.pager.specs.Jobs.{isCommit};
 use header::DbHeader;
 use pager_state::CheckpointAnswer;
@@ -67,18 +68,19 @@ pub fn next_step<'a>(
     pager_fold::fold_step(pager, table, log, main)
 }
 
-// Runs the steps to the end.
+// Runs the steps to the end, `done` of which are done already.
 fn run_steps<'a>(
     pager: Pager,
+    done: usize,
     table: &mut [u32],
     log: &mut [u8],
     main: &mut [u8],
     staging: &'a [u8],
 ) -> Pager
-    ensures { λ r. ⌜ world r (now (table .exit)) (now (log .exit)) (now (main .exit)) ≡ steps (now (staging .entry)) 2200 (world pager (now (table .entry)) (now (log .entry)) (now (main .entry))) ⌝ }
+    ensures { λ r. ⌜ world r (now (table .exit)) (now (log .exit)) (now (main .exit)) ≡ steps (now (staging .entry)) (2200 - done) (world pager (now (table .entry)) (now (log .entry)) (now (main .entry))) ⌝ }
 {
     let mut p = pager;
-    let mut k: usize = 0;
+    let mut k = done;
     while k < MOST_STEPS {
         let job = p.job;
         if !pager_state::is_busy(job) {
@@ -114,20 +116,6 @@ fn answer_of(job: Job) -> usize
     }
 }
 
-fn is_begun(answer: CommitStart) -> bool
-    ensures { λ r. ⌜ r ≡ isBegun answer ⌝ }
-{
-    match answer {
-        CommitStart::Begun => true,
-        CommitStart::Area => false,
-        CommitStart::Busy => false,
-        CommitStart::ReadOnly => false,
-        CommitStart::NewHeader => false,
-        CommitStart::Joining(_) => false,
-        CommitStart::LogFull => false,
-    }
-}
-
 // What the start of a commit comes to in one call.
 fn committed_as(answer: CommitStart, pages: usize) -> CommitAnswer
     ensures { λ r. ⌜ r ≡ committedAs answer pages ⌝ }
@@ -156,20 +144,18 @@ pub fn commit<'a>(
     ensures { λ r. ⌜ r .answer ≡ commitAnswer (now (staging .entry)) (world pager (now (table .entry)) (now (log .entry)) (now (main .entry))) «new_header» ⌝ }
     ensures { λ r. ⌜ world (r .pager) (now (table .exit)) (now (log .exit)) (now (main .exit)) ≡ commitWorld (now (staging .entry)) (world pager (now (table .entry)) (now (log .entry)) (now (main .entry))) «new_header» salt ⌝ }
 {
-    let begun = pager_commit::begin_commit(pager, table, log, main, staging, new_header, salt);
-    let start = begun.answer;
-    let store = begun.pager;
-    if !is_begun(start) {
+    let run = pager_commit::commit_frames(pager, table, log, main, staging, new_header, salt);
+    let start = run.answer;
+    let store = run.pager;
+    if !pager_commit::is_begun(start) {
         return Committed {
             answer: committed_as(start, 0),
             pager: store,
         };
     }
-    let job = store.job;
-    let pages = answer_of(job);
-    let end = run_steps(store, table, log, main, staging);
+    let end = run_steps(store, run.steps, table, log, main, staging);
     Committed {
-        answer: committed_as(start, pages),
+        answer: committed_as(start, run.pages),
         pager: end,
     }
 }
@@ -222,7 +208,7 @@ pub fn checkpoint<'a>(
     }
     let job = store.job;
     let pages = answer_of(job);
-    let end = run_steps(store, table, log, main, staging);
+    let end = run_steps(store, 0, table, log, main, staging);
     Checkpointed {
         answer: written_as(start, pages),
         pager: end,

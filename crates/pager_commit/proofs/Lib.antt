@@ -2,4 +2,5 @@
 pub mod Least
 pub mod Differing
 pub mod Frames
+pub mod Whole
 pub mod Starting

@@ -10,14 +10,14 @@ use denote.Enum.Declared.{tagOf}
 use borrow.Author.Tests.{leb-true, lt-ltb, le-ltb, le-leb, lt-leb}
 use lib.Dec.{leb}
 use lib.ListN.{length}
-use Rattle.le.specs.Choice.{both}
+use Rattle.le.specs.Choice.{pick, both}
 use Rattle.le.proofs.Compare.{both-true}
 use Rattle.header.specs.Header.{isVersion}
 use Rattle.header.specs.declared.DbHeader.{DbHeader}
 use Rattle.pager_state.specs.World.{World, countOf, headerOf, busy, readOnly, withJob, withWal}
 use Rattle.pager_state.specs.Pages.{pagesFrom, firstOf, differs, lacks}
 use Rattle.pager_state.specs.Commit.{framesTodo, framesAdvance, commitTodo, commitAdvance}
-use Rattle.pager_state.specs.Steps.{answerOf, named, done, stepFine, headerGood, differing, lacking, commitStart, isBegun, beginCommit}
+use Rattle.pager_state.specs.Steps.{answerOf, named, done, stepFine, headerGood, differing, lacking, commitStart, isBegun, beginCommit, steps, onStore}
 use Rattle.pager_state.specs.declared.Job.{Job}
 use Rattle.pager_state.specs.declared.Job.the-variants as job
 use Rattle.pager_state.specs.declared.Pager.{Pager}
@@ -25,6 +25,7 @@ use Rattle.pager_state.specs.declared.StepAnswer.{StepAnswer}
 use Rattle.pager_state.specs.declared.StepAnswer.the-variants as step
 use Rattle.pager_state.specs.declared.CommitStart.{CommitStart}
 use Rattle.pager_state.specs.declared.CommitStart.the-variants as commit
+use Rattle.pager_state.proofs.Begun.{commit-begun}
 use Rattle.pager_state.proofs.Job as J
 use Rattle.pager_commit.specs.CommitStep.{commitStepAnswer, commitStepped, differsIn, startedAs}
 use Rattle.pager_commit.proofs.Differing.{differs-by}
@@ -84,56 +85,88 @@ count-most h e =
     let a = both-true (leb 1 (countOf h)) (both (leb (countOf h) 1024) (isVersion (h .«format_version»))) e in
     leb-true _ _ (both-true (leb (countOf h) 1024) (isVersion (h .«format_version»)) (a .1) .0)
 
-module _ (g : List ℕ) (w : World) (h : DbHeader) (salt : ℕ) where
-  -- a refusal leaves the store
-  refused : (a : CommitStart) → commitStart g w h ≡ a → isBegun a ≡ false → startedAs a (w .pager) ≡ beginCommit g w h salt
-  unfolding beginCommit
-  refused a e n = rw (e, n)
+module _ (g : List ℕ) (w : World) (h : DbHeader) where
+  -- the judgement is x, and n pages differ if the commit begins
+  abbrev pub Judges : CommitStart → ℕ → Type 0
+  Judges x n = (x ≡ commitStart g w h) × (n ≡ pick (isBegun (commitStart g w h)) (differing g w) 0)
 
-  pub start-area : stepFine g w ≡ false → startedAs commit.Area (w .pager) ≡ beginCommit g w h salt
+  refused : (a : CommitStart) {x : CommitStart} {n : ℕ} → commitStart g w h ≡ a → isBegun a ≡ false → (x ≡ a) × (n ≡ 0) → Judges x n
+  refused a e b k = (k .0 ∙ sym e, k .1 ∙ rw (e, b))
+
+  pub start-area : {x : CommitStart} {n : ℕ} → stepFine g w ≡ false → (x ≡ commit.Area) × (n ≡ 0) → Judges x n
   unfolding commitStart
-  start-area a = refused commit.Area (rw a) refl
+  start-area a k = refused commit.Area (rw a) refl k
 
   module _ (a : stepFine g w ≡ true) where
-    pub start-busy : busy (w .pager) ≡ true → startedAs commit.Busy (w .pager) ≡ beginCommit g w h salt
+    pub start-busy : {x : CommitStart} {n : ℕ} → busy (w .pager) ≡ true → (x ≡ commit.Busy) × (n ≡ 0) → Judges x n
     unfolding commitStart
-    start-busy b = refused commit.Busy (rw (a, b)) refl
+    start-busy b k = refused commit.Busy (rw (a, b)) refl k
 
     module _ (b : busy (w .pager) ≡ false) where
-      pub start-read-only : readOnly (w .pager) ≡ true → startedAs commit.ReadOnly (w .pager) ≡ beginCommit g w h salt
+      pub start-read-only : {x : CommitStart} {n : ℕ} → readOnly (w .pager) ≡ true → (x ≡ commit.ReadOnly) × (n ≡ 0) → Judges x n
       unfolding commitStart
-      start-read-only c = refused commit.ReadOnly (rw (a, b, c)) refl
+      start-read-only c k = refused commit.ReadOnly (rw (a, b, c)) refl k
 
       module _ (c : readOnly (w .pager) ≡ false) where
-        pub start-header : headerGood h ≡ false → startedAs commit.NewHeader (w .pager) ≡ beginCommit g w h salt
+        pub start-header : {x : CommitStart} {n : ℕ} → headerGood h ≡ false → (x ≡ commit.NewHeader) × (n ≡ 0) → Judges x n
         unfolding commitStart
-        start-header d = refused commit.NewHeader (rw (a, b, c, d)) refl
+        start-header d k = refused commit.NewHeader (rw (a, b, c, d)) refl k
 
-        module _ (d : headerGood h ≡ true) {n : ℕ} (j : n ≡ firstOf (pagesFrom (lacks (w .pager .staged) (countOf (headerOf (w .pager))) (countOf h)) 0)) where
-          lack-is : lacking w h ≡ n
+        module _ (d : headerGood h ≡ true) {m : ℕ} (j : m ≡ firstOf (pagesFrom (lacks (w .pager .staged) (countOf (headerOf (w .pager))) (countOf h)) 0)) where
+          lack-is : lacking w h ≡ m
           unfolding lacking
           lack-is = sym j
 
-          pub start-joining : n < 1024 → startedAs (commit.Joining n) (w .pager) ≡ beginCommit g w h salt
+          pub start-joining : {x : CommitStart} {n : ℕ} → m < 1024 → (x ≡ commit.Joining m) × (n ≡ 0) → Judges x n
           unfolding commitStart
-          start-joining l = refused (commit.Joining n) (rw (a, b, c, d, lack-is, lt-ltb n 1024 l)) refl
+          start-joining l k = refused (commit.Joining m) (rw (a, b, c, d, lack-is, lt-ltb m 1024 l)) refl k
 
-          module _ (l : 1024 ≤ n) {k : ℕ} (e : k ≡ length (pagesFrom (differsIn (w .pager .staged) g (w .table) (w .log) (w .main)) 0)) where
+          module _ (l : 1024 ≤ m) {k : ℕ} (e : k ≡ length (pagesFrom (differsIn (w .pager .staged) g (w .table) (w .log) (w .main)) 0)) where
             count-is : differing g w ≡ k
             unfolding differing
             count-is = sym (e ∙ ap length (differs-by g w 0))
 
-            pub start-full : 4210720 < w .pager .wal .len + 4112 * (k + 1) → startedAs commit.LogFull (w .pager) ≡ beginCommit g w h salt
+            pub start-full : {x : CommitStart} {n : ℕ} → 4210720 < w .pager .wal .len + 4112 * (k + 1) → (x ≡ commit.LogFull) × (n ≡ 0) → Judges x n
             unfolding commitStart
-            start-full f =
+            start-full f t =
                 refused commit.LogFull
-                (rw (a, b, c, d, lack-is, le-ltb n 1024 l, count-is, lt-leb (w .pager .wal .len + 4112 * (k + 1)) 4210720 f)) refl
+                (rw (a, b, c, d, lack-is, le-ltb m 1024 l, count-is, lt-leb (w .pager .wal .len + 4112 * (k + 1)) 4210720 f)) refl t
 
             begun : w .pager .wal .len + 4112 * (k + 1) ≤ 4210720 → commitStart g w h ≡ commit.Begun
             unfolding commitStart
-            begun f = rw (a, b, c, d, lack-is, le-ltb n 1024 l, count-is, le-leb (w .pager .wal .len + 4112 * (k + 1)) 4210720 f)
+            begun f = rw (a, b, c, d, lack-is, le-ltb m 1024 l, count-is, le-leb (w .pager .wal .len + 4112 * (k + 1)) 4210720 f)
 
-            pub start-begun : {r : Pager} → w .pager .wal .len + 4112 * (k + 1) ≤ 4210720
-                → r ≡ withJob (withWal (w .pager) (w .pager .wal)) (job.Commit h salt 0 k) → startedAs commit.Begun r ≡ beginCommit g w h salt
-            unfolding beginCommit
-            start-begun f er = rw (begun f, er, count-is)
+            pub start-begun : w .pager .wal .len + 4112 * (k + 1) ≤ 4210720 → Judges commit.Begun k
+            start-begun f = (sym (begun f), sym (rw (begun f) count-is))
+
+  -- ---- what the judgement makes of the store
+
+  module _ (salt : ℕ) {x : CommitStart} {n : ℕ} (j : Judges x n) where
+    -- a refusal leaves it
+    pub begin-refused : isBegun x ≡ false → startedAs x (w .pager) ≡ beginCommit g w h salt
+    unfolding beginCommit
+    begin-refused b = let e : isBegun (commitStart g w h) ≡ false = sym (ap isBegun (j .0)) ∙ b in rw (j .0, e)
+
+    pub begin-begun : {r : Pager} → isBegun x ≡ true → r ≡ withJob (w .pager) (job.Commit h salt 0 n) → startedAs x r ≡ beginCommit g w h salt
+    unfolding beginCommit
+    begin-begun b f =
+        let e : isBegun (commitStart g w h) ≡ true = sym (ap isBegun (j .0)) ∙ b in
+        let k : n ≡ differing g w = j .1 ∙ rw e in
+        rw (j .0, f, k, e)
+
+    -- and in one call, k steps on
+    abbrev After : ℕ → World
+    After k = pick (isBegun (commitStart g w h)) (steps g k (onStore w (beginCommit g w h salt .pager))) w
+
+    pub run-refused : isBegun x ≡ false → w ≡ After 0
+    run-refused b = let e : isBegun (commitStart g w h) ≡ false = sym (ap isBegun (j .0)) ∙ b in rw e
+
+    pub run-begun : (k : ℕ) {v : World} → isBegun x ≡ true → v ≡ steps g k (onStore w (withJob (w .pager) (job.Commit h salt 0 n))) → v ≡ After k
+    unfolding beginCommit
+    run-begun k b f =
+        let e : isBegun (commitStart g w h) ≡ true = sym (ap isBegun (j .0)) ∙ b in
+        let d : n ≡ differing g w = j .1 ∙ rw e in
+        f ∙ rw (d, e)
+
+    pub begun-fine : isBegun x ≡ true → stepFine g w ≡ true
+    begun-fine b = commit-begun g w h (sym (ap isBegun (j .0)) ∙ b) .right

@@ -1,5 +1,6 @@
 -- A step of a commit that is part done, and what its parts are by themselves. g is the staging area.
-use mathlib.Core.Bool.{Bool, not}
+use mathlib.Core.Path.{_≡_}
+use mathlib.Core.Bool.{Bool, true, not}
 use mathlib.Core.List.{List, []}
 use Prim.Native.Nat.{ℕ, _*_}
 use lib.Dec.{ltb, eqb}
@@ -11,10 +12,11 @@ use Rattle.header.specs.Header.{encodeHeader}
 use Rattle.header.specs.declared.DbHeader.{DbHeader}
 use Rattle.frame.specs.Frame.{encodeFrame}
 use Rattle.wal.specs.declared.Wal.{Wal}
-use Rattle.pager_state.specs.World.{World, pageLimit, countOf, noneStaged}
+use Rattle.pager_state.specs.World.{World, world, pageLimit, countOf, withJob, withWal, noneStaged}
 use Rattle.pager_state.specs.Overlay.{pageFrom, findIn, slotOf, isStaged, inLog, onMain, mainAt, logBytes}
 use Rattle.pager_state.specs.Commit.{jobAfter, commitTodo, commitAdvance}
-use Rattle.pager_state.specs.Steps.{answerOf, named, done, stepFine}
+use Rattle.pager_state.specs.Steps.{answerOf, named, done, stepFine, steps}
+use Rattle.pager_state.specs.declared.Job.the-variants as job
 use Rattle.pager_state.specs.declared.Staged.{Staged}
 use Rattle.pager_state.specs.declared.Pager.{Pager}
 use Rattle.pager_state.specs.declared.CommitStart.{CommitStart}
@@ -73,3 +75,12 @@ sealPut l v h = put l (v .len) (encodeFrame 0 (countOf h) (v .header .salt) (enc
 
 abbrev pub startedAs : CommitStart → Pager → CommitStarted
 startedAs a p = record { answer = a; pager = p }
+
+-- ---- a commit's steps in one call
+
+-- k steps of a commit that was begun on a store with these staged pages and the log u come to the log v, whatever else the store holds;
+-- m is the main file's area, t and l are table and log area before them, t′ and l′ behind, and page is the first page not looked at
+abbrev pub FramesRun : List ℕ → List ℕ → Staged → Wal → List ℕ → List ℕ → ℕ → ℕ → Wal → List ℕ → List ℕ → Type 0
+FramesRun g m s u t l k page v t′ l′ =
+    (p : Pager) (h : DbHeader) (salt n : ℕ) → p .staged ≡ s → p .wal ≡ u → stepFine g (world p t l m) ≡ true
+    → world (withJob (withWal p v) (job.Commit h salt page n)) t′ l′ m ≡ steps g k (world (withJob p (job.Commit h salt 0 n)) t l m)

@@ -1,7 +1,7 @@
 // The stores of a commit, one at a time, and the call that starts a commit.
 ghost use mathlib.Core.Path.{_≡_};
 ghost use mathlib.Core.Bool.{true, false};
-ghost use mathlib.Core.List.{List};
+ghost use mathlib.Core.List.{List, []};
 ghost use Prim.Native.Nat.{ℕ, _+_, _*_, _≤_, _<_, min, max};
 ghost use lib.ListN.{length, take, drop, getD};
 ghost use Rattle.le.specs.Choice.{pick, both};
@@ -13,8 +13,8 @@ ghost use Rattle.pager_state.specs.Overlay.{pageFrom, findIn, slotOf, isStaged,
 ghost use Rattle.pager_state.specs.Stores.{Put, Sealed, Other, placeOf};
 ghost use Rattle.pager_state.specs.Pages.{pagesFrom, firstOf, differs, lacks};
 ghost use Rattle.pager_state.specs.Commit.{entered, jobAfter, framesTodo, framesAdvance};
-ghost use Rattle.pager_state.specs.Steps.{named, done, headerGood, beginCommit};
-ghost use Rattle.pager_commit.specs.CommitStep.{commitStepAnswer, commitStepped, isIn, committedIn, slotDiffers, differsIn, countsAt, sealedWith, framePut, sealPut, startedAs};
+ghost use Rattle.pager_state.specs.Steps.{named, done, headerGood, differing, commitStart, isBegun, beginCommit, stepFine, steps, onStore};
+ghost use Rattle.pager_commit.specs.CommitStep.{commitStepAnswer, commitStepped, isIn, committedIn, slotDiffers, differsIn, countsAt, sealedWith, framePut, sealPut, startedAs, FramesRun};
 use frame::FRAME_HEADER_SIZE;
 use frame::FRAME_SIZE;
 use header::DbHeader;
@@ -268,7 +268,29 @@ fn enter(table: &mut [u32], page: usize, at: usize)
     table[page] = entry_at(at, on_main);
 }
 
-// Stores the frame of a staged page at the log's length.
+// Stores the frame of a staged page at the log's length, and enters it.
+fn store_frame(
+    wal: Wal,
+    found: Slot,
+    table: &mut [u32],
+    log: &mut [u8],
+    staging: &[u8],
+) -> FrameAppended
+    requires { ⌜ (found .page < 1024) × ((found .index < 64) × ((length (now table) ≡ 1024) × ((length (now log) ≡ 4210720) × ((length (now staging) ≡ 262144) × (wal .len ≤ 4210720))))) ⌝ }
+    ensures { λ r. ⌜ r ≡ pick (hasRoom wal) (FrameAppended.Appended (withFrame wal 0)) FrameAppended.LogFull ⌝ }
+    ensures { λ _. ⌜ now (table .exit) ≡ pick (hasRoom wal) (entered (now (table .entry)) (found .page) (wal .len)) (now (table .entry)) ⌝ }
+    ensures { λ _. ⌜ now (log .exit) ≡ pick (hasRoom wal) (framePut (now (log .entry)) wal (found .page) (pageFrom (4096 * found .index) (now (staging .entry)))) (now (log .entry)) ⌝ }
+{
+    let body = pager_state::page_from(staging, PAGE_SIZE * found.index);
+    let appended = wal::append_frame(log, wal, found.page as u32, body, 0);
+    let FrameAppended::Appended(next) = appended else {
+        return FrameAppended::LogFull;
+    };
+    enter(table, found.page, wal.len);
+    FrameAppended::Appended(next)
+}
+
+// The next step of a commit that stores a staged page's frame.
 fn frame_step(
     pager: Pager,
     header: DbHeader,
@@ -286,15 +308,13 @@ fn frame_step(
     ensures { λ _. ⌜ now (log .exit) ≡ pick (hasRoom (pager .wal)) (framePut (now (log .entry)) (pager .wal) (found .page) (pageFrom (4096 * found .index) (now (staging .entry)))) (now (log .entry)) ⌝ }
 {
     let old = pager.wal;
-    let body = pager_state::page_from(staging, PAGE_SIZE * found.index);
-    let appended = wal::append_frame(log, old, found.page as u32, body, 0);
+    let appended = store_frame(old, found, table, log, staging);
     let FrameAppended::Appended(wal) = appended else {
         return Stepped {
             answer: StepAnswer::Area,
             pager,
         };
     };
-    enter(table, found.page, old.len);
     let job = Job::Commit {
         header,
         salt,
@@ -314,10 +334,11 @@ fn frame_step(
     }
 }
 
-// Stores the seal at the log's length: the header's page, and then the heading around it.
-fn store_seal(log: &mut [u8], wal: Wal, header: DbHeader) -> FrameAppended
-    requires { ⌜ (length (now log) ≡ 4210720) × (wal .len ≤ 4210720) ⌝ }
+// Stores the seal at the log's length, the header's page and then the heading around it, and enters it.
+fn store_seal(table: &mut [u32], log: &mut [u8], wal: Wal, header: DbHeader) -> FrameAppended
+    requires { ⌜ (length (now table) ≡ 1024) × ((length (now log) ≡ 4210720) × (wal .len ≤ 4210720)) ⌝ }
     ensures { λ r. ⌜ r ≡ pick (hasRoom wal) (FrameAppended.Appended (withFrame wal (countOf header))) FrameAppended.LogFull ⌝ }
+    ensures { λ _. ⌜ now (table .exit) ≡ pick (hasRoom wal) (entered (now (table .entry)) 0 (wal .len)) (now (table .entry)) ⌝ }
     ensures { λ _. ⌜ now (log .exit) ≡ pick (hasRoom wal) (sealPut (now (log .entry)) wal header) (now (log .entry)) ⌝ }
 {
     let at = wal.len;
@@ -327,6 +348,7 @@ fn store_seal(log: &mut [u8], wal: Wal, header: DbHeader) -> FrameAppended
     let from = at + FRAME_HEADER_SIZE;
     let to = at + FRAME_SIZE;
     header::encode_header(header, &mut log[from..to]);
+    enter(table, 0, at);
     wal::append_in_place(log, wal, 0, header.page_count)
 }
 
@@ -389,14 +411,13 @@ fn seal_step(
     ensures { λ _. ⌜ now (log .exit) ≡ pick (hasRoom (pager .wal)) (sealPut (now (log .entry)) (pager .wal) header) (now (log .entry)) ⌝ }
 {
     let old = pager.wal;
-    let appended = store_seal(log, old, header);
+    let appended = store_seal(table, log, old, header);
     let FrameAppended::Appended(wal) = appended else {
         return Stepped {
             answer: StepAnswer::Area,
             pager,
         };
     };
-    enter(table, 0, old.len);
     let next = sealed(pager, header, salt, answer, wal);
     let place = Place {
         file: FileKind::Log,
@@ -491,6 +512,96 @@ fn started(answer: CommitStart, pager: Pager) -> CommitStarted
     CommitStarted { answer, pager }
 }
 
+// How a commit is judged, and how many pages differ if it begins.
+struct Judged {
+    answer: CommitStart,
+    pages: usize,
+}
+
+fn refused(answer: CommitStart) -> Judged
+    ensures { λ r. ⌜ (r .answer ≡ answer) × (r .pages ≡ 0) ⌝ }
+{
+    Judged { answer, pages: 0 }
+}
+
+// Judges a commit.
+fn judge<'a>(
+    pager: Pager,
+    table: &[u32],
+    log: &'a [u8],
+    main: &'a [u8],
+    staging: &'a [u8],
+    new_header: DbHeader,
+) -> Judged
+    ensures { λ r. ⌜ r .answer ≡ commitStart (now (staging .entry)) (world pager (now (table .entry)) (now (log .entry)) (now (main .entry))) «new_header» ⌝ }
+    ensures { λ r. ⌜ r .pages ≡ pick (isBegun (commitStart (now (staging .entry)) (world pager (now (table .entry)) (now (log .entry)) (now (main .entry))) «new_header»)) (differing (now (staging .entry)) (world pager (now (table .entry)) (now (log .entry)) (now (main .entry)))) 0 ⌝ }
+{
+    if !pager_state::are_fine(pager, table.len(), log.len(), main.len(), staging.len()) {
+        return refused(CommitStart::Area);
+    }
+    let job = pager.job;
+    if pager_state::is_busy(job) {
+        return refused(CommitStart::Busy);
+    }
+    let opening = pager.opening;
+    if pager_state::is_read_only(opening) {
+        return refused(CommitStart::ReadOnly);
+    }
+    if !is_header_good(new_header) {
+        return refused(CommitStart::NewHeader);
+    }
+    let staged = pager.staged;
+    let old = pager.current_header;
+    let lacking = first_lacking(staged, old.page_count, new_header.page_count);
+    if lacking < PAGES {
+        return refused(CommitStart::Joining(lacking));
+    }
+    let pages = count_differing(staged, table, log, main, staging);
+    let wal = pager.wal;
+    if WAL_AREA < wal.len + FRAME_SIZE * (pages + 1) {
+        return refused(CommitStart::LogFull);
+    }
+    Judged {
+        answer: CommitStart::Begun,
+        pages,
+    }
+}
+
+// Whether a commit has begun.
+pub fn is_begun(answer: CommitStart) -> bool
+    ensures { λ r. ⌜ r ≡ isBegun answer ⌝ }
+{
+    match answer {
+        CommitStart::Begun => true,
+        CommitStart::Area => false,
+        CommitStart::Busy => false,
+        CommitStart::ReadOnly => false,
+        CommitStart::NewHeader => false,
+        CommitStart::Joining(_) => false,
+        CommitStart::LogFull => false,
+    }
+}
+
+// The store with a commit part done: the log so far and the first page not looked at.
+fn under_way(
+    pager: Pager,
+    wal: Wal,
+    header: DbHeader,
+    salt: u32,
+    page: usize,
+    answer: usize,
+) -> Pager
+    ensures { λ r. ⌜ r ≡ withJob (withWal pager wal) (Job.Commit header salt page answer) ⌝ }
+{
+    let job = Job::Commit {
+        header,
+        salt,
+        page,
+        answer,
+    };
+    pager_state::with_wal(pager, wal, job)
+}
+
 // Judges a commit; stores nothing.
 pub fn begin_commit<'a>(
     pager: Pager,
@@ -503,36 +614,158 @@ pub fn begin_commit<'a>(
 ) -> CommitStarted
     ensures { λ r. ⌜ r ≡ beginCommit (now (staging .entry)) (world pager (now (table .entry)) (now (log .entry)) (now (main .entry))) «new_header» salt ⌝ }
 {
-    if !pager_state::are_fine(pager, table.len(), log.len(), main.len(), staging.len()) {
-        return started(CommitStart::Area, pager);
+    let judged = judge(pager, table, log, main, staging, new_header);
+    let answer = judged.answer;
+    if !is_begun(answer) {
+        return started(answer, pager);
     }
-    let job = pager.job;
-    if pager_state::is_busy(job) {
-        return started(CommitStart::Busy, pager);
-    }
-    let opening = pager.opening;
-    if pager_state::is_read_only(opening) {
-        return started(CommitStart::ReadOnly, pager);
-    }
-    if !is_header_good(new_header) {
-        return started(CommitStart::NewHeader, pager);
-    }
-    let staged = pager.staged;
-    let old = pager.current_header;
-    let lacking = first_lacking(staged, old.page_count, new_header.page_count);
-    if lacking < PAGES {
-        return started(CommitStart::Joining(lacking), pager);
-    }
-    let answer = count_differing(staged, table, log, main, staging);
     let wal = pager.wal;
-    if WAL_AREA < wal.len + FRAME_SIZE * (answer + 1) {
-        return started(CommitStart::LogFull, pager);
-    }
-    let begun = Job::Commit {
-        header: new_header,
-        salt,
-        page: 0,
+    started(
         answer,
+        under_way(pager, wal, new_header, salt, 0, judged.pages),
+    )
+}
+
+// What a commit's frames come to: the log behind them, the first page not looked at, their number, and whether all are stored.
+struct FrameRun {
+    wal: Wal,
+    page: usize,
+    count: usize,
+    all: bool,
+}
+
+// Stores a commit's frames one after another, each as a step does; only the log and the page are handed on, not the store.
+fn store_frames<'a>(
+    staged: Staged,
+    first: Wal,
+    table: &mut [u32],
+    log: &mut [u8],
+    main: &'a [u8],
+    staging: &'a [u8],
+) -> FrameRun
+    requires { ⌜ (length (now table) ≡ 1024) × ((length (now log) ≡ 4210720) × ((length (now staging) ≡ 262144) × (first .len ≤ 4210720))) ⌝ }
+    ensures { λ r. ⌜ FramesRun (now (staging .entry)) (now (main .entry)) staged first (now (table .entry)) (now (log .entry)) (r .count) (r .page) (r .wal) (now (table .exit)) (now (log .exit)) ⌝ }
+    ensures { λ r. ⌜ (r .all ≡ true → pagesFrom (differsIn staged (now (staging .entry)) (now (table .exit)) (now (log .exit)) (now (main .entry))) (r .page) ≡ []) ⌝ }
+    ensures { λ r. ⌜ (r .count ≤ 1024) × (r .wal .len ≤ 4210720) ⌝ }
+{
+    let mut wal = first;
+    let mut page: usize = 0;
+    let mut count: usize = 0;
+    while page < PAGES {
+        let found = next_differing(staged, table, log, main, staging, page);
+        if PAGES <= found.page {
+            return FrameRun {
+                wal,
+                page,
+                count,
+                all: true,
+            };
+        }
+        let FrameAppended::Appended(next) = store_frame(wal, found, table, log, staging) else {
+            return FrameRun {
+                wal,
+                page,
+                count,
+                all: false,
+            };
+        };
+        wal = next;
+        page = found.page + 1;
+        count += 1;
+    }
+    FrameRun {
+        wal,
+        page,
+        count,
+        all: true,
+    }
+}
+
+// A store, and the steps of a commit that led to it.
+struct Run {
+    pager: Pager,
+    steps: usize,
+}
+
+// Runs a commit that was begun up to its seal.
+fn run_frames<'a>(
+    pager: Pager,
+    header: DbHeader,
+    salt: u32,
+    answer: usize,
+    table: &mut [u32],
+    log: &mut [u8],
+    main: &'a [u8],
+    staging: &'a [u8],
+) -> Run
+    requires { ⌜ stepFine (now staging) (world pager (now table) (now log) (now main)) ≡ true ⌝ }
+    ensures { λ r. ⌜ world (r .pager) (now (table .exit)) (now (log .exit)) (now (main .entry)) ≡ steps (now (staging .entry)) (r .steps) (world (withJob pager (Job.Commit header salt 0 answer)) (now (table .entry)) (now (log .entry)) (now (main .entry))) ⌝ }
+    ensures { λ r. ⌜ r .steps ≤ 1025 ⌝ }
+{
+    let staged = pager.staged;
+    let first = pager.wal;
+    let run = store_frames(staged, first, table, log, main, staging);
+    let wal = run.wal;
+    if !run.all {
+        return Run {
+            pager: under_way(pager, wal, header, salt, run.page, answer),
+            steps: run.count,
+        };
+    }
+    let FrameAppended::Appended(next) = store_seal(table, log, wal, header) else {
+        return Run {
+            pager: under_way(pager, wal, header, salt, run.page, answer),
+            steps: run.count,
+        };
     };
-    started(CommitStart::Begun, pager_state::with_wal(pager, wal, begun))
+    Run {
+        pager: sealed(pager, header, salt, answer, next),
+        steps: run.count + 1,
+    }
+}
+
+// What a commit in one call comes to, but for the fold that it may bring on.
+pub struct CommitRun {
+    pub answer: CommitStart,
+    // The number of differing pages, if it has begun.
+    pub pages: usize,
+    pub pager: Pager,
+    // The steps that it took so far.
+    pub steps: usize,
+}
+
+// Judges a commit and runs it up to its seal.
+pub fn commit_frames<'a>(
+    pager: Pager,
+    table: &mut [u32],
+    log: &mut [u8],
+    main: &'a [u8],
+    staging: &'a [u8],
+    new_header: DbHeader,
+    salt: u32,
+) -> CommitRun
+    ensures { λ r. ⌜ r .answer ≡ commitStart (now (staging .entry)) (world pager (now (table .entry)) (now (log .entry)) (now (main .entry))) «new_header» ⌝ }
+    ensures { λ r. ⌜ r .pages ≡ pick (isBegun (commitStart (now (staging .entry)) (world pager (now (table .entry)) (now (log .entry)) (now (main .entry))) «new_header»)) (differing (now (staging .entry)) (world pager (now (table .entry)) (now (log .entry)) (now (main .entry)))) 0 ⌝ }
+    ensures { λ r. ⌜ world (r .pager) (now (table .exit)) (now (log .exit)) (now (main .entry)) ≡ pick (isBegun (commitStart (now (staging .entry)) (world pager (now (table .entry)) (now (log .entry)) (now (main .entry))) «new_header»)) (steps (now (staging .entry)) (r .steps) (onStore (world pager (now (table .entry)) (now (log .entry)) (now (main .entry))) (beginCommit (now (staging .entry)) (world pager (now (table .entry)) (now (log .entry)) (now (main .entry))) «new_header» salt .pager))) (world pager (now (table .entry)) (now (log .entry)) (now (main .entry))) ⌝ }
+    ensures { λ r. ⌜ r .steps ≤ 1025 ⌝ }
+{
+    let judged = judge(pager, table, log, main, staging, new_header);
+    let answer = judged.answer;
+    let pages = judged.pages;
+    if !is_begun(answer) {
+        return CommitRun {
+            answer,
+            pages,
+            pager,
+            steps: 0,
+        };
+    }
+    let run = run_frames(pager, new_header, salt, pages, table, log, main, staging);
+    let store = run.pager;
+    CommitRun {
+        answer,
+        pages,
+        pager: store,
+        steps: run.steps,
+    }
 }
