@@ -32,6 +32,8 @@ pub struct Files {
     main_path: PathBuf,
     main: File,
     log: Option<File>,
+    /// How long each file is, where that is known: a fold that leaves the main file's length as it was then makes no system call for it.
+    lengths: [Option<usize>; 2],
 }
 
 impl Files {
@@ -43,8 +45,16 @@ impl Files {
             Err(error) if error.kind() == io::ErrorKind::NotFound => None,
             found => Some(found?),
         };
-        let main_path = path.to_path_buf();
-        Ok(Files { main_path, main, log })
+        Ok(Files::over_these(path, main, log))
+    }
+
+    fn over_these(path: &Path, main: File, log: Option<File>) -> Files {
+        Files {
+            main_path: path.to_path_buf(),
+            main,
+            log,
+            lengths: [None; 2],
+        }
     }
 
     /// Two new files; if either is there already, `AlreadyExists`.
@@ -67,9 +77,8 @@ impl Files {
         let main = options.open(path)?;
         lock(&main, false)?;
         let log = Some(options.open(wal_path_for(path))?);
-        let main_path = path.to_path_buf();
-        sync_folder(&main_path)?;
-        Ok(Files { main_path, main, log })
+        sync_folder(path)?;
+        Ok(Files::over_these(path, main, log))
     }
 
     fn file(&self, area: Area) -> io::Result<&File> {
@@ -89,13 +98,17 @@ impl Disk for Files {
         let mut len = 0;
         while len < buffer.len() {
             match file.read_at(&mut buffer[len..], len as u64) {
-                Ok(0) => return Ok(Some(len)),
+                Ok(0) => {
+                    self.lengths[area as usize] = Some(len);
+                    return Ok(Some(len));
+                }
                 Ok(n) => len += n,
                 Err(error) if error.kind() == io::ErrorKind::Interrupted => {}
                 Err(error) => return Err(error),
             }
         }
         let behind = file.metadata()?.len() > len as u64;
+        self.lengths[area as usize] = (!behind).then_some(len);
         Ok(Some(len + usize::from(behind)))
     }
 
@@ -115,11 +128,19 @@ impl Disk for Files {
     }
 
     fn write_at(&mut self, area: Area, at: usize, bytes: &[u8]) -> io::Result<()> {
-        self.file(area)?.write_all_at(bytes, at as u64)
+        let known = self.lengths[area as usize].take();
+        self.file(area)?.write_all_at(bytes, at as u64)?;
+        let end = if bytes.is_empty() { 0 } else { at + bytes.len() };
+        self.lengths[area as usize] = known.map(|len| len.max(end));
+        Ok(())
     }
 
     fn set_len(&mut self, area: Area, len: usize) -> io::Result<()> {
-        self.file(area)?.set_len(len as u64)
+        if self.lengths[area as usize].take() != Some(len) {
+            self.file(area)?.set_len(len as u64)?;
+        }
+        self.lengths[area as usize] = Some(len);
+        Ok(())
     }
 
     fn sync(&mut self, area: Area) -> io::Result<()> {

@@ -1,7 +1,7 @@
 //! A store on two real files: creation, commits, folds and openings.
 mod common;
 use common::*;
-use lateenbael::{Error, Mode, Refusal, Store, wal_path_for};
+use lateenbael::{Area, Disk, Error, Files, Mode, Refusal, Store, wal_path_for};
 use std::fs;
 use std::io::ErrorKind;
 
@@ -16,7 +16,7 @@ fn io_kind<T>(answer: Result<T, Error>) -> Option<ErrorKind> {
 fn creation_writes_both_files() {
     let folder = Folder::new();
     let path = folder.store();
-    let files = lateenbael::Files::fresh(&path).unwrap();
+    let files = Files::fresh(&path).unwrap();
     let store = Store::create_on(files, counting_salts(6)).unwrap();
     assert_eq!(store.header().unwrap().page_count, 2);
     let [main, log] = bytes_of(&path).map(Option::unwrap);
@@ -26,6 +26,26 @@ fn creation_writes_both_files() {
         log,
         [b"SQLRWAL\0".as_slice(), &[3, 0, 0, 0, 0, 16, 0, 0, 7, 0, 0, 0], &[0; 12]].concat()
     );
+}
+
+#[test]
+fn a_length_that_a_file_has_takes_no_call() {
+    let folder = Folder::new();
+    let path = folder.store();
+    drop(Store::create(&path).unwrap());
+    let mut files = Files::existing(&path, false).unwrap();
+    let mut length_after = |len: usize, stored: &[u8]| {
+        files.write_at(Area::Main, len, stored).unwrap();
+        // Emptied behind its back, the file shows whether a call is made.
+        fs::write(&path, []).unwrap();
+        files.set_len(Area::Main, len + stored.len()).unwrap();
+        fs::metadata(&path).unwrap().len()
+    };
+    assert_eq!(length_after(8192, &[]), 8192);
+    assert_eq!(length_after(8192, &[]), 0);
+    assert_eq!(length_after(8192, &[7; 3]), 0);
+    assert_eq!(length_after(8192, &[]), 8192);
+    assert_eq!(files.read(Area::Main, &mut [0; 9000]).unwrap(), Some(8192));
 }
 
 #[test]
