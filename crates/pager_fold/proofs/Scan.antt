@@ -79,6 +79,9 @@ module _ (count : ℕ) (t : List ℕ) where
   from-one zero = pages-miss (foldsBy count t) 0 (omega arith) refl
   from-one (suc p) = let e : max (suc p) 1 ≡ suc p = omega arith in rw e
 
+  pub from-first : (p : ℕ) {q : ℕ} → q ≡ max p 1 → pagesFrom (foldsBy count t) p ≡ pagesFrom (foldsBy count t) q
+  from-first p e = from-one p ∙ ap (pagesFrom (foldsBy count t)) (sym e)
+
   -- a page in between, by its entry
   pub seen : (p : ℕ) → 1 ≤ p → p < count → ltb 1 (getD t p 0) ≡ foldsBy count t p
   seen p h k =

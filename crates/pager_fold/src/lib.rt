@@ -91,12 +91,19 @@ fn look_from(table: &[u32], from: usize, end: usize) -> usize
     i
 }
 
-// The first page from `page` on that a fold stores; 1,024 if there is none.
+// The first page from `page` on that a fold stores; 1,024 if there is none. Often it is the very next.
 fn next_folding(count: u32, table: &[u32], page: usize) -> usize
     ensures { λ r. ⌜ r ≡ firstOf (pagesFrom (foldsBy count (now (table .entry))) page) ⌝ }
 {
     let end = folding_end(count, table.len());
-    let mut p = look_from(table, reached(page, 1), end);
+    let first = reached(page, 1);
+    if end <= first {
+        return PAGES;
+    }
+    if 1 < table[first] {
+        return first;
+    }
+    let mut p = look_from(table, first, end);
     while p < end {
         if 1 < table[p] {
             return p;
