@@ -2,6 +2,7 @@
 // Every public function is total; a refusal changes neither the store nor an area.
 ghost use mathlib.Core.Path.{_≡_};
 ghost use Prim.Native.Nat.{_<_};
+ghost use Rattle.pager_state.specs.Overlay.{slotOf};
 ghost use Rattle.pager_state.specs.Staging.{slotted, stagePage, stageAfter, clearStaged};
 ghost use Rattle.pager_state.specs.Batches.{appendBatch, appendAfter};
 ghost use Rattle.pager_stage.specs.Append.{lowest, answerOf};
@@ -21,17 +22,17 @@ use pager_state::StagedCleared;
 use wal::WAL_AREA;
 use wal_batch::BatchAppended;
 
-// The slots with a page in one of them, taken from then on.
+// The slots with a page in its own. Where it is there already nothing is stored: all numbers are read again right after.
 fn slotted(staged: Staged, slot: usize, page: u16) -> Staged
-    requires { ⌜ slot < 64 ⌝ }
+    requires { ⌜ (slot < 64) × (slot ≡ slotOf staged page) ⌝ }
     ensures { λ r. ⌜ r ≡ slotted staged slot page ⌝ }
 {
+    if slot < staged.count {
+        return staged;
+    }
     let mut later = staged;
     later.pages[slot] = page;
-    if staged.count <= slot {
-        later.count = slot + 1;
-        return later;
-    }
+    later.count = slot + 1;
     later
 }
 
@@ -65,9 +66,9 @@ pub fn stage_page(pager: Pager, staging: &mut [u8], page_num: u32, bytes: &[u8])
     if STAGED_PAGES <= slot {
         return not_staged(StageAnswer::Staging, pager);
     }
-    le::write_bytes(staging, PAGE_SIZE * slot, bytes);
     let mut later = pager;
     later.staged = slotted(staged, slot, page_num as u16);
+    le::write_bytes(staging, PAGE_SIZE * slot, bytes);
     PageStaged {
         answer: StageAnswer::Staged,
         pager: later,

@@ -63,8 +63,9 @@ returns-5 c =
 returns-6 : tie.Need-returns-6
 unfolding stageAnswer
 returns-6 c =
-    let W = c .before .before .before in
-    let S = W .before .before .before in
+    let W = c .before .before in
+    let T = W .before .before in
+    let S = T .before .before in
     let L = S .before .before in
     let B = L .before .before in
     let A = B .before .before .before .before .before .args in
@@ -75,7 +76,7 @@ returns-6 c =
     let h : 4096 * S .slot-of .result + length (now (A .bytes)) ≤ length (now (A .staging)) = omega arith in
     ends (A .pager) (now (A .staging)) (A .page-num) (now (A .bytes)) stage.Staged
     (rw (eq-eqb _ _ g, eq-eqb _ _ n, sym (B .is-busy .ensures) ∙ L .before .if3 .left, lt-ltb _ _ (L .if4 .left), lt-ltb _ _ f))
-    refl (rw (c .slotted .ensures, e)) (W .write-bytes .ensures .1 ∙ store-put _ _ _ h ∙ rw e)
+    refl (rw (T .slotted .ensures, e)) (W .write-bytes .ensures .1 ∙ store-put _ _ _ h ∙ rw e)
 
 pub stage-page-spec : {M : Type 1} → statement M
 stage-page-spec =
