@@ -245,12 +245,15 @@ lateenbael_page_answer lateenbael_find_page(lateenbael_store store, const uint32
                                             size_t log_size, const uint8_t *main, size_t main_size, const uint8_t *staging,
                                             size_t staging_size, uint32_t page_num);
 
-/* The same in two calls, for hosts that read often: a whole store is 296 bytes to hand over, and its refusals stay what they are until the
+/* The same in parts, for hosts that read often: a whole store is 296 bytes to hand over, and its refusals stay what they are until the
  * next call that gives a store back. may_read answers the refusal that find_page would, or 0: page_count is current_header.page_count, job
  * is job.kind (any but 0 is refused with 9), log_len is wal.len, main_len is storage.len. */
 uint32_t lateenbael_may_read(uint32_t page_count, uint32_t job, size_t log_len, size_t main_len, const uint32_t *table,
                              size_t table_entries, const uint8_t *log, size_t log_size, const uint8_t *main, size_t main_size,
                              const uint8_t *staging, size_t staging_size);
+
+/* No page is found from that number on, so that a host need not look: with nothing staged the page count, else 2^32. */
+size_t lateenbael_read_end(uint32_t page_count, size_t staged_count);
 
 /* Where a page stands, of a store that may_read answers 0 for: staged_count is staged.count, and `staged` is staged.pages, with all its
  * numbers. Refusal 1 where a made-up table names a place with no whole page behind it. */
@@ -264,6 +267,18 @@ lateenbael_batch_place lateenbael_recovered_mvcc_commits(lateenbael_store store,
 /* Stages a page of 4,096 bytes for the next commit. Refusals 1, 9, 11, 12. */
 lateenbael_answered lateenbael_stage_page(lateenbael_store store, uint8_t *staging, size_t staging_size, uint32_t page_num,
                                           const uint8_t *bytes, size_t bytes_len);
+
+/* What staging in place gives: a refusal or 0, and how many pages are staged. */
+typedef struct {
+    uint32_t refusal;
+    size_t count;
+} lateenbael_staged_count;
+
+/* The same for hosts that stage often, with only what staging takes of a store: job is job.kind, staged_count is staged.count, and
+ * `staged` is staged.pages, where the page's number is stored. The count given is the store's next staged.count; nothing else of the store
+ * is another. Refusals 1, 9, 11, 12. */
+lateenbael_staged_count lateenbael_stage_in(uint32_t job, uint32_t page_num, size_t staged_count, uint16_t staged[LATEENBAEL_STAGED_PAGES],
+                                            uint8_t *staging, size_t staging_size, const uint8_t *bytes, size_t bytes_len);
 
 /* Drops what is staged. Refusal 9. */
 lateenbael_answered lateenbael_clear_staged(lateenbael_store store);

@@ -49,6 +49,10 @@ static void call_all(host *h, lateenbael_store store, const uint8_t *body) {
     lateenbael_observe_clock_high_water(store, some_number());
     lateenbael_clear_staged(store);
     lateenbael_stage_page(store, h->staging, LATEENBAEL_STAGING_AREA, (uint32_t)some_number(), body, PAGE);
+    uint16_t staged[LATEENBAEL_STAGED_PAGES];
+    memcpy(staged, store.staged.pages, sizeof staged);
+    lateenbael_stage_in(store.job.kind, (uint32_t)some_number(), store.staged.count, staged, h->staging, LATEENBAEL_STAGING_AREA, body,
+                        PAGE);
     lateenbael_append_mvcc_batch(store, h->log, LATEENBAEL_LOG_AREA, body, PAGE);
     lateenbael_begin_commit(store, AREAS(h), header, 1);
     lateenbael_begin_checkpoint(store, AREAS(h), 1);

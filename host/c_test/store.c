@@ -232,6 +232,8 @@ static void clocks_and_staging(void) {
         CHECK(stage(&h, page, 1) == LATEENBAEL_OK);
     }
     CHECK(h.store.staged.count == 64 && stage(&h, 64, 1) == LATEENBAEL_REFUSED_STAGING);
+    /* One of them anew; the others stay. */
+    CHECK(stage(&h, 63, 2) == LATEENBAEL_OK && reads_as(&h, 63, 2) && reads_as(&h, 62, 1));
     CHECK(stage(&h, 1024, 1) == LATEENBAEL_REFUSED_PAGE);
     CHECK(lateenbael_stage_page(h.store, h.staging, LATEENBAEL_STAGING_AREA, 1, h.main, 1).refusal == LATEENBAEL_REFUSED_AREA);
     CHECK(found_in(&h, &h.store, 5).area == LATEENBAEL_AREA_STAGING);

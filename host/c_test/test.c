@@ -138,6 +138,8 @@ lateenbael_page_answer found_in(const host *h, const lateenbael_store *store, ui
                                        LATEENBAEL_PAGES);
     }
     CHECK(found.refusal == placed.refusal && found.area == placed.area && found.at == placed.at);
+    size_t end = lateenbael_read_end(store->current_header.page_count, store->staged.count);
+    CHECK(page < end || found.area == LATEENBAEL_AREA_NONE);
     return found;
 }
 
@@ -150,7 +152,18 @@ bool reads_as(const host *h, uint32_t page, uint8_t byte) {
 uint32_t stage(host *h, uint32_t page, uint8_t byte) {
     uint8_t bytes[PAGE];
     memset(bytes, byte, PAGE);
-    return took(h, lateenbael_stage_page(h->store, h->staging, LATEENBAEL_STAGING_AREA, page, bytes, PAGE));
+    /* In place, in a copy of the staging area: the same refusal, numbers and bytes. */
+    lateenbael_staged staged = h->store.staged;
+    uint8_t *area = malloc(LATEENBAEL_STAGING_AREA);
+    memcpy(area, h->staging, LATEENBAEL_STAGING_AREA);
+    lateenbael_staged_count done =
+        lateenbael_stage_in(h->store.job.kind, page, staged.count, staged.pages, area, LATEENBAEL_STAGING_AREA, bytes, PAGE);
+    staged.count = done.count;
+    lateenbael_answered whole = lateenbael_stage_page(h->store, h->staging, LATEENBAEL_STAGING_AREA, page, bytes, PAGE);
+    CHECK(done.refusal == whole.refusal && memcmp(&staged, &whole.store.staged, sizeof staged) == 0);
+    CHECK(memcmp(area, h->staging, LATEENBAEL_STAGING_AREA) == 0);
+    free(area);
+    return took(h, whole);
 }
 
 /* Runs a part and says how many checks it made. */

@@ -14,7 +14,7 @@ pub const WAL_HEADER_SIZE: usize = 32;
 const LOG_HEADER: Range<usize> = 0..WAL_HEADER_SIZE;
 
 /// The names of the exports, and what calls them.
-pub const CALLS: [Call; 19] = [
+pub const CALLS: [Call; 21] = [
     ("create", create),
     ("open_with_mode", open),
     ("open_clean", open_clean),
@@ -34,6 +34,8 @@ pub const CALLS: [Call; 19] = [
     ("checkpoint", checkpoint),
     ("place_page", place_page),
     ("may_read", may_read),
+    ("read_end", read_end),
+    ("stage_in", stage_in),
 ];
 
 /// A call over the four areas: what stands before them, and what behind.
@@ -189,6 +191,21 @@ fn may_read(world: &mut World, export: &'static str) {
     world.end(export, refusal, right, &Writes::default());
 }
 
+/// Behind the end that is told no page is found.
+fn read_end(world: &mut World, export: &'static str) {
+    let (store, _) = world.any_store();
+    let (count, staged) = (store.current_header.page_count, Box::new(store.staged.pages));
+    let end = unsafe { sys::lateenbael_read_end(count, store.staged.count) };
+    world.end(export, 0, true, &Writes::default());
+    let table = world.table.lend(&mut world.random);
+    let page_num = page_num(world);
+    if page_num as usize >= end {
+        let place = sys::lateenbael_place_page;
+        let answer = unsafe { place(count, page_num, store.staged.count, &staged, table.at, table.len.min(sys::PAGES)) };
+        assert_eq!((answer.refusal, answer.area), (0, 0), "{export}");
+    }
+}
+
 /// The same, with any number of staged pages, and no more of the table than
 /// there is: its length is not judged.
 fn place_page(world: &mut World, export: &'static str) {
@@ -246,6 +263,44 @@ fn recovered_mvcc_commits(world: &mut World, export: &'static str) {
     world.end(export, place.refusal, log.right, &Writes::default());
     if place.refusal == 0 && place.found != 0 {
         world.inside(export, place.offset, FRAME_SIZE, LOG_AREA);
+    }
+}
+
+/// The same as `stage_page`, with the numbers stored in place: of its own, so
+/// that valgrind sees an access outside.
+fn stage_in(world: &mut World, export: &'static str) {
+    let (store, _) = world.any_store();
+    let page_num = match world.random.percent(50) {
+        true => store.staged.pages[world.random.below(4)].into(),
+        false => page_num(world),
+    };
+    let mut bytes = vec![0; PAGE_SIZE];
+    world.random.fill(&mut bytes);
+    let mut page = world.slice(&bytes);
+    let mut staged = Box::new(store.staged.pages);
+    let writes = Writes {
+        staging: true,
+        ..Writes::default()
+    };
+    world.begin(export, &writes);
+    let staging = world.staging.lend(&mut world.random);
+    let lent = page.lend(&mut world.random);
+    let done = unsafe {
+        sys::lateenbael_stage_in(
+            store.job.kind,
+            page_num,
+            store.staged.count,
+            &mut staged,
+            staging.at,
+            staging.len,
+            lent.at,
+            lent.len,
+        )
+    };
+    world.end(export, done.refusal, staging.right && lent.right, &writes);
+    world.unaltered(export, &page);
+    if done.refusal != 0 {
+        assert_eq!((done.count, *staged), (store.staged.count, store.staged.pages), "{export}");
     }
 }
 

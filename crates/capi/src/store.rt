@@ -3,13 +3,14 @@ ghost use mathlib.Core.Path.{_≡_};
 ghost use mathlib.Core.Bool.{true, false};
 ghost use Rattle.pager_state.specs.World.{world};
 ghost use Rattle.pager_state.specs.Overlay.{findPage};
-ghost use Rattle.pager_state.specs.Staging.{stagePage, stageAfter, clearStaged};
+ghost use Rattle.pager_state.specs.Staging.{stagePage, stageAfter, stageRefusal, clearStaged};
 ghost use Rattle.pager_state.specs.Queries.{header, accessMode, clockHighWater, observeClock};
 ghost use Rattle.pager_state.specs.Batches.{appendBatch, appendAfter, nextRecovered};
 ghost use Rattle.pager_state.specs.Opening.{create, createTable, createLog, createMain, openPager, openTable, openLogArea};
 ghost use Rattle.pager_state.specs.Steps.{beginCommit, beginCheckpoint, stepAnswer, stepped, commitAnswer, commitWorld, checkpointAnswer, checkpointWorld};
 ghost use Rattle.pager_open.specs.Given.{how, files};
-ghost use Rattle.pager_read.specs.Reading.{mayRead, placePage, readRefusal};
+ghost use Rattle.pager_stage.specs.StageIn.{slots, stageIn, stagedIn, stagingIn};
+ghost use Rattle.pager_read.specs.Reading.{mayRead, placePage, readEnd, readRefusal};
 ghost use Rattle.capi_numbers.specs.Numbers.{pagerIn};
 ghost use Rattle.capi_answers.specs.Answers.{flagIn, modeIn, createdAs, openedAs, headerAs, modeAs, clockAs, observedAs, foundAs, recoveredAs, stagedAs, clearedAs, appendedAs, commitBegunAs, foldBegunAs, committedAs, writtenAs, steppedAs};
 use capi_answers::Answered;
@@ -168,7 +169,7 @@ fn read_refusal(answer: ReadAnswer) -> u32
     }
 }
 
-// The same in two calls, of what a reading takes of the store: its refusals, which stay the same until the store changes, ..
+// The same in parts, of what a reading takes of the store: its refusals, which stay the same until the store changes, ..
 #[no_mangle]
 pub extern "C" fn lateenbael_may_read(
     page_count: u32,
@@ -194,7 +195,15 @@ pub extern "C" fn lateenbael_may_read(
     ))
 }
 
-// .. and a page's place behind them.
+// .. the first page number from which on there is no page, ..
+#[no_mangle]
+pub extern "C" fn lateenbael_read_end(page_count: u32, staged_count: usize) -> usize
+    ensures { λ r. ⌜ r ≡ readEnd «page_count» «staged_count» ⌝ }
+{
+    pager_read::read_end(page_count, staged_count)
+}
+
+// .. and a page's place.
 #[no_mangle]
 pub extern "C" fn lateenbael_place_page(
     page_count: u32,
@@ -245,6 +254,35 @@ pub extern "C" fn lateenbael_stage_page(
         page_num,
         bytes,
     ))
+}
+
+// What staging in place gives: a refusal or 0, and how many pages are staged.
+#[repr(C)]
+pub struct StagedCount {
+    pub refusal: u32,
+    pub count: usize,
+}
+
+// The same of what staging takes of the store: the staged pages' numbers are stored where they lie.
+#[no_mangle]
+pub extern "C" fn lateenbael_stage_in(
+    job: u32,
+    page_num: u32,
+    staged_count: usize,
+    staged: &mut [u16; 64],
+    staging: &mut [u8],
+    bytes: &[u8],
+) -> StagedCount
+    ensures { λ r. ⌜ r .refusal ≡ stageRefusal (stageIn job «page_num» (slots «staged_count» (now (staged .entry))) (now (staging .entry)) (now (bytes .entry))) ⌝ }
+    ensures { λ r. ⌜ slots (r .count) (now (staged .exit)) ≡ stagedIn (stageIn job «page_num» (slots «staged_count» (now (staged .entry))) (now (staging .entry)) (now (bytes .entry))) (slots «staged_count» (now (staged .entry))) «page_num» ⌝ }
+    ensures { λ _. ⌜ now (staging .exit) ≡ stagingIn (stageIn job «page_num» (slots «staged_count» (now (staged .entry))) (now (staging .entry)) (now (bytes .entry))) (slots «staged_count» (now (staged .entry))) (now (staging .entry)) «page_num» (now (bytes .entry)) ⌝ }
+{
+    let done = pager_stage::stage_in(job, page_num, staged_count, staged, staging, bytes);
+    let answer = done.answer;
+    StagedCount {
+        refusal: capi_answers::stage_refusal(answer),
+        count: done.count,
+    }
 }
 
 #[no_mangle]

@@ -295,7 +295,7 @@ pub fn recovered_as(f: RecoveredFound) -> BatchPlace
     }
 }
 
-fn stage_refusal(a: StageAnswer) -> u32
+pub fn stage_refusal(a: StageAnswer) -> u32
     ensures { λ r. ⌜ r ≡ stageRefusal a ⌝ }
 {
     match a {

@@ -2,9 +2,9 @@
 use mathlib.Core.Path.{_≡_, refl, sym, ap, _∙_}
 use mathlib.Core.Bool.{Bool, true, false}
 use mathlib.Core.List.{List}
-use Prim.Native.Nat.{ℕ, _*_, _≤_, _<_, min}
+use Prim.Native.Nat.{ℕ, zero, suc, _*_, _≤_, _<_, min}
 use native.Mathlib.Omega.{arith}
-use borrow.Author.Tests.{lt-ltb, le-ltb}
+use borrow.Author.Tests.{lt-ltb, le-ltb, le-leb, ne-eqb}
 use lib.Dec.{eqb}
 use lib.ListN.{length, take, length-take}
 use Rattle.le.specs.Choice.{pick, both}
@@ -16,7 +16,7 @@ use Rattle.pager_state.specs.declared.Staged.{Staged}
 use Rattle.pager_state.specs.declared.PageFound.{PageFound}
 use Rattle.pager_state.specs.declared.PageFound.the-variants as found
 use Rattle.pager_read.specs.declared.ReadAnswer.the-variants as may
-use Rattle.pager_read.specs.Reading.{mayRead, placePage, readAs, jobTold}
+use Rattle.pager_read.specs.Reading.{mayRead, placePage, readEnd, readAs, jobTold}
 
 -- ---- what place_page finds
 
@@ -31,6 +31,14 @@ module _ (count n k : ℕ) (s t : List ℕ) (e : length s ≡ stagedLimit) {slot
   pub not-placed : {r : PageFound} → min k stagedLimit ≤ slot → r ≡ below count t n → r ≡ placePage count n k s t
   unfolding placePage
   not-placed h e = rw (sym b, slots, le-ltb slot (min k stagedLimit) h) e
+
+-- from there on it finds nothing
+pub none-behind : (count n k : ℕ) (s t : List ℕ) → readEnd count k ≤ n → n < 4294967296 → placePage count n k s t ≡ found.Nothing
+unfolding readEnd placePage below
+none-behind count n zero s t h l = rw (le-leb count n h)
+none-behind count n (suc k) s t h l =
+    let e : 4294967296 ≤ n = rw (ne-eqb (suc k) 0 (λ z. omega (arith, z))) at h in
+    absurd (omega (arith, e, l))
 
 -- ---- beside find_page
 

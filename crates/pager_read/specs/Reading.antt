@@ -24,6 +24,10 @@ unfoldable pub placePage : ℕ → ℕ → ℕ → List ℕ → List ℕ → Pag
 placePage count n k s t =
     pick (ltb (findIn (take k s) n) (length (take k s))) (found.Staged (pageSize * findIn (take k s) n)) (below count t n)
 
+-- "none if at or above the page count": with nothing staged there is no page from the count on; else it may be any of the numbers of 32 bits
+unfoldable pub readEnd : ℕ → ℕ → ℕ
+readEnd count k = pick (eqb k 0) count 4294967296
+
 -- a place, behind the refusals
 abbrev pub readAs : ReadAnswer → PageFound → PageFound
 readAs may.Allowed f = f

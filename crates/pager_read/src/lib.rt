@@ -6,7 +6,7 @@ ghost use Rattle.pager_state.specs.World.{world};
 ghost use Rattle.pager_state.specs.Overlay.{isStaged, stagedAt, below, findPage, readPage};
 ghost use Rattle.pager_state.specs.Queries.{header, modeBy, accessMode, clockHighWater, raised, observedBy, observeClock};
 ghost use Rattle.pager_state.specs.Batches.{recoveredAs, nextRecovered};
-ghost use Rattle.pager_read.specs.Reading.{mayRead, placePage};
+ghost use Rattle.pager_read.specs.Reading.{mayRead, placePage, readEnd};
 use frame::FRAME_HEADER_SIZE;
 use page::PAGE_SIZE;
 use pager_state::AccessMode;
@@ -185,6 +185,19 @@ pub fn find_page(
     let staged = pager.staged;
     let header = pager.current_header;
     overlay(staged, header.page_count, table, page_num)
+}
+
+// Page numbers that there can be.
+const PAGE_NUMBERS: usize = 4_294_967_296;
+
+// No page is found from there on, so that a host need not look: the page count, if nothing is staged.
+pub fn read_end(page_count: u32, staged_count: usize) -> usize
+    ensures { λ r. ⌜ r ≡ readEnd «page_count» «staged_count» ⌝ }
+{
+    if staged_count == 0 {
+        return page_count as usize;
+    }
+    PAGE_NUMBERS
 }
 
 // What judging a reading answers.

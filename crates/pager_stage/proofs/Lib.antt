@@ -1,3 +1,4 @@
 -- The root of the proofs of `pager_stage`.
 pub mod Staging
 pub mod Appending
+pub mod InPlace

@@ -1,2 +1,3 @@
 -- The root of the definitions of `pager_stage`.
 pub mod Append
+pub mod StageIn

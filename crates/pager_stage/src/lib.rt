@@ -1,11 +1,12 @@
 // What a caller adds to the open store between commits: staged pages, and batches in the log.
 // Every public function is total; a refusal changes neither the store nor an area.
 ghost use mathlib.Core.Path.{_≡_};
-ghost use Prim.Native.Nat.{_<_};
+ghost use Prim.Native.Nat.{_<_, max};
 ghost use Rattle.pager_state.specs.Overlay.{slotOf};
 ghost use Rattle.pager_state.specs.Staging.{slotted, stagePage, stageAfter, clearStaged};
 ghost use Rattle.pager_state.specs.Batches.{appendBatch, appendAfter};
 ghost use Rattle.pager_stage.specs.Append.{lowest, answerOf};
+ghost use Rattle.pager_stage.specs.StageIn.{slots, stageIn, stagedIn, stagingIn};
 use mvcc::MVCC_BODY_MAGIC;
 use page::PAGE_SIZE;
 use pager_state::BatchAnswer;
@@ -72,6 +73,73 @@ pub fn stage_page(pager: Pager, staging: &mut [u8], page_num: u32, bytes: &[u8])
     PageStaged {
         answer: StageAnswer::Staged,
         pager: later,
+    }
+}
+
+// What staging in place answers, beside it how many pages are staged then.
+pub struct StagedIn {
+    pub answer: StageAnswer,
+    pub count: usize,
+}
+
+fn higher(a: usize, b: usize) -> usize
+    ensures { λ r. ⌜ r ≡ max a b ⌝ }
+{
+    if a < b { b } else { a }
+}
+
+// The same of what staging takes of a store, for a host that stages often: the staged pages' numbers are stored where they lie. A job of
+// 0 is none.
+pub fn stage_in(
+    job: u32,
+    page_num: u32,
+    staged_count: usize,
+    staged: &mut [u16; 64],
+    staging: &mut [u8],
+    bytes: &[u8],
+) -> StagedIn
+    ensures { λ r. ⌜ r .answer ≡ stageIn job «page_num» (slots «staged_count» (now (staged .entry))) (now (staging .entry)) (now (bytes .entry)) ⌝ }
+    ensures { λ r. ⌜ slots (r .count) (now (staged .exit)) ≡ stagedIn (stageIn job «page_num» (slots «staged_count» (now (staged .entry))) (now (staging .entry)) (now (bytes .entry))) (slots «staged_count» (now (staged .entry))) «page_num» ⌝ }
+    ensures { λ _. ⌜ now (staging .exit) ≡ stagingIn (stageIn job «page_num» (slots «staged_count» (now (staged .entry))) (now (staging .entry)) (now (bytes .entry))) (slots «staged_count» (now (staged .entry))) (now (staging .entry)) «page_num» (now (bytes .entry)) ⌝ }
+{
+    let mut count = staged_count;
+    if staging.len() != STAGING_AREA {
+        return StagedIn {
+            answer: StageAnswer::Area,
+            count,
+        };
+    }
+    if bytes.len() != PAGE_SIZE {
+        return StagedIn {
+            answer: StageAnswer::Area,
+            count,
+        };
+    }
+    if job != 0 {
+        return StagedIn {
+            answer: StageAnswer::Busy,
+            count,
+        };
+    }
+    if page_num >= PAGES as u32 {
+        return StagedIn {
+            answer: StageAnswer::Page,
+            count,
+        };
+    }
+    let slot = pager_state::find_in(staged, count, page_num as usize);
+    if slot >= STAGED_PAGES {
+        return StagedIn {
+            answer: StageAnswer::Staging,
+            count,
+        };
+    }
+    staged[slot] = page_num as u16;
+    le::write_bytes(staging, PAGE_SIZE * slot, bytes);
+    count = higher(count, slot + 1);
+    StagedIn {
+        answer: StageAnswer::Staged,
+        count,
     }
 }
 

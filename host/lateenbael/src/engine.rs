@@ -48,6 +48,8 @@ pub struct Engine {
     store: sys::Store,
     /// What a reading is refused with; 0: nothing.
     unreadable: u32,
+    /// No page is found from there on; 0 where readings are refused.
+    read_end: usize,
     pub table: Box<[u32]>,
     pub log: Box<[u8]>,
     pub main: Box<[u8]>,
@@ -134,6 +136,7 @@ impl Engine {
         let mut engine = Engine {
             store: CLOSED,
             unreadable: 0,
+            read_end: 0,
             table: area(PAGES),
             log: area(LOG_AREA),
             main: area(MAIN_AREA),
@@ -162,6 +165,16 @@ impl Engine {
         let (log_len, main_len) = (store.wal.len, store.storage.len);
         let may_read = sys::lateenbael_may_read;
         self.unreadable = over_areas!(self, as_ptr, may_read, [count, job, log_len, main_len], []);
+        self.end();
+    }
+
+    /// Says from where on no page is found.
+    fn end(&mut self) {
+        let store = &self.store;
+        self.read_end = match self.unreadable {
+            0 => unsafe { sys::lateenbael_read_end(store.current_header.page_count, store.staged.count) },
+            _ => 0,
+        };
     }
 
     /// Whether there is a log file: a store open read-only may have none.
@@ -179,16 +192,18 @@ impl Engine {
         &self.main[..self.store.storage.len.min(MAIN_AREA)]
     }
 
-    fn take(&mut self, answered: sys::Answered) -> Result<sys::Answered, Refusal> {
+    /// The store after a call that was not refused. It is copied once, where it is kept.
+    fn take(&mut self, answered: &sys::Answered) -> Result<(), Refusal> {
         Refusal::judge(answered.refusal)?;
-        self.set_store(answered.store);
-        Ok(answered)
+        self.store = answered.store;
+        self.judge();
+        Ok(())
     }
 
     /// Makes a new store.
     pub fn create(&mut self, salt: u32) -> Result<(), Refusal> {
         let answered = over_areas!(self, as_mut_ptr, sys::lateenbael_create, [], [salt]);
-        self.take(answered).map(drop)
+        self.take(&answered)
     }
 
     /// Puts the files' bytes into the areas (too long: refusal 1). A log that there is not is `None`.
@@ -228,7 +243,7 @@ impl Engine {
             [],
             [main_len, log_len.unwrap_or(0), read_only.into(), log_len.is_some().into(), salt]
         );
-        self.take(answered).map(drop)
+        self.take(&answered)
     }
 
     /// The header that counts.
@@ -252,17 +267,20 @@ impl Engine {
 
     pub fn observe_clock_high_water(&mut self, value: u64) -> Result<(), Refusal> {
         let answered = unsafe { sys::lateenbael_observe_clock_high_water(self.store, value) };
-        self.take(answered).map(drop)
+        self.take(&answered)
     }
 
     /// A page's own bytes, or none.
     #[inline]
     pub fn read_page(&self, page_num: u32) -> Result<Option<&[u8]>, Refusal> {
-        Refusal::judge(self.unreadable)?;
+        if page_num as usize >= self.read_end {
+            return Refusal::judge(self.unreadable).map(|()| None);
+        }
         let (count, staged) = (self.store.current_header.page_count, &self.store.staged);
         let answer =
             unsafe { sys::lateenbael_place_page(count, page_num, staged.count, &staged.pages, self.table.as_ptr(), self.table.len()) };
         let area = match answer.area {
+            // A refusal names no area.
             0 => return Refusal::judge(answer.refusal).map(|()| None),
             1 => &self.log,
             2 => &self.main,
@@ -284,23 +302,32 @@ impl Engine {
         }))
     }
 
+    /// Stages a page's bytes. The numbers of the staged pages are stored where they lie: the store is not handed over.
     pub fn stage_page(&mut self, page_num: u32, bytes: &[u8]) -> Result<(), Refusal> {
-        let answered = unsafe {
-            sys::lateenbael_stage_page(
-                self.store,
+        let staged = &mut self.store.staged;
+        let done = unsafe {
+            sys::lateenbael_stage_in(
+                self.store.job.kind,
+                page_num,
+                staged.count,
+                &mut staged.pages,
                 self.staging.as_mut_ptr(),
                 self.staging.len(),
-                page_num,
                 bytes.as_ptr(),
                 bytes.len(),
             )
         };
-        self.take(answered).map(drop)
+        Refusal::judge(done.refusal)?;
+        if staged.count != done.count {
+            staged.count = done.count;
+            self.end();
+        }
+        Ok(())
     }
 
     pub fn clear_staged(&mut self) -> Result<(), Refusal> {
         let answered = unsafe { sys::lateenbael_clear_staged(self.store) };
-        self.take(answered).map(drop)
+        self.take(&answered)
     }
 
     /// Appends a batch; the frame that it becomes is named.
@@ -308,7 +335,7 @@ impl Engine {
         let at = self.store.wal.len;
         let answered =
             unsafe { sys::lateenbael_append_mvcc_batch(self.store, self.log.as_mut_ptr(), self.log.len(), body.as_ptr(), body.len()) };
-        self.take(answered)?;
+        self.take(&answered)?;
         Ok(Named {
             area: Area::Log,
             at,
@@ -320,13 +347,13 @@ impl Engine {
     /// Begins a commit. Beside refusal 14 stands the lowest page that is missing.
     pub fn begin_commit(&mut self, header: DbHeader, salt: u32) -> Result<(), (Refusal, usize)> {
         let answered = over_areas!(self, as_mut_ptr, sys::lateenbael_begin_commit, [self.store], [header, salt]);
-        self.take(answered).map(drop).map_err(|refusal| (refusal, answered.answer))
+        self.take(&answered).map_err(|refusal| (refusal, answered.answer))
     }
 
     /// Begins a fold; false if there is nothing to store, and its answer is 0.
     pub fn begin_checkpoint(&mut self, salt: u32) -> Result<bool, Refusal> {
         let answered = over_areas!(self, as_mut_ptr, sys::lateenbael_begin_checkpoint, [self.store], [salt]);
-        self.take(answered).map(|answered| answered.begun != 0)
+        self.take(&answered).map(|()| answered.begun != 0)
     }
 
     /// Does the next store of what is part done.
@@ -351,14 +378,15 @@ impl Engine {
     /// A commit in one call: the number of differing pages.
     pub fn commit(&mut self, header: DbHeader, salt: u32) -> Result<usize, (Refusal, usize)> {
         let answered = over_areas!(self, as_mut_ptr, sys::lateenbael_commit, [self.store], [header, salt]);
-        self.take(answered)
-            .map(|answered| answered.answer)
-            .map_err(|refusal| (refusal, answered.answer))
+        match self.take(&answered) {
+            Ok(()) => Ok(answered.answer),
+            Err(refusal) => Err((refusal, answered.answer)),
+        }
     }
 
     /// A fold in one call: the number of pages written.
     pub fn checkpoint(&mut self, salt: u32) -> Result<usize, Refusal> {
         let answered = over_areas!(self, as_mut_ptr, sys::lateenbael_checkpoint, [self.store], [salt]);
-        self.take(answered).map(|answered| answered.answer)
+        self.take(&answered).map(|()| answered.answer)
     }
 }

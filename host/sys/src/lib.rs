@@ -109,6 +109,14 @@ pub struct PageAnswer {
     pub at: usize,
 }
 
+/// What staging in place gives: a refusal or 0, and how many pages are staged.
+#[repr(C)]
+#[derive(Clone, Copy, Debug, PartialEq, Eq)]
+pub struct StagedCount {
+    pub refusal: u32,
+    pub count: usize,
+}
+
 #[repr(C)]
 #[derive(Clone, Copy, Debug, PartialEq, Eq)]
 pub struct BatchPlace {
@@ -301,6 +309,7 @@ unsafe extern "C" {
         staging: *const u8,
         staging_size: usize,
     ) -> u32;
+    pub fn lateenbael_read_end(page_count: u32, staged_count: usize) -> usize;
     pub fn lateenbael_place_page(
         page_count: u32,
         page_num: u32,
@@ -330,6 +339,16 @@ unsafe extern "C" {
         bytes: *const u8,
         bytes_len: usize,
     ) -> Answered;
+    pub fn lateenbael_stage_in(
+        job: u32,
+        page_num: u32,
+        staged_count: usize,
+        staged: &mut [u16; STAGED_PAGES],
+        staging: *mut u8,
+        staging_size: usize,
+        bytes: *const u8,
+        bytes_len: usize,
+    ) -> StagedCount;
     pub fn lateenbael_clear_staged(store: Store) -> Answered;
     pub fn lateenbael_append_mvcc_batch(store: Store, log: *mut u8, log_size: usize, body: *const u8, body_len: usize) -> Answered;
     pub fn lateenbael_begin_commit(
