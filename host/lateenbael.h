@@ -274,9 +274,9 @@ typedef struct {
     size_t count;
 } lateenbael_staged_count;
 
-/* The same for hosts that stage often, with only what staging takes of a store: job is job.kind, staged_count is staged.count, and
- * `staged` is staged.pages, where the page's number is stored. The count given is the store's next staged.count; nothing else of the store
- * is another. Refusals 1, 9, 11, 12. */
+/* The same for hosts that stage often, with only what staging takes of a store: job is job.kind (any but 0 is refused with 9),
+ * staged_count is staged.count, and `staged` is staged.pages, where the page's number is stored. The count given is the store's next
+ * staged.count; nothing else of the store is another. Refusals 1, 9, 11, 12. */
 lateenbael_staged_count lateenbael_stage_in(uint32_t job, uint32_t page_num, size_t staged_count, uint16_t staged[LATEENBAEL_STAGED_PAGES],
                                             uint8_t *staging, size_t staging_size, const uint8_t *bytes, size_t bytes_len);
 
