@@ -1,5 +1,6 @@
 -- The root of the laws of `mvcc_canonical`.
 pub mod Same
 pub mod Walk
+pub mod Bools
 pub mod Whole
 pub mod Cases

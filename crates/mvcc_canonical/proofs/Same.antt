@@ -7,15 +7,15 @@ use Prim.Native.Nat.{ℕ, zero, suc, _+_, _-_, _*_, _%_, _^_, _≤_, _<_}
 use native.Mathlib.Omega.{arith}
 use borrow.Author.Tests.{leb-true, eqb-true, lt-ltb, le-ltb}
 use lib.Dec.{eqb}
-use lib.ListN.{length, take, drop, length-append, length-take, length-drop, length-map}
+use lib.ListN.{length, take, drop, getD, length-append, length-take, length-drop, length-map}
 use lib.Seq.{take-add, drop-drop, take-take, take-append-seam}
 use lib.Ieee.{binary64, nanBits, ofBits}
 use mir.Val.{ofZ}
 use mir.Syntax.{w64}
 use Rattle.le.specs.Choice.{pick}
-use Rattle.le.specs.Le.{leBytes, field}
+use Rattle.le.specs.Le.{leOf, leBytes, field}
 use Rattle.le.proofs.Tests.{le-or-lt}
-use Rattle.le.proofs.Fields.{Bytes, length-leBytes, leBytes-field}
+use Rattle.le.proofs.Fields.{Bytes, field-one, length-leBytes, leBytes-field}
 use Rattle.text.specs.Utf8.{wellFormed}
 use Rattle.mvcc.specs.Answer.{Answer, taken, refused, then, many}
 use Rattle.mvcc.specs.Decode.{fitsIn, numAt, textOf, textAt, signed, realOf, integerAt, realAt, textValueAt, boolAt, vectorAt, taggedAt, valueAt, columnAt, presentAt, judgedAt, recordAt}
@@ -34,6 +34,7 @@ use Rattle.mvcc.proofs.Trip.{real-seen}
 use Rattle.mvcc.proofs.Bytes.{field-small}
 use Rattle.mvcc.proofs.Sound.{When, then-when, pick-test, words-length}
 use Rattle.mvcc_build.proofs.Laws.{words-bytes}
+use Rattle.mvcc_canonical.specs.Canonical.{BoolsTo}
 
 -- ---- bytes at a place
 
@@ -68,6 +69,13 @@ part-at s at n h =
     let e : length (take n (drop at s)) ≡ n = simp (length-take, length-drop) (omega arith) in
     record { is = rw e; reach = rw e; within = h }
 
+-- one byte
+byte-at : {s : List ℕ} {at b next : ℕ} → At s at (b ∷ []) next → getD s at 0 ≡ b
+unfolding leOf
+byte-at {s} {at} p =
+    let h : at < length s = omega (arith, p .reach, p .within) in
+    sym (field-one at s h) ∙ rw (p .is) (omega arith)
+
 any : {A : Type 0} (x : Answer A) → When (λ (a : A) (next : ℕ). Unit) x
 any (taken a next) = tt
 any (refused k) = tt
@@ -92,6 +100,12 @@ patch (value.Nan n) = []
 patch (value.Text p) = []
 patch (value.Bool b) = pick b 1 0 ∷ []
 patch (value.Vector start n) = []
+
+-- 0 and 1 are written as they came
+bool-still : (n : ℕ) → n ≤ 1 → n ≡ pick (not (eqb n 0)) 1 0
+bool-still zero h = refl
+bool-still (suc zero) h = refl
+bool-still (suc (suc k)) h = absurd (omega (arith, h))
 
 -- ---- numbers and texts
 
@@ -142,16 +156,23 @@ module _ (s : List ℕ) (sb : Bytes s) where
 
   -- ---- values
 
-  -- e is what stands at `at`, but for the patch of v at its end
+  bool-low : {at next n end last : ℕ} → At s at (4 ∷ []) next → At s next (n ∷ []) end → end ≤ last → BoolsTo s last 1 → n ≤ 1
+  bool-low {at} {next} t p h f =
+      let k : at + 1 ≡ next = t .reach in
+      let l : getD s next 0 ≤ 1 = rw k at (f at (omega (arith, p .reach)) (byte-at t)) in
+      rw (byte-at p) at l
+
+  -- e is what stands at `at`, but for the patch of v at its end, which is what stands there too where no bool is above 1
   pub record Patched (at : ℕ) (e : List ℕ) (v : Value) (next : ℕ) : Type 0 where
     pub front : List ℕ
     pub old : List ℕ
     pub stands : At s at (front ++ old) next
     pub alike : length old ≡ length (patch v)
     pub is : e ≡ front ++ patch v
+    pub still : (end : ℕ) → next ≤ end → BoolsTo s end 1 → old ≡ patch v
 
   plain : {at : ℕ} (e : List ℕ) (v : Value) {next : ℕ} → patch v ≡ [] → At s at e next → Patched at e v next
-  plain e v o p = record { front = e; old = []; stands = rw append-nil p; alike = rw o; is = rw (o, append-nil) }
+  plain e v o p = record { front = e; old = []; stands = rw append-nil p; alike = rw o; is = rw (o, append-nil); still = λ end h f. sym o }
 
   patched-behind : {at mid next : ℕ} (xs e : List ℕ) (v : Value) → At s at xs mid → Patched mid e v next → Patched at (xs ++ e) v next
   patched-behind xs e v p q = record {
@@ -160,6 +181,7 @@ module _ (s : List ℕ) (sb : Bytes s) where
     stands = rw append-assoc (at-append xs (q .front ++ q .old) p (q .stands));
     alike = q .alike;
     is = rw (q .is) (sym (append-assoc xs (q .front) (patch v)));
+    still = q .still;
   }
 
   unsigned-signed : (n : ℕ) → n < 256 ^ 8 → ofZ w64 (signed n) ≡ n
@@ -215,6 +237,7 @@ module _ (s : List ℕ) (sb : Bytes s) where
           stands = at-append (4 ∷ []) (n ∷ []) t (byte-same p);
           alike = refl;
           is = refl;
+          still = λ last h f. ap (λ (x : ℕ). x ∷ []) (bool-still n (bool-low t (byte-same p) h f));
         })
 
     vector-good : At s at (5 ∷ []) next → (n start : ℕ) → Num 4 next n start → start + n * 4 ≤ length s → Same at (value.Vector start n) (start + n * 4)

@@ -193,7 +193,7 @@ fix-is (value.Bool b) out at next e h =
 fix-is (value.Vector start n) out at next e h = sym (put-none out at)
 
 module _ (s : List ℕ) (sb : Bytes s) where
-  column-here : (at : ℕ) (c : Column) (next : ℕ) → columnAt s at ≡ taken c next → ColumnSame s sb at c next
+  pub column-here : (at : ℕ) (c : Column) (next : ℕ) → columnAt s at ≡ taken c next → ColumnSame s sb at c next
   column-here at c next e = rw e at (column-same s sb at)
 
   pub column-far : (at : ℕ) (c : Column) (next : ℕ) → columnAt s at ≡ taken c next → at + length (encodeColumn (seenColumn s c)) ≡ next

@@ -24,11 +24,12 @@ use Rattle.mvcc.specs.declared.Refusal.the-variants.{Truncated, Tag, Text}
 use types.Run.{OneOf, miss}
 use denote.Enum.Declared.{tagOf}
 use Rattle.mvcc.proofs.Canonical.{batchOf-is, encode-length}
-use Rattle.mvcc_canonical.specs.Canonical.{toldOf, canonicalized, canonicalBytes, fixAll, recordStep, Walk}
+use Rattle.mvcc_canonical.specs.Canonical.{toldOf, canonicalized, canonicalBytes, fixAll, recordStep, Walk, BoolsTo}
 use Rattle.mvcc_canonical.specs.declared.Canonical.{Canonical}
 use Rattle.mvcc_canonical.specs.declared.Canonical.the-variants.{Done, Area, Short, Magic, Refused}
 use Rattle.mvcc_canonical.proofs.Same.{At, at-append, field-at}
 use Rattle.mvcc_canonical.proofs.Walk.{Agree, agree-front, agree-part, put-front, records-is}
+use Rattle.mvcc_canonical.proofs.Bools.{bools-less, records-at}
 
 abbrev countIn : BatchDecoded → ℕ
 countIn (batch.Batch b) = b .records
@@ -46,12 +47,23 @@ magic-bytes : leBytes 8 magic ≡ 0x4d ∷ 0x56 ∷ 0x43 ∷ 0x43 ∷ 0x30 ∷ 0
 unfolding magic leOf leBytes
 magic-bytes = refl
 
--- a body that was decoded
-pub decodes-batch : (s : List ℕ) {b : MvccCommitBatch} → batchOf s ≡ batch.Batch b → decodes s ≡ true
+decodes-batch : (s : List ℕ) {b : MvccCommitBatch} → batchOf s ≡ batch.Batch b → decodes s ≡ true
 unfolding decodes refusalOf
 decodes-batch s e = rw e
 
-module _ (s : List ℕ) (sb : Bytes s) (small : length s ≤ 4096) (d : decodes s ≡ true) where
+-- a body that was decoded
+pub record Decoded (s : List ℕ) (b : MvccCommitBatch) : Type 0 where
+  pub bytes : Bytes s
+  pub small : length s ≤ 4096
+  pub is : batchOf s ≡ batch.Batch b
+
+module _ (s : List ℕ) {b : MvccCommitBatch} (w : Decoded s b) where
+  abbrev sb : Bytes s
+  sb = w .bytes
+
+  abbrev d : decodes s ≡ true
+  d = decodes-batch s (w .is)
+
   abbrev F : Found s
   F = found s d
 
@@ -61,11 +73,11 @@ module _ (s : List ℕ) (sb : Bytes s) (small : length s ≤ 4096) (d : decodes 
   abbrev E : List ℕ
   E = encodeBatch (commitTs s) rs
 
-  pub count-is : {b : MvccCommitBatch} → batchOf s ≡ batch.Batch b → b .records ≡ length rs
-  count-is e = ap countIn (sym e ∙ batchOf-is s sb d)
+  pub count-is : b .records ≡ length rs
+  count-is = ap countIn (sym (w .is) ∙ batchOf-is s sb d)
 
-  pub end-is : {b : MvccCommitBatch} → batchOf s ≡ batch.Batch b → b .end ≡ length E
-  end-is e = ap endIn (sym e ∙ batchOf-is s sb d)
+  pub end-is : b .end ≡ length E
+  end-is = ap endIn (sym (w .is) ∙ batchOf-is s sb d)
 
   end-found : F .end ≡ length E
   end-found = ap endIn (sym (found-batch s F) ∙ batchOf-is s sb d)
@@ -81,7 +93,7 @@ module _ (s : List ℕ) (sb : Bytes s) (small : length s ≤ 4096) (d : decodes 
   run = rw (← count-found, ← end-found) (F .is)
 
   pub walk : Walk s (length rs) 18
-  walk = record { small = small; list = F .list; end = length E; is = run }
+  walk = record { small = w .small; list = F .list; end = length E; is = run }
 
   abbrev Z : List ℕ
   Z = replicate (4096 - length E) 0
@@ -89,21 +101,22 @@ module _ (s : List ℕ) (sb : Bytes s) (small : length s ≤ 4096) (d : decodes 
   front-length : length (take (length E) s) ≡ length E
   front-length = let f = fits in rw length-take (omega arith)
 
-  abbrev L : List ℕ
-  L = take (length E) s ++ Z
+  -- the copy that the code makes: the front of the body, and zeros behind it
+  abbrev pub Copy : List ℕ
+  Copy = take (length E) s ++ Z
 
-  whole-length : length L ≡ 4096
-  whole-length = let f = fits in rw (length-append, front-length, length-replicate {A = ℕ}) (omega arith)
+  whole-length : length Copy ≡ 4096
+  whole-length = let f = fits in let m = w .small in rw (length-append, front-length, length-replicate {A = ℕ}) (omega arith)
 
-  -- the copy that the code makes
-  pub copied : (out : List ℕ) {c1 c2 : List ℕ} → length out ≡ 4096 → c1 ≡ store out 0 (take (length E) s) → c2 ≡ store c1 (length E) Z → c2 ≡ L
+  pub copied : (out : List ℕ) {c1 c2 : List ℕ} → length out ≡ 4096 → c1 ≡ store out 0 (take (length E) s) → c2 ≡ store c1 (length E) Z → c2 ≡ Copy
   copied out {c1} full e1 e2 =
       let f = fits in
+      let m = w .small in
       let z : length Z ≡ 4096 - length E = length-replicate {A = ℕ} (4096 - length E) 0 in
       let p1 = e1 ∙ store-put out 0 (take (length E) s) (rw (front-length, full) (omega arith)) in
       let p2 = store-next (length E) (4096 - length E) out 0 (take (length E) s) Z front-length z (rw full (omega arith)) p1
       (e2 ∙ ap (λ (k : ℕ). store c1 k Z) (sym (zero-add (length E)))) in
-      p2 ∙ put-all out L (whole-length ∙ sym full)
+      p2 ∙ put-all out Copy (whole-length ∙ sym full)
 
   -- heading
   abbrev H : List ℕ
@@ -116,34 +129,45 @@ module _ (s : List ℕ) (sb : Bytes s) (small : length s ≤ 4096) (d : decodes 
       at-append (leBytes 8 magic) (leBytes 8 (field 8 8 s) ++ leBytes 2 (field 2 16 s)) a
       (at-append (leBytes 8 (field 8 8 s)) (leBytes 2 (field 2 16 s)) (field-at s sb 8 8 (omega arith)) (field-at s sb 2 16 (omega arith)))
 
-  encoded : H ++ all encodeRecord rs ≡ E
+  -- the records
+  abbrev R : List ℕ
+  R = all encodeRecord (map (seenRecord s) (F .list))
+
+  encoded : H ++ R ≡ E
   unfolding encodeBatch commitTs
   encoded =
-      rw (magic-bytes, count-found)
+      rw (magic-bytes, count-found, ← found-records s F)
       (ap (λ (x : List ℕ). 0x4d ∷ 0x56 ∷ 0x43 ∷ 0x43 ∷ 0x30 ∷ 0x30 ∷ 0x30 ∷ 0x31 ∷ x)
       (append-assoc (leBytes 8 (field 8 8 s)) (leBytes 2 (length rs)) (all encodeRecord rs)))
 
-  agree : Agree s L 0 (length E)
+  agree : Agree s Copy 0 (length E)
   agree =
       let f = fits in
       let z : length E - 0 ≡ length E = omega arith in
       record { is = rw (z, take-at (take (length E) s) Z (length E) front-length); room = rw whole-length (omega arith) }
 
-  padded-is : put L 0 E ≡ canonical s
+  padded-is : put Copy 0 E ≡ canonical s
   unfolding canonical encodeBody padded put
   padded-is = rw (zero-add, drop-at (take (length E) s) Z (length E) front-length)
 
   -- the copy with its bools set
-  pub whole : {c3 : List ℕ} → c3 ≡ fixAll (recordAt s) (recordStep s) (length rs) 18 L → c3 ≡ canonical s
+  pub whole : {c3 : List ℕ} → c3 ≡ fixAll (recordAt s) (recordStep s) (length rs) 18 Copy → c3 ≡ canonical s
   whole e =
       let f = fits in
-      let R = all encodeRecord (map (seenRecord s) (F .list)) in
       let j : 18 ≤ length E = omega (arith, batch-length (commitTs s) rs) in
-      let w = records-is s sb (length rs) 18 (F .list) (length E) run L (agree-part 18 (length E) agree (omega arith) j (omega arith)) in
-      let t : take (length H) (drop 0 L) ≡ H = agree-front H agree heading j in
-      let p : put L 18 R ≡ put L 0 (H ++ R) = put-front L 0 18 H R (heading .reach) (rw whole-length (omega arith)) t in
-      let q : H ++ R ≡ E = ap (λ (x : List Rec). H ++ all encodeRecord x) (sym (found-records s F)) ∙ encoded in
-      e ∙ w .is ∙ p ∙ ap (put L 0) q ∙ padded-is
+      let v = records-is s sb (length rs) 18 (F .list) (length E) run Copy (agree-part 18 (length E) agree (omega arith) j (omega arith)) in
+      let t : take (length H) (drop 0 Copy) ≡ H = agree-front H agree heading j in
+      let p : put Copy 18 R ≡ put Copy 0 (H ++ R) = put-front Copy 0 18 H R (heading .reach) (rw whole-length (omega arith)) t in
+      e ∙ v .is ∙ p ∙ ap (put Copy 0) encoded ∙ padded-is
+
+  -- and the copy alone, where no bool is above 1
+  pub copy-is : {c2 : List ℕ} {top : ℕ} → c2 ≡ Copy → BoolsTo s (b .end) top → top ≤ 1 → c2 ≡ canonical s
+  unfolding canonical encodeBody padded
+  copy-is {top = top} e f h =
+      let g : BoolsTo s (length E) 1 = bools-less s (b .end) top f (omega (arith, end-is)) h in
+      let a = at-append H R heading (records-at s sb (length E) fits g (length rs) 18 (F .list) (length E) run (omega arith)) in
+      let t : take (length E) s ≡ E = rw encoded at (a .is) in
+      e ∙ rw t
 
 -- a body that does not decode, as a match tells it
 pub not-decodes : (s : List ℕ) (x : BatchDecoded) → x ≡ batchOf s → OneOf (1 ∷ 2 ∷ 3 ∷ []) (tagOf the-type x) → decodes s ≡ false
@@ -173,6 +197,6 @@ module _ (s out : List ℕ) where
   unfolding canonicalized canonicalBytes
   way-refused h k e d f = (rw (eq-eqb _ _ h, le-leb _ _ k, ← e) f, rw (eq-eqb _ _ h, le-leb _ _ k, d))
 
-  pub way-done : {b : MvccCommitBatch} {c : List ℕ} → length out ≡ 4096 → length s ≤ 4096 → batchOf s ≡ batch.Batch b → c ≡ canonical s → Says Done c
+  pub way-done : {b : MvccCommitBatch} {c : List ℕ} → length out ≡ 4096 → Decoded s b → c ≡ canonical s → Says Done c
   unfolding canonicalized canonicalBytes
-  way-done h k e f = (rw (eq-eqb _ _ h, le-leb _ _ k, e), rw (eq-eqb _ _ h, le-leb _ _ k, decodes-batch s e) f)
+  way-done h w f = (rw (eq-eqb _ _ h, le-leb _ _ (w .small), w .is), rw (eq-eqb _ _ h, le-leb _ _ (w .small), decodes-batch s (w .is)) f)

@@ -2,9 +2,9 @@
 use mathlib.Core.Path.{_≡_}
 use mathlib.Core.Bool.{Bool}
 use mathlib.Core.List.{List, [], _∷_}
-use Prim.Native.Nat.{ℕ, zero, suc, _-_, _≤_}
+use Prim.Native.Nat.{ℕ, zero, suc, _+_, _-_, _≤_, _<_}
 use lib.Dec.{leb, ltb, eqb}
-use lib.ListN.{length}
+use lib.ListN.{length, getD}
 use Rattle.le.specs.Choice.{pick}
 use Rattle.le.specs.Le.{store}
 use Rattle.mvcc.specs.Answer.{Answer, taken, refused, many, refusal}
@@ -95,3 +95,7 @@ pub record Walk (s : List ℕ) (n at : ℕ) : Type 0 where
   pub list : List MvccLogRecord
   pub end : ℕ
   pub is : many (recordAt s) n at ≡ taken list end
+
+-- a byte before `end` that stands right behind a byte 4, the tag of a bool, is at most `top`
+abbrev pub BoolsTo : List ℕ → ℕ → ℕ → Type 0
+BoolsTo s end top = (i : ℕ) → i + 1 < end → getD s i 0 ≡ 4 → getD s (i + 1) 0 ≤ top

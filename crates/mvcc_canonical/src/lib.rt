@@ -6,7 +6,7 @@ ghost use lib.ListN.{length};
 ghost use Rattle.le.specs.Choice.{pick};
 ghost use Rattle.mvcc.specs.Answer.{many};
 ghost use Rattle.mvcc.specs.Decode.{columnAt, recordAt};
-ghost use Rattle.mvcc_canonical.specs.Canonical.{endOf, fixAll, fixValue, columnStep, recordStep, fixRecord, Stands, Walk, toldOf, canonicalized, canonicalBytes};
+ghost use Rattle.mvcc_canonical.specs.Canonical.{endOf, fixAll, fixValue, columnStep, recordStep, fixRecord, Stands, Walk, BoolsTo, toldOf, canonicalized, canonicalBytes};
 
 pub enum Canonical {
     Done,
@@ -84,6 +84,33 @@ fn fix_records(body: &[u8], out: &mut [u8], n: usize)
     }
 }
 
+fn larger(a: u8, b: u8) -> u8
+    ensures { λ r. ⌜ (a ≤ r) × (b ≤ r) ⌝ }
+{
+    if a < b { b } else { a }
+}
+
+fn byte_if(yes: bool, b: u8) -> u8
+    ensures { λ r. ⌜ r ≡ pick yes b 0 ⌝ }
+{
+    if yes { b } else { 0 }
+}
+
+// No less than any byte of the first `end` that stands behind a bool's tag, or behind what looks like one. Every byte is looked at:
+// with no way out in between the compiler takes sixteen at once.
+fn top_bool(body: &[u8], end: usize) -> u8
+    requires { ⌜ end ≤ length (now body) ⌝ }
+    ensures { λ r. ⌜ BoolsTo (now (body .entry)) end r ⌝ }
+{
+    let mut top: u8 = 0;
+    let mut i: usize = 1;
+    while i < end {
+        top = larger(top, byte_if(body[i - 1] == 4, body[i]));
+        i += 1;
+    }
+    top
+}
+
 // What a body that was decoded comes to.
 fn told_of(d: mvcc::BatchDecoded) -> Canonical
     ensures { λ r. ⌜ r ≡ toldOf d ⌝ }
@@ -96,7 +123,7 @@ fn told_of(d: mvcc::BatchDecoded) -> Canonical
     }
 }
 
-// Writes the canonical form of a decodable body into `out`, which has 4,096 bytes.
+// Writes the canonical form of a decodable body into `out`, which has 4,096 bytes. Where no bool is above 1 the copy is that form already.
 pub fn canonicalize(body: &[u8], out: &mut [u8]) -> Canonical
     ensures { λ r. ⌜ r ≡ canonicalized (now (body .entry)) (now (out .entry)) ⌝ }
     ensures { λ _. ⌜ now (out .exit) ≡ canonicalBytes (now (body .entry)) (now (out .entry)) ⌝ }
@@ -115,6 +142,9 @@ pub fn canonicalize(body: &[u8], out: &mut [u8]) -> Canonical
     let n = b.records;
     le::write_bytes(out, 0, le::part(body, 0, end));
     le::write_zeros(out, end, 4096 - end);
+    if top_bool(body, end) <= 1 {
+        return Canonical::Done;
+    }
     fix_records(body, out, n);
     Canonical::Done
 }

@@ -1,12 +1,30 @@
 -- `mvcc_canonical::canonicalize` meets its contract. Assumes nothing.
 use native.Mathlib.Omega.{arith}
-use mathlib.Core.Path.{sym, _∙_}
+use mathlib.Core.Path.{_≡_, sym, _∙_}
 use denote.Ref.{now}
 use Prim.Native.Nat.{_-_}
-use Rattle.mvcc_canonical.proofs.Whole.{decodes-batch, not-decodes, count-is, end-is, fits, walk, copied, whole, way-out, way-long, way-refused, way-done}
+use Rattle.mvcc_canonical.proofs.Whole.{Decoded, not-decodes, Copy, count-is, end-is, fits, walk, copied, whole, copy-is, way-out, way-long, way-refused, way-done}
 use borrow.Author.Needs.{needs}
 use Rattle.mvcc_canonical.proofs.canonicalize.Statement.{statement}
 use Rattle.mvcc_canonical.proofs.canonicalize.Tie as tie
+
+-- the body, once it is decoded
+known : (c : tie.After-d) → Decoded (c .before .before .before .before .before .before .before .args .body .now) (c .d .given .0 .0)
+known c = record {
+  bytes = λ i. c .before .before .before .before .before .before .shared-slice-known .given i .fits;
+  small = c .before .before .before .if2 .left;
+  is = sym (c .before .before .decode .ensures) ∙ c .d .given .1;
+}
+
+-- what both stores leave
+laid : (c : tie.After-write-zeros) → c .write-zeros .last .0 ≡ Copy (c .before .before .before .before .before .before .before .before .before .before .before .before .before .before .before .args .body .now) (known (c .before .before .before .before .before .before .before .before))
+laid c =
+    let d = c .before .before .before .before .before .before .before .before in
+    let s = d .before .before .before .before .before .before .before .args .body .now in
+    let e = end-is s (known d) in
+    let c1 = rw (c .before .before .before .before .before .part .ensures, e) at (c .before .before .before .before .write-bytes .ensures .1) in
+    let c2 = rw e at (c .write-zeros .ensures .1) in
+    copied s (known d) (d .before .before .before .before .before .before .before .args .out .now) (d .before .before .before .before .if1 .left) c1 c2
 
 returns : tie.Need-returns
 returns c = way-out (c .before .before .before .args .body .now) (c .before .before .before .args .out .now) (c .if1 .taken)
@@ -17,30 +35,47 @@ returns-2 c =
 
 returns-3 : tie.Need-returns-3
 returns-3 c =
-    way-refused (c .before .before .before .before .before .before .before .args .body .now) (c .before .before .before .before .before .before .before .args .out .now) (c .before .before .before .before .if1 .left) (c .before .before .before .if2 .left) (c .before .before .decode .ensures) (not-decodes (c .before .before .before .before .before .before .before .args .body .now) (c .before .before .decode .result) (c .before .before .decode .ensures) (c .before .match .keys2)) (c .told-of .ensures)
+    let a = c .before .before .before .before .before .before .before .args in
+    let k = c .before .before .decode in
+    way-refused (a .body .now) (a .out .now) (c .before .before .before .before .if1 .left) (c .before .before .before .if2 .left) (k .ensures) (not-decodes (a .body .now) (k .result) (k .ensures) (c .before .match .keys2)) (c .told-of .ensures)
 
 sub-write-zeros : tie.Need-sub-write-zeros
 sub-write-zeros c =
-    let e = end-is (c .before .before .before .before .before .before .before .before .before .before .before .before .before .before .args .body .now) (λ i. c .before .before .before .before .before .before .before .before .before .before .before .before .before .shared-slice-known .given i .fits) (c .before .before .before .before .before .before .before .before .before .before .if2 .left) (decodes-batch (c .before .before .before .before .before .before .before .before .before .before .before .before .before .before .args .body .now) (sym (c .before .before .before .before .before .before .before .before .before .decode .ensures) ∙ c .before .before .before .before .before .before .before .d .given .1)) (sym (c .before .before .before .before .before .before .before .before .before .decode .ensures) ∙ c .before .before .before .before .before .before .before .d .given .1) in
-    let f = fits (c .before .before .before .before .before .before .before .before .before .before .before .before .before .before .args .body .now) (λ i. c .before .before .before .before .before .before .before .before .before .before .before .before .before .shared-slice-known .given i .fits) (c .before .before .before .before .before .before .before .before .before .before .if2 .left) (decodes-batch (c .before .before .before .before .before .before .before .before .before .before .before .before .before .before .args .body .now) (sym (c .before .before .before .before .before .before .before .before .before .decode .ensures) ∙ c .before .before .before .before .before .before .before .d .given .1)) in
-    let h = c .before .before .before .before .before .before .before .before .before .before .if2 .left in
-    rw e (omega arith)
+    let d = c .before .before .before .before .before .before .before in
+    let s = d .before .before .before .before .before .before .before .args .body .now in
+    let f = fits s (known d) in
+    let h = known d .small in
+    rw (end-is s (known d)) (omega arith)
 
-fix-records-requires : tie.Need-fix-records-requires
-fix-records-requires c κs =
-    rw (count-is (c .before .before .before .before .before .before .before .before .before .before .before .before .before .before .before .before .before .before .args .body .now) (λ i. c .before .before .before .before .before .before .before .before .before .before .before .before .before .before .before .before .before .shared-slice-known .given i .fits) (c .before .before .before .before .before .before .before .before .before .before .before .before .before .before .if2 .left) (decodes-batch (c .before .before .before .before .before .before .before .before .before .before .before .before .before .before .before .before .before .before .args .body .now) (sym (c .before .before .before .before .before .before .before .before .before .before .before .before .before .decode .ensures) ∙ c .before .before .before .before .before .before .before .before .before .before .before .d .given .1)) (sym (c .before .before .before .before .before .before .before .before .before .before .before .before .before .decode .ensures) ∙ c .before .before .before .before .before .before .before .before .before .before .before .d .given .1)) (walk (c .before .before .before .before .before .before .before .before .before .before .before .before .before .before .before .before .before .before .args .body .now) (λ i. c .before .before .before .before .before .before .before .before .before .before .before .before .before .before .before .before .before .shared-slice-known .given i .fits) (c .before .before .before .before .before .before .before .before .before .before .before .before .before .before .if2 .left) (decodes-batch (c .before .before .before .before .before .before .before .before .before .before .before .before .before .before .before .before .before .before .args .body .now) (sym (c .before .before .before .before .before .before .before .before .before .before .before .before .before .decode .ensures) ∙ c .before .before .before .before .before .before .before .before .before .before .before .d .given .1)))
+top-bool-requires : tie.Need-top-bool-requires
+top-bool-requires c κs =
+    let d = c .before .before .before .before .before .before .before .before .before .before in
+    let s = d .before .before .before .before .before .before .before .args .body .now in
+    rw (end-is s (known d)) (fits s (known d))
 
 returns-4 : tie.Need-returns-4
 returns-4 c =
-    let s = c .before .before .before .before .before .before .before .before .before .before .before .before .before .before .before .before .before .before .before .before .before .args .body .now in
-    let e = end-is (c .before .before .before .before .before .before .before .before .before .before .before .before .before .before .before .before .before .before .before .before .before .args .body .now) (λ i. c .before .before .before .before .before .before .before .before .before .before .before .before .before .before .before .before .before .before .before .before .shared-slice-known .given i .fits) (c .before .before .before .before .before .before .before .before .before .before .before .before .before .before .before .before .before .if2 .left) (decodes-batch (c .before .before .before .before .before .before .before .before .before .before .before .before .before .before .before .before .before .before .before .before .before .args .body .now) (sym (c .before .before .before .before .before .before .before .before .before .before .before .before .before .before .before .before .decode .ensures) ∙ c .before .before .before .before .before .before .before .before .before .before .before .before .before .before .d .given .1)) (sym (c .before .before .before .before .before .before .before .before .before .before .before .before .before .before .before .before .decode .ensures) ∙ c .before .before .before .before .before .before .before .before .before .before .before .before .before .before .d .given .1) in
-    let n = count-is (c .before .before .before .before .before .before .before .before .before .before .before .before .before .before .before .before .before .before .before .before .before .args .body .now) (λ i. c .before .before .before .before .before .before .before .before .before .before .before .before .before .before .before .before .before .before .before .before .shared-slice-known .given i .fits) (c .before .before .before .before .before .before .before .before .before .before .before .before .before .before .before .before .before .if2 .left) (decodes-batch (c .before .before .before .before .before .before .before .before .before .before .before .before .before .before .before .before .before .before .before .before .before .args .body .now) (sym (c .before .before .before .before .before .before .before .before .before .before .before .before .before .before .before .before .decode .ensures) ∙ c .before .before .before .before .before .before .before .before .before .before .before .before .before .before .d .given .1)) (sym (c .before .before .before .before .before .before .before .before .before .before .before .before .before .before .before .before .decode .ensures) ∙ c .before .before .before .before .before .before .before .before .before .before .before .before .before .before .d .given .1) in
-    let c1 = rw (c .before .before .before .before .before .before .before .before .before .before .before .part .ensures, e) at (c .before .before .before .before .before .before .before .before .before .before .write-bytes .ensures .1) in
-    let c2 = rw e at (c .before .before .before .before .before .before .write-zeros .ensures .1) in
-    let l = copied (c .before .before .before .before .before .before .before .before .before .before .before .before .before .before .before .before .before .before .before .before .before .args .body .now) (λ i. c .before .before .before .before .before .before .before .before .before .before .before .before .before .before .before .before .before .before .before .before .shared-slice-known .given i .fits) (c .before .before .before .before .before .before .before .before .before .before .before .before .before .before .before .before .before .if2 .left) (decodes-batch (c .before .before .before .before .before .before .before .before .before .before .before .before .before .before .before .before .before .before .before .before .before .args .body .now) (sym (c .before .before .before .before .before .before .before .before .before .before .before .before .before .before .before .before .decode .ensures) ∙ c .before .before .before .before .before .before .before .before .before .before .before .before .before .before .d .given .1)) (c .before .before .before .before .before .before .before .before .before .before .before .before .before .before .before .before .before .before .before .before .before .args .out .now) (c .before .before .before .before .before .before .before .before .before .before .before .before .before .before .before .before .before .before .if1 .left) c1 c2 in
-    way-done s (c .before .before .before .before .before .before .before .before .before .before .before .before .before .before .before .before .before .before .before .before .before .args .out .now) (c .before .before .before .before .before .before .before .before .before .before .before .before .before .before .before .before .before .before .if1 .left) (c .before .before .before .before .before .before .before .before .before .before .before .before .before .before .before .before .before .if2 .left) (sym (c .before .before .before .before .before .before .before .before .before .before .before .before .before .before .before .before .decode .ensures) ∙ c .before .before .before .before .before .before .before .before .before .before .before .before .before .before .d .given .1) (whole (c .before .before .before .before .before .before .before .before .before .before .before .before .before .before .before .before .before .before .before .before .before .args .body .now) (λ i. c .before .before .before .before .before .before .before .before .before .before .before .before .before .before .before .before .before .before .before .before .shared-slice-known .given i .fits) (c .before .before .before .before .before .before .before .before .before .before .before .before .before .before .before .before .before .if2 .left) (decodes-batch (c .before .before .before .before .before .before .before .before .before .before .before .before .before .before .before .before .before .before .before .before .before .args .body .now) (sym (c .before .before .before .before .before .before .before .before .before .before .before .before .before .before .before .before .decode .ensures) ∙ c .before .before .before .before .before .before .before .before .before .before .before .before .before .before .d .given .1)) (rw (n, l) at (c .before .before .fix-records .ensures)))
+    let z = c .before .before .before .before in
+    let d = z .before .before .before .before .before .before .before .before in
+    let a = d .before .before .before .before .before .before .before .args in
+    let s = a .body .now in
+    way-done s (a .out .now) (d .before .before .before .before .if1 .left) (known d) (copy-is s (known d) (laid z) (c .before .top-bool .ensures) (c .if3 .taken))
+
+fix-records-requires : tie.Need-fix-records-requires
+fix-records-requires c κs =
+    let d = c .before .before .before .before .before .before .before .before .before .before .before .before .before in
+    let s = d .before .before .before .before .before .before .before .args .body .now in
+    rw (count-is s (known d)) (walk s (known d))
+
+returns-5 : tie.Need-returns-5
+returns-5 c =
+    let z = c .before .before .before .before .before .before .before .before in
+    let d = z .before .before .before .before .before .before .before .before in
+    let a = d .before .before .before .before .before .before .before .args in
+    let s = a .body .now in
+    way-done s (a .out .now) (d .before .before .before .before .if1 .left) (known d) (whole s (known d) (rw (count-is s (known d), laid z) at (c .before .before .fix-records .ensures)))
 
 pub canonicalize-spec : {M : Type 1} → statement M
 canonicalize-spec =
     tie.close
-    (tie.spec returns returns-2 (search needs) (search needs) (search needs) returns-3 (search needs) (search needs) sub-write-zeros (search needs) fix-records-requires (search needs) returns-4)
+    (tie.spec returns returns-2 (search needs) (search needs) (search needs) returns-3 (search needs) (search needs) sub-write-zeros (search needs) top-bool-requires (search needs) returns-4 fix-records-requires (search needs) returns-5)
