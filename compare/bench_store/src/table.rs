@@ -1,6 +1,6 @@
 //! A table of times, each row printed when it is taken.
 
-use crate::timing::{Sampler, Times, in_turns};
+use crate::timing::{Sampler, in_turns};
 
 /// The rows of one group.
 pub struct Table {
@@ -21,9 +21,9 @@ impl Table {
         let (name, third) = beside.unzip();
         let samplers = [rust, port].into_iter().chain(third).collect();
         let times = in_turns(self.rounds, samplers);
-        let (rust, port) = (times[0].median, times[1].median);
+        let (rust, port) = (times[0], times[1]);
         let beside = name.map_or(String::new(), |name| {
-            let third = times[2].median;
+            let third = times[2];
             format!("{name} {}: {:.2}", time(third), port / third)
         });
         println!(
@@ -34,17 +34,18 @@ impl Table {
         );
     }
 
-    /// Times two whose difference is the own cost of the first.
-    pub fn own_cost(&self, what: &str, whole: Sampler, part: Sampler) {
-        let times = in_turns(self.rounds, vec![whole, part]);
-        let (whole, part) = (times[0], times[1]);
-        let percent = |of: fn(&Times) -> f64| 100.0 * (of(&whole) - of(&part)) / of(&part);
+    /// Times a whole and two parts of it: its own cost beside either.
+    pub fn own_cost(&self, what: &str, whole: Sampler, part: Sampler, larger: Sampler) {
+        let times = in_turns(self.rounds, vec![whole, part, larger]);
+        let [whole, part, larger] = [0, 1, 2].map(|i| times[i]);
+        let percent = |part: f64| 100.0 * (whole - part) / part;
         println!(
-            "| {what} | {} | {} | {:.1} % | {:.1} % |",
-            time(whole.median),
-            time(part.median),
-            percent(|times| times.median),
-            percent(|times| times.least)
+            "| {what} | {} | {} | {:.1} % | {}: {:.1} % |",
+            time(whole),
+            time(part),
+            percent(part),
+            time(larger),
+            percent(larger)
         );
     }
 }

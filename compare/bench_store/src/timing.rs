@@ -1,4 +1,4 @@
-//! Samples in turns, and what they come to.
+//! Samples in turns, and their medians.
 
 use std::hint::black_box;
 use std::time::{Duration, Instant};
@@ -6,30 +6,20 @@ use std::time::{Duration, Instant};
 /// Takes one sample: nanoseconds per call.
 pub type Sampler<'a> = Box<dyn FnMut() -> f64 + 'a>;
 
-/// What many samples come to.
-#[derive(Clone, Copy)]
-pub struct Times {
-    pub median: f64,
-    pub least: f64,
-}
-
-/// Samples all in turns, so that what slows the machine slows all.
-pub fn in_turns(rounds: usize, mut samplers: Vec<Sampler>) -> Vec<Times> {
+/// Samples all in turns, so that what slows the machine slows all: the medians.
+pub fn in_turns(rounds: usize, mut samplers: Vec<Sampler>) -> Vec<f64> {
     let mut samples = vec![Vec::new(); samplers.len()];
     for _ in 0..rounds {
         for (sampler, times) in samplers.iter_mut().zip(&mut samples) {
             times.push(sampler());
         }
     }
-    samples.into_iter().map(times).collect()
+    samples.into_iter().map(median).collect()
 }
 
-fn times(mut samples: Vec<f64>) -> Times {
+fn median(mut samples: Vec<f64>) -> f64 {
     samples.sort_by(f64::total_cmp);
-    Times {
-        median: samples[samples.len() / 2],
-        least: samples[0],
-    }
+    samples[samples.len() / 2]
 }
 
 /// How long it takes.
@@ -52,7 +42,6 @@ mod tests {
 
     #[test]
     fn the_median_is_in_the_middle() {
-        let Times { median, least } = times(vec![9.0, 1.0, 100.0]);
-        assert_eq!((median, least), (9.0, 1.0));
+        assert_eq!(median(vec![9.0, 1.0, 100.0]), 9.0);
     }
 }

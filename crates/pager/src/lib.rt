@@ -153,11 +153,16 @@ pub fn commit<'a>(
             pager: store,
         };
     }
-    let end = run_steps(store, run.steps, table, log, main, staging);
-    Committed {
-        answer: committed_as(start, run.pages),
-        pager: end,
+    let answer = committed_as(start, run.pages);
+    let job = store.job;
+    if !pager_state::is_busy(job) {
+        return Committed {
+            answer,
+            pager: store,
+        };
     }
+    let end = run_steps(store, run.steps, table, log, main, staging);
+    Committed { answer, pager: end }
 }
 
 fn is_folding(answer: CheckpointStart) -> bool

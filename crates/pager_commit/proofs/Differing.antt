@@ -32,9 +32,14 @@ pub differs-by : (g : List ℕ) (w : World) (p : ℕ) → pagesFrom (differsIn (
 unfolding differs differsIn slotDiffers committedBytes committedIn stagedBytes
 differs-by g w p = refl
 
-pub staged-by : (s : Staged) (p : ℕ) → pagesFrom (isIn (take (s .count) (s .pages))) p ≡ pagesFrom (isStaged s) p
+staged-by : (s : Staged) (p : ℕ) → pagesFrom (isIn (take (s .count) (s .pages))) p ≡ pagesFrom (isStaged s) p
 unfolding isIn isStaged slotOf
 staged-by s p = refl
+
+pub found-staged : (s : Staged) (p : ℕ) {q index : ℕ} → q ≡ firstOf (pagesFrom (isIn (take (s .count) (s .pages))) p)
+    → (q < 1024 → index ≡ findIn (take (s .count) (s .pages)) q) → (q ≡ firstOf (pagesFrom (isStaged s) p)) × (q < 1024 → index ≡ slotOf s q)
+unfolding slotOf
+found-staged s p e f = (e ∙ ap firstOf (staged-by s p), f)
 
 -- whether a page is staged, by its slot
 module _ (s : Staged) (long : length (s .pages) ≡ 64) (q : ℕ) {r n : ℕ} (e : r ≡ findIn (stagedPages s) q) (f : n ≡ min (s .count) 64) where
@@ -49,16 +54,13 @@ module _ (s : Staged) (long : length (s .pages) ≡ 64) (q : ℕ) {r n : ℕ} (e
   unfolding isStaged slotOf
   with-slot h = lt-ltb (findIn (stagedPages s) q) (length (stagedPages s)) (omega (arith, e, size, h))
 
--- a page that is found has a slot
-within : (s : Staged) (q : ℕ) → length (s .pages) ≡ 64 → isStaged s q ≡ true → slotOf s q < 64
-unfolding isStaged
-within s q n e =
-    let h : slotOf s q < length (stagedPages s) = ltb-true (slotOf s q) (length (stagedPages s)) e in
-    let c : length (stagedPages s) ≡ min (s .count) (length (s .pages)) = length-take (s .count) (s .pages) in
-    omega (arith, h, c, n)
-
-pub slot-within : (s : Staged) (p q : ℕ) → length (s .pages) ≡ 64 → q ≡ firstOf (pagesFrom (isStaged s) p) → q < 1024 → slotOf s q < 64
-slot-within s p q n e h = within s q n (lowest (isStaged s) p q e h .holds)
+-- a page that is found stands among 64 numbers
+pub place-within : (s : List ℕ) (n p q : ℕ) → length s ≡ 64 → q ≡ firstOf (pagesFrom (isIn (take n s)) p) → q < 1024 → findIn (take n s) q < 64
+unfolding isIn
+place-within s n p q long e h =
+    let f : findIn (take n s) q < length (take n s) = ltb-true (findIn (take n s) q) (length (take n s)) (lowest (isIn (take n s)) p q e h .holds) in
+    let c : length (take n s) ≡ min n (length s) = length-take n s in
+    omega (arith, f, c, long)
 
 module _ (s : Staged) (g t l m : List ℕ) where
   abbrev pub D : ℕ → Bool
@@ -131,16 +133,23 @@ module _ (s : Staged) (g t l m : List ℕ) where
     unfolding isStaged
     is-staged k = rw k (lt-ltb i (length (stagedPages s)) h)
 
-    counted : countsAt (slotOf s page) g t l m page i ≡ true → length (pagesFrom (Upto (i + 1)) 0) ≡ suc (length (pagesFrom (Upto i) 0))
+    -- a slot that counts has its own page, which differs
+    pub counts-told : countsAt (slotOf s page) g t l m page i ≡ true → (page < 1024) × ((slotOf s page ≡ i) × (D page ≡ true))
     unfolding countsAt
-    counted c =
+    counts-told c =
         let a = both-true (ltb page 1024) (both (eqb (slotOf s page) i) (slotDiffers g t l m page i)) c in
         let b = both-true (eqb (slotOf s page) i) (slotDiffers g t l m page i) (a .1) in
         let k : slotOf s page ≡ i = eqb-true _ _ (b .0) in
-        let d : D page ≡ true = differs-at page i (is-staged k) (sym k) (sym (b .1)) in
+        (ltb-true page 1024 (a .0), (k, differs-at page i (is-staged k) (sym k) (sym (b .1))))
+
+    counted : countsAt (slotOf s page) g t l m page i ≡ true → length (pagesFrom (Upto (i + 1)) 0) ≡ suc (length (pagesFrom (Upto i) 0))
+    counted c =
+        let a = counts-told c in
+        let k : slotOf s page ≡ i = a .1 .0 in
+        let d : D page ≡ true = a .1 .1 in
         let x : Upto i page ≡ false = rw (d, le-ltb (slotOf s page) i (omega arith)) in
         let y : Upto (i + 1) page ≡ true = rw (d, lt-ltb (slotOf s page) (i + 1) (omega arith)) in
-        pages-more (Upto i) (Upto (i + 1)) page x y (λ n z. upto-other i n (λ j. z (slot-page n j))) (ltb-true page 1024 (a .0))
+        pages-more (Upto i) (Upto (i + 1)) page x y (λ n z. upto-other i n (λ j. z (slot-page n j))) (a .0)
 
     not-counted : countsAt (slotOf s page) g t l m page i ≡ false → (n : ℕ) → n < 1024 → slotOf s n ≡ i → Upto (i + 1) n ≡ Upto i n
     unfolding countsAt

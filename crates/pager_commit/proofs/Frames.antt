@@ -13,19 +13,19 @@ use lib.ListN.{length, take, drop, length-take, length-drop}
 use lib.Seq.{drop-drop}
 use Rattle.le.specs.Choice.{pick}
 use Rattle.le.specs.Le.{put, store}
-use Rattle.le.proofs.Stores.{part-put, put-over, length-put}
+use Rattle.le.proofs.Stores.{part-put, put-over, length-put, store-put}
 use Rattle.header.specs.Header.{encodeHeader, encodeAfter}
 use Rattle.header.specs.declared.DbHeader.{DbHeader}
 use Rattle.header.proofs.Encoding.{length-encodeHeader}
-use Rattle.frame.specs.Frame.{encodeFrame, frameAt, bodyOf}
+use Rattle.frame.specs.Frame.{encodeFrame, frameAt, bodyOf, frameAfter}
 use Rattle.frame.proofs.Places.{body-there}
 use Rattle.frame.proofs.Stores.{length-encodeFrame}
-use Rattle.wal.specs.Write.{withFrame, hasRoom, appendAnswer, appendAfter, inPlaceAnswer, inPlaceAfter}
+use Rattle.wal.specs.Write.{withFrame, hasRoom, inPlaceAnswer, inPlaceAfter}
 use Rattle.wal.specs.declared.Wal.{Wal}
 use Rattle.wal.specs.declared.FrameAppended.{FrameAppended}
 use Rattle.wal.specs.declared.FrameAppended.the-variants as appended
 use Rattle.wal.proofs.FrameAppended as F
-use Rattle.wal.proofs.Writing.{frame-done, frame-full, place-done}
+use Rattle.wal.proofs.Writing.{place-done}
 use Rattle.pager_state.specs.World.{World, world, countOf, busyWith, withJob, withWal}
 use Rattle.pager_state.specs.Overlay.{pageFrom, slotOf, stagedBytes, frameOf, inLog, onMain, logBytes}
 use Rattle.pager_state.specs.Stores.{Act, Put, Other, placeOf, inside, diskOf}
@@ -63,13 +63,15 @@ module _ (t l m : List ℕ) (n : ℕ) {at : ℕ} (f : at ≡ frameOf t n) where
 pub body-size : (g : List ℕ) (index : ℕ) → length g ≡ 262144 → index < 64 → length (pageFrom (4096 * index) g) ≡ 4096
 body-size g index n h = simp (length-take, length-drop) (omega arith)
 
-module _ (l : List ℕ) (v : Wal) (q : ℕ) (body : List ℕ) (n : length l ≡ 4210720) (b : length body ≡ 4096) (h : v .len ≤ 4210720)
-    (s : q < 1024) where
-  -- what appending a page's frame leaves, by whether there is room for it
-  pub appended-as : (r : Bool) → hasRoom v ≡ r
-      → (appendAnswer l v q body 0 ≡ pick r (appended.Appended (withFrame v 0)) appended.LogFull) × (appendAfter l v q body 0 ≡ pick r (framePut l v q body) l)
-  appended-as true e = frame-done l v q body 0 b (λ (z : q ≡ 4294967295). omega (arith, z)) n (leb-true _ _ e)
-  appended-as false e = frame-full l v q body 0 b n h (borrow.Author.Tests.leb-false _ _ e)
+-- what storing a page's frame leaves where there is room for it
+pub frame-stored : (l : List ℕ) (v : Wal) (q : ℕ) (body : List ℕ) → length l ≡ 4210720 → length body ≡ 4096 → hasRoom v ≡ true
+    → frameAfter l (v .len) q 0 (v .header .salt) body ≡ framePut l v q body
+unfolding frameAfter
+frame-stored l v q body n b o =
+    let h : v .len + 4112 ≤ 4210720 = leb-true _ _ o in
+    let j : v .len + length (encodeFrame q 0 (v .header .salt) body) ≤ length l =
+    rw (length-encodeFrame q 0 (v .header .salt) body b) (omega (arith, h, n)) in
+    rw (eq-eqb (length body) 4096 b) (store-put l (v .len) (encodeFrame q 0 (v .header .salt) body) j)
 
 -- a frame that was not appended had no room
 pub no-room : (r : FrameAppended) (v : Wal) (o : Bool) → r ≡ pick o (appended.Appended v) appended.LogFull → (tagOf F.the-type r ≡ 1) ⊎ (tagOf F.the-type r ≡ 2)

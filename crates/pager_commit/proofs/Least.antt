@@ -5,7 +5,7 @@ use mathlib.Core.List.{List, [], _∷_}
 use mathlib.Core.Logic.{⊎-elim}
 use Prim.Native.Nat.{ℕ, zero, suc, _+_, _%_, _≤_, _<_, min}
 use native.Mathlib.Omega.{arith}
-use borrow.Author.Tests.{eq-eqb, ne-eqb, eqb-true, lt-ltb, ltb-true}
+use borrow.Author.Tests.{eq-eqb, eqb-true, lt-ltb, ltb-true}
 use lib.Dec.{ltb, eqb}
 use lib.ListN.{length, take, getD, length-take}
 use lib.Seq.{getD-take}
@@ -23,7 +23,7 @@ find-most-at y x l j true e h = omega arith
 find-most-at y x l j false e h = omega arith
 
 -- it is found there or before
-find-most : (l : List ℕ) (j x : ℕ) → j < length l → getD l j 0 ≡ x → findIn l x ≤ j
+pub find-most : (l : List ℕ) (j x : ℕ) → j < length l → getD l j 0 ≡ x → findIn l x ≤ j
 find-most [] j x h e = absurd (omega arith)
 find-most (y ∷ l) zero x h e = rw (eq-eqb y x e) (omega arith)
 find-most (y ∷ l) (suc j) x h e = find-most-at y x l j (eqb y x) refl (find-most l j x (omega arith) e)

@@ -1,6 +1,6 @@
 -- A commit's step by the job that is part done, and the judgement of a starting call. Assumes nothing.
 use mathlib.Core.Path.{_≡_, refl, sym, ap, _∙_}
-use mathlib.Core.Bool.{true, false}
+use mathlib.Core.Bool.{Bool, true, false}
 use mathlib.Core.List.{List, [], _∷_}
 use mathlib.Core.Logic.{⊎-elim}
 use Prim.Native.Nat.{ℕ, _+_, _*_, _≤_, _<_}
@@ -11,10 +11,10 @@ use borrow.Author.Tests.{leb-true, lt-ltb, le-ltb, le-leb, lt-leb}
 use lib.Dec.{leb}
 use lib.ListN.{length}
 use Rattle.le.specs.Choice.{pick, both}
-use Rattle.le.proofs.Compare.{both-true}
+use Rattle.le.proofs.Compare.{both-true, no-test}
 use Rattle.header.specs.Header.{isVersion}
 use Rattle.header.specs.declared.DbHeader.{DbHeader}
-use Rattle.pager_state.specs.World.{World, countOf, headerOf, busy, readOnly, withJob, withWal}
+use Rattle.pager_state.specs.World.{World, countOf, headerOf, busy, readOnly, withJob}
 use Rattle.pager_state.specs.Pages.{pagesFrom, firstOf, differs, lacks}
 use Rattle.pager_state.specs.Commit.{framesTodo, framesAdvance, commitTodo, commitAdvance}
 use Rattle.pager_state.specs.Steps.{answerOf, named, done, stepFine, headerGood, differing, lacking, commitStart, isBegun, beginCommit, steps, onStore}
@@ -25,10 +25,11 @@ use Rattle.pager_state.specs.declared.StepAnswer.{StepAnswer}
 use Rattle.pager_state.specs.declared.StepAnswer.the-variants as step
 use Rattle.pager_state.specs.declared.CommitStart.{CommitStart}
 use Rattle.pager_state.specs.declared.CommitStart.the-variants as commit
-use Rattle.pager_state.proofs.Begun.{commit-begun}
+use Rattle.pager_state.proofs.Begun.{CommitBegun, commit-begun}
 use Rattle.pager_state.proofs.Job as J
-use Rattle.pager_commit.specs.CommitStep.{commitStepAnswer, commitStepped, differsIn, startedAs}
+use Rattle.pager_commit.specs.CommitStep.{commitStepAnswer, commitStepped, isIn, differsIn, Marking, startedAs}
 use Rattle.pager_commit.proofs.Differing.{differs-by}
+use Rattle.pager_commit.proofs.Whole.{marked-few}
 
 -- ---- the step, by the job
 
@@ -92,6 +93,11 @@ module _ (g : List ℕ) (w : World) (h : DbHeader) where
 
   refused : (a : CommitStart) {x : CommitStart} {n : ℕ} → commitStart g w h ≡ a → isBegun a ≡ false → (x ≡ a) × (n ≡ 0) → Judges x n
   refused a e b k = (k .0 ∙ sym e, k .1 ∙ rw (e, b))
+
+  -- of a refusal nothing is marked
+  pub not-begun : {A : Type 0} {a x : CommitStart} {n : ℕ} {still : Bool} → ((x ≡ a) × (n ≡ 0) → Judges x n) → (x ≡ a) × ((n ≡ 0) × (still ≡ false))
+      → (x ≡ commitStart g w h) × ((n ≡ pick (isBegun (commitStart g w h)) (differing g w) 0) × (still ≡ true → A))
+  not-begun f k = let j = f (k .0, k .1 .0) in (j .0, (j .1, λ z. no-test (sym (k .1 .1) ∙ z)))
 
   pub start-area : {x : CommitStart} {n : ℕ} → stepFine g w ≡ false → (x ≡ commit.Area) × (n ≡ 0) → Judges x n
   unfolding commitStart
@@ -168,5 +174,13 @@ module _ (g : List ℕ) (w : World) (h : DbHeader) where
         let d : n ≡ differing g w = j .1 ∙ rw e in
         f ∙ rw (d, e)
 
-    pub begun-fine : isBegun x ≡ true → stepFine g w ≡ true
-    begun-fine b = commit-begun g w h (sym (ap isBegun (j .0)) ∙ b) .right
+    pub begun-told : isBegun x ≡ true → CommitBegun g w h
+    begun-told b = commit-begun g w h (sym (ap isBegun (j .0)) ∙ b)
+
+    -- the frames of the marked pages and the seal have room
+    pub begun-room : {marks : List ℕ} → isBegun x ≡ true → Marking g (w .main) (w .pager .staged) (w .pager .wal .len) (w .table) (w .log) marks 0
+        → w .pager .wal .len + 4112 * (length (pagesFrom (isIn marks) 0) + 1) ≤ 4210720
+    unfolding differing
+    begun-room b k =
+        let e = marked-few 0 k ∙ ap length (differs-by g w 0) in
+        rw e (begun-told b .room)

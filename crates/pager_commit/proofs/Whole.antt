@@ -1,15 +1,18 @@
 -- A commit's steps in one call: what the loop over frames keeps, and the seal behind it. Assumes nothing.
 use mathlib.Core.Path.{_≡_, refl, sym, ap, _∙_}
-use mathlib.Core.Bool.{true}
+use mathlib.Core.Bool.{Bool, true}
 use mathlib.Core.List.{List, [], _∷_, append-nil}
 use Prim.Native.Nat.{ℕ, suc, _+_, _*_, _≤_, _<_}
+use native.Mathlib.Numerals.{add-one}
+use native.Mathlib.Omega.{arith}
 use borrow.Author.Tests.{leb-true}
 use lib.ListN.{length}
 use Rattle.header.specs.declared.DbHeader.{DbHeader}
+use Rattle.frame.specs.Frame.{encodeFrame}
 use Rattle.wal.specs.Write.{withFrame, hasRoom}
 use Rattle.wal.specs.declared.Wal.{Wal}
 use Rattle.pager_state.specs.World.{World, world, countOf, withJob, withWal}
-use Rattle.pager_state.specs.Overlay.{pageFrom, slotOf}
+use Rattle.pager_state.specs.Overlay.{pageFrom, findIn, slotOf}
 use Rattle.pager_state.specs.Pages.{pagesFrom, differs}
 use Rattle.pager_state.specs.Fold.{foldTodo, foldAdvance}
 use Rattle.pager_state.specs.Commit.{entered, framesTodo, framesAdvance, commitTodo, commitAdvance}
@@ -18,11 +21,12 @@ use Rattle.pager_state.specs.declared.Job.{Job}
 use Rattle.pager_state.specs.declared.Job.the-variants as job
 use Rattle.pager_state.specs.declared.Pager.{Pager}
 use Rattle.pager_state.specs.declared.Staged.{Staged}
-use Rattle.pager_state.proofs.Sizes.{frame-len}
 use Rattle.pager_state.proofs.Made.{Fine, ready-fine, fine-ready}
 use Rattle.pager_state.proofs.Runs.{steps-add}
-use Rattle.pager_commit.specs.CommitStep.{differsIn, sealedWith, framePut, sealPut, FramesRun}
+use Rattle.pager_state.proofs.Searches.{First, pages-same}
+use Rattle.pager_commit.specs.CommitStep.{isIn, differsIn, sealedWith, framePut, sealPut, Marking, FramesRun}
 use Rattle.pager_commit.proofs.Differing.{differs-by}
+use Rattle.pager_commit.proofs.Marks.{marking-frame}
 use Rattle.pager_commit.proofs.Frames.{frame-stepped, seal-stepped}
 
 -- ---- a step of a commit
@@ -48,9 +52,6 @@ still-fine g p v j t l t′ l′ m f a b c =
     fine-ready g (world (withJob (withWal p v) j) t′ l′ m) x (s .1)
 
 -- ---- the loop over frames
-
-pub frame-fits : (v : Wal) {x : Wal} → hasRoom v ≡ true → x ≡ withFrame v 0 → x .len ≤ 4210720
-frame-fits v o e = rw (e, frame-len v 0) (leb-true _ _ o)
 
 module _ (g m : List ℕ) (s : Staged) (u : Wal) (t l : List ℕ) where
   -- before it
@@ -78,6 +79,44 @@ module _ (g m : List ℕ) (s : Staged) (u : Wal) (t l : List ℕ) where
         frame-stepped g h salt n page w q index c x b ng {r = withJob (withWal p v″) (job.Commit h salt (q + 1) n)} {t = t″} {l = l″} (rw (o, fv))
         (rw (o, ft)) (rw (o, fl)) in
         y ∙ sym (commit-stepped g w h salt page n refl a) ∙ ap (stepped g) (r p h salt n es ev f) ∙ sym (steps-more g k _)
+
+-- ---- the marked pages
+
+-- what is left to store has room
+pub room-left : (f : ℕ → Bool) (len : ℕ) {page q next : ℕ} → First f page q → next ≡ len + 4112 → len + 4112 * (length (pagesFrom f page) + 1) ≤ 4210720
+    → next + 4112 * (length (pagesFrom f (q + 1)) + 1) ≤ 4210720
+room-left f len {page} {q} {next} p e h =
+    let n = ap length (p .split) in
+    let z = ap (λ (i : ℕ). length (pagesFrom f i)) (add-one q) in
+    omega (arith, n, z, e, h)
+
+module _ {g m : List ℕ} {s : Staged} {len : ℕ} {t l marks : List ℕ} (page : ℕ) (k : Marking g m s len t l marks page) where
+  -- the marked pages are those that differ
+  marked-pages : (p : ℕ) → page ≤ p → pagesFrom (isIn marks) p ≡ pagesFrom (differsIn s g t l m) p
+  marked-pages p h = pages-same (isIn marks) (differsIn s g t l m) p (λ n a b. k .same n (omega (arith, h, a)) b)
+
+  pub marked-few : length (pagesFrom (isIn marks) page) ≡ length (pagesFrom (differsIn s g t l m) page)
+  marked-few = ap length (marked-pages page (omega arith))
+
+  pub none-marked : pagesFrom (isIn marks) page ≡ [] → pagesFrom (differsIn s g t l m) page ≡ []
+  none-marked e = sym (marked-pages page (omega arith)) ∙ e
+
+  pub marked-split : {q : ℕ} → First (isIn marks) page q → pagesFrom (differsIn s g t l m) page ≡ q ∷ pagesFrom (differsIn s g t l m) (suc q)
+  marked-split {q} p =
+      sym (marked-pages page (omega arith)) ∙ p .split ∙ ap (λ (r : List ℕ). q ∷ r) (marked-pages (suc q) (omega (arith, p .from)))
+
+-- a marked page's frame
+pub run-mark : (g m : List ℕ) (s : Staged) (u : Wal) (t l : List ℕ) (k page : ℕ) {v : Wal} {t′ l′ marks : List ℕ} → FramesRun g m s u t l k page v t′ l′ → length t′ ≡ 1024
+    → length l′ ≡ 4210720 → u .len ≤ v .len → (q index : ℕ) {v″ : Wal} {t″ l″ : List ℕ} → length g ≡ 262144 → Marking g m s (u .len) t′ l′ marks page
+    → First (isIn marks) page q → index ≡ findIn marks q → index < 64 → hasRoom v ≡ true → v″ ≡ withFrame v 0 → t″ ≡ entered t′ q (v .len)
+    → l″ ≡ framePut l′ v q (pageFrom (4096 * index) g)
+    → FramesRun g m s u t l (k + 1) (q + 1) v″ t″ l″ × Marking g m s (u .len) t″ l″ marks (q + 1)
+run-mark g m s u t l k page {v} {t′} {l′} {marks} r nt nl nv q index ng z p x b o fv ft fl =
+    let h : v .len + 4112 ≤ 4210720 = leb-true _ _ o in
+    let i : index ≡ slotOf s q = x ∙ z .slot q (p .below) (p .holds) in (
+      run-frame g m s u t l k page r nt nl (omega (arith, h)) q index ng (marked-split page z p) i b o fv ft fl,
+      rw (ft, fl) (marking-frame z q (v .len) (encodeFrame q 0 (v .header .salt) (pageFrom (4096 * index) g)) (p .from) nv (omega (arith, h, nl))),
+    )
 
 -- ---- the seal behind it
 

@@ -2,18 +2,19 @@
 use mathlib.Core.Path.{_≡_}
 use mathlib.Core.Bool.{Bool, true, not}
 use mathlib.Core.List.{List, []}
-use Prim.Native.Nat.{ℕ, _*_}
-use lib.Dec.{ltb, eqb}
+use Prim.Native.Nat.{ℕ, _+_, _*_, _≤_, _<_}
+use lib.Dec.{leb, ltb, eqb}
 use lib.ListN.{length}
 use Rattle.le.specs.Choice.{pick, both}
 use Rattle.le.specs.Le.{sameBytes, put}
 use Rattle.page.specs.Page.{pageSize}
 use Rattle.header.specs.Header.{encodeHeader}
 use Rattle.header.specs.declared.DbHeader.{DbHeader}
-use Rattle.frame.specs.Frame.{encodeFrame}
+use Rattle.frame.specs.Frame.{frameSize, encodeFrame}
 use Rattle.wal.specs.declared.Wal.{Wal}
-use Rattle.pager_state.specs.World.{World, world, pageLimit, countOf, withJob, withWal, noneStaged}
-use Rattle.pager_state.specs.Overlay.{pageFrom, findIn, slotOf, isStaged, inLog, onMain, mainAt, logBytes}
+use Rattle.pager_state.specs.World.{World, world, pageLimit, stagedLimit, countOf, withJob, withWal, noneStaged}
+use Rattle.pager_state.specs.Overlay.{pageFrom, findIn, slotOf, isStaged, frameOf, inLog, onMain, mainAt, logBytes}
+use Rattle.pager_state.specs.Pages.{pagesFrom}
 use Rattle.pager_state.specs.Commit.{jobAfter, commitTodo, commitAdvance}
 use Rattle.pager_state.specs.Steps.{answerOf, named, done, stepFine, steps}
 use Rattle.pager_state.specs.declared.Job.the-variants as job
@@ -78,9 +79,27 @@ startedAs a p = record { answer = a; pager = p }
 
 -- ---- a commit's steps in one call
 
+-- a page's frame in the log, if it has one, ends at len or before
+abbrev pub standsBefore : List ℕ → ℕ → ℕ → Bool
+standsBefore t n len = pick (inLog t n) (leb (frameOf t n + frameSize) len) true
+
+-- among the marks stand just the pages from `page` on that differ, each in its slot; and a frame stored at len or behind changes no
+-- bytes that a staged page from there on is compared with
+pub record Marking (g m : List ℕ) (s : Staged) (len : ℕ) (t l marks : List ℕ) (page : ℕ) : Type 0 where
+  pub long : length marks ≡ stagedLimit
+  pub same : (n : ℕ) → page ≤ n → n < pageLimit → isIn marks n ≡ differsIn s g t l m n
+  pub slot : (n : ℕ) → n < pageLimit → isIn marks n ≡ true → findIn marks n ≡ slotOf s n
+  pub still : (n : ℕ) → page ≤ n → n < pageLimit → isStaged s n ≡ true → standsBefore t n len ≡ true
+
 -- k steps of a commit that was begun on a store with these staged pages and the log u come to the log v, whatever else the store holds;
 -- m is the main file's area, t and l are table and log area before them, t′ and l′ behind, and page is the first page not looked at
 abbrev pub FramesRun : List ℕ → List ℕ → Staged → Wal → List ℕ → List ℕ → ℕ → ℕ → Wal → List ℕ → List ℕ → Type 0
 FramesRun g m s u t l k page v t′ l′ =
     (p : Pager) (h : DbHeader) (salt n : ℕ) → p .staged ≡ s → p .wal ≡ u → stepFine g (world p t l m) ≡ true
     → world (withJob (withWal p v) (job.Commit h salt page n)) t′ l′ m ≡ steps g k (world (withJob p (job.Commit h salt 0 n)) t l m)
+
+-- the same of the marked pages, whatever the marks are of; no page is left that differs
+abbrev pub FramesStored : List ℕ → List ℕ → Wal → List ℕ → List ℕ → ℕ → ℕ → Wal → List ℕ → List ℕ → Type 0
+FramesStored marks g u t l k page v t′ l′ =
+    (s : Staged) (m : List ℕ) → Marking g m s (u .len) t l marks 0
+    → FramesRun g m s u t l k page v t′ l′ × (pagesFrom (differsIn s g t′ l′ m) page ≡ [])

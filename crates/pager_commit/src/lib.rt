@@ -9,12 +9,12 @@ ghost use Rattle.header.specs.Header.{encodeHeader};
 ghost use Rattle.frame.specs.Frame.{encodeFrame};
 ghost use Rattle.wal.specs.Write.{withFrame, hasRoom};
 ghost use Rattle.pager_state.specs.World.{world, countOf, headerOf, busyWith, withJob, withWal, noneStaged};
-ghost use Rattle.pager_state.specs.Overlay.{pageFrom, findIn, slotOf, isStaged, entry};
+ghost use Rattle.pager_state.specs.Overlay.{pageFrom, findIn, slotOf, entry};
 ghost use Rattle.pager_state.specs.Stores.{Put, Sealed, Other, placeOf};
 ghost use Rattle.pager_state.specs.Pages.{pagesFrom, firstOf, differs, lacks};
 ghost use Rattle.pager_state.specs.Commit.{entered, jobAfter, framesTodo, framesAdvance};
 ghost use Rattle.pager_state.specs.Steps.{named, done, headerGood, differing, commitStart, isBegun, beginCommit, stepFine, steps, onStore};
-ghost use Rattle.pager_commit.specs.CommitStep.{commitStepAnswer, commitStepped, isIn, committedIn, slotDiffers, differsIn, countsAt, sealedWith, framePut, sealPut, startedAs, FramesRun};
+ghost use Rattle.pager_commit.specs.CommitStep.{commitStepAnswer, commitStepped, isIn, committedIn, slotDiffers, differsIn, countsAt, standsBefore, Marking, sealedWith, framePut, sealPut, startedAs, FramesStored};
 use frame::FRAME_HEADER_SIZE;
 use frame::FRAME_SIZE;
 use header::DbHeader;
@@ -89,10 +89,11 @@ fn lowest(s: &[u16], n: usize, page: usize) -> usize
     lower(page + wide(least), PAGES)
 }
 
-// The first staged page from `page` on.
-fn next_staged(staged: Staged, page: usize) -> Slot
-    ensures { λ r. ⌜ r .page ≡ firstOf (pagesFrom (isStaged staged) page) ⌝ }
-    ensures { λ r. ⌜ (r .page < 1024 → r .index ≡ slotOf staged (r .page)) ⌝ }
+// The first page from `page` on among the first n numbers, and where it stands.
+fn next_of(s: &[u16], n: usize, page: usize) -> Slot
+    requires { ⌜ length (now s) ≡ 64 ⌝ }
+    ensures { λ r. ⌜ r .page ≡ firstOf (pagesFrom (isIn (take n (now (s .entry)))) page) ⌝ }
+    ensures { λ r. ⌜ (r .page < 1024 → r .index ≡ findIn (take n (now (s .entry))) (r .page)) ⌝ }
     ensures { λ r. ⌜ r .index < 64 ⌝ }
 {
     let none = Slot {
@@ -102,14 +103,13 @@ fn next_staged(staged: Staged, page: usize) -> Slot
     if PAGES <= page {
         return none;
     }
-    let n = staged.count;
-    let found = lowest(&staged.pages, n, page);
+    let found = lowest(s, n, page);
     if PAGES <= found {
         return none;
     }
     Slot {
         page: found,
-        index: pager_state::find_in(&staged.pages, n, found),
+        index: pager_state::find_in(s, n, found),
     }
 }
 
@@ -158,9 +158,10 @@ fn next_differing<'a>(
     ensures { λ r. ⌜ (r .page < 1024 → r .index ≡ slotOf staged (r .page)) ⌝ }
     ensures { λ r. ⌜ r .index < 64 ⌝ }
 {
+    let count = staged.count;
     let mut p = page;
     while p < PAGES {
-        let found = next_staged(staged, p);
+        let found = next_of(&staged.pages, count, p);
         if PAGES <= found.page {
             return found;
         }
@@ -204,29 +205,71 @@ fn tally(n: usize, yes: bool) -> usize
     if yes { n + 1 } else { n }
 }
 
-// How many pages differ.
-fn count_differing<'a>(
+fn mark(page: u16, yes: bool) -> u16
+    ensures { λ r. ⌜ r ≡ pick yes page 65535 ⌝ }
+{
+    if yes { page } else { u16::MAX }
+}
+
+fn both(a: bool, b: bool) -> bool
+    ensures { λ r. ⌜ r ≡ both a b ⌝ }
+{
+    if a { b } else { false }
+}
+
+// Whether a page's frame in the log, if there is one, ends at `len` or before.
+fn stands_before(table: &[u32], page: usize, len: usize) -> bool
+    ensures { λ r. ⌜ r ≡ standsBefore (now (table .entry)) page len ⌝ }
+{
+    let at = pager_state::frame_of(table, page);
+    if at == 0 {
+        return true;
+    }
+    le::fits_in(len, at, FRAME_SIZE)
+}
+
+// The staged pages that differ, each in its slot, and in the other slots a number that is no page's; how many they are; and whether
+// no frame stored at `len` or behind changes what a staged page is compared with.
+struct Marked {
+    pages: [u16; 64],
+    count: usize,
+    still: bool,
+}
+
+// Compares every staged page, once.
+fn mark_differing<'a>(
     staged: Staged,
+    len: usize,
     table: &[u32],
     log: &'a [u8],
     main: &'a [u8],
     staging: &'a [u8],
-) -> usize
-    ensures { λ r. ⌜ r ≡ length (pagesFrom (differsIn staged (now (staging .entry)) (now (table .entry)) (now (log .entry)) (now (main .entry))) 0) ⌝ }
-    ensures { λ r. ⌜ r ≤ 64 ⌝ }
+) -> Marked
+    ensures { λ r. ⌜ r .count ≡ length (pagesFrom (differsIn staged (now (staging .entry)) (now (table .entry)) (now (log .entry)) (now (main .entry))) 0) ⌝ }
+    ensures { λ r. ⌜ r .count ≤ 64 ⌝ }
+    ensures { λ r. ⌜ (r .still ≡ true → Marking (now (staging .entry)) (now (main .entry)) staged len (now (table .entry)) (now (log .entry)) (r .pages) 0) ⌝ }
 {
     let count = staged.count;
     let end = lower(count, STAGED_PAGES);
+    let mut pages = [u16::MAX; 64];
     let mut n: usize = 0;
+    let mut still = true;
     let mut i: usize = 0;
     while i < end {
-        let page = wide(staged.pages[i]);
+        let number = staged.pages[i];
+        let page = wide(number);
         let first = pager_state::find_in(&staged.pages, count, page);
         let yes = is_counted(first, table, log, main, staging, page, i);
+        pages[i] = mark(number, yes);
         n = tally(n, yes);
+        still = both(still, stands_before(table, page, len));
         i += 1;
     }
-    n
+    Marked {
+        pages,
+        count: n,
+        still,
+    }
 }
 
 // The first page that joins and isn't staged; 1,024 if there is none.
@@ -268,26 +311,18 @@ fn enter(table: &mut [u32], page: usize, at: usize)
     table[page] = entry_at(at, on_main);
 }
 
-// Stores the frame of a staged page at the log's length, and enters it.
-fn store_frame(
-    wal: Wal,
-    found: Slot,
-    table: &mut [u32],
-    log: &mut [u8],
-    staging: &[u8],
-) -> FrameAppended
-    requires { ⌜ (found .page < 1024) × ((found .index < 64) × ((length (now table) ≡ 1024) × ((length (now log) ≡ 4210720) × ((length (now staging) ≡ 262144) × (wal .len ≤ 4210720))))) ⌝ }
-    ensures { λ r. ⌜ r ≡ pick (hasRoom wal) (FrameAppended.Appended (withFrame wal 0)) FrameAppended.LogFull ⌝ }
-    ensures { λ _. ⌜ now (table .exit) ≡ pick (hasRoom wal) (entered (now (table .entry)) (found .page) (wal .len)) (now (table .entry)) ⌝ }
-    ensures { λ _. ⌜ now (log .exit) ≡ pick (hasRoom wal) (framePut (now (log .entry)) wal (found .page) (pageFrom (4096 * found .index) (now (staging .entry)))) (now (log .entry)) ⌝ }
+// Stores the frame of a staged page at the log's length, where there is room for it, and enters it.
+fn store_frame(wal: Wal, found: Slot, table: &mut [u32], log: &mut [u8], staging: &[u8]) -> Wal
+    requires { ⌜ (found .page < 1024) × ((found .index < 64) × ((length (now table) ≡ 1024) × ((length (now log) ≡ 4210720) × ((length (now staging) ≡ 262144) × (hasRoom wal ≡ true))))) ⌝ }
+    ensures { λ r. ⌜ r ≡ withFrame wal 0 ⌝ }
+    ensures { λ _. ⌜ now (table .exit) ≡ entered (now (table .entry)) (found .page) (wal .len) ⌝ }
+    ensures { λ _. ⌜ now (log .exit) ≡ framePut (now (log .entry)) wal (found .page) (pageFrom (4096 * found .index) (now (staging .entry))) ⌝ }
 {
     let body = pager_state::page_from(staging, PAGE_SIZE * found.index);
-    let appended = wal::append_frame(log, wal, found.page as u32, body, 0);
-    let FrameAppended::Appended(next) = appended else {
-        return FrameAppended::LogFull;
-    };
+    let header = wal.header;
+    frame::write_frame(log, wal.len, found.page as u32, 0, header.salt, body);
     enter(table, found.page, wal.len);
-    FrameAppended::Appended(next)
+    wal.longer()
 }
 
 // The next step of a commit that stores a staged page's frame.
@@ -308,13 +343,13 @@ fn frame_step(
     ensures { λ _. ⌜ now (log .exit) ≡ pick (hasRoom (pager .wal)) (framePut (now (log .entry)) (pager .wal) (found .page) (pageFrom (4096 * found .index) (now (staging .entry)))) (now (log .entry)) ⌝ }
 {
     let old = pager.wal;
-    let appended = store_frame(old, found, table, log, staging);
-    let FrameAppended::Appended(wal) = appended else {
+    if WAL_AREA - old.len < FRAME_SIZE {
         return Stepped {
             answer: StepAnswer::Area,
             pager,
         };
-    };
+    }
+    let wal = store_frame(old, found, table, log, staging);
     let job = Job::Commit {
         header,
         salt,
@@ -512,16 +547,25 @@ fn started(answer: CommitStart, pager: Pager) -> CommitStarted
     CommitStarted { answer, pager }
 }
 
-// How a commit is judged, and how many pages differ if it begins.
+// How a commit is judged; if it begins, how many pages differ, and which.
 struct Judged {
     answer: CommitStart,
     pages: usize,
+    // As `Marked` has them.
+    marks: [u16; 64],
+    still: bool,
 }
 
 fn refused(answer: CommitStart) -> Judged
-    ensures { λ r. ⌜ (r .answer ≡ answer) × (r .pages ≡ 0) ⌝ }
+    ensures { λ r. ⌜ (r .answer ≡ answer) × ((r .pages ≡ 0) × (r .still ≡ false)) ⌝ }
 {
-    Judged { answer, pages: 0 }
+    let marks = [u16::MAX; 64];
+    Judged {
+        answer,
+        pages: 0,
+        marks,
+        still: false,
+    }
 }
 
 // Judges a commit.
@@ -535,6 +579,7 @@ fn judge<'a>(
 ) -> Judged
     ensures { λ r. ⌜ r .answer ≡ commitStart (now (staging .entry)) (world pager (now (table .entry)) (now (log .entry)) (now (main .entry))) «new_header» ⌝ }
     ensures { λ r. ⌜ r .pages ≡ pick (isBegun (commitStart (now (staging .entry)) (world pager (now (table .entry)) (now (log .entry)) (now (main .entry))) «new_header»)) (differing (now (staging .entry)) (world pager (now (table .entry)) (now (log .entry)) (now (main .entry)))) 0 ⌝ }
+    ensures { λ r. ⌜ (r .still ≡ true → Marking (now (staging .entry)) (now (main .entry)) (pager .staged) (pager .wal .len) (now (table .entry)) (now (log .entry)) (r .marks) 0) ⌝ }
 {
     if !pager_state::are_fine(pager, table.len(), log.len(), main.len(), staging.len()) {
         return refused(CommitStart::Area);
@@ -556,14 +601,17 @@ fn judge<'a>(
     if lacking < PAGES {
         return refused(CommitStart::Joining(lacking));
     }
-    let pages = count_differing(staged, table, log, main, staging);
     let wal = pager.wal;
-    if WAL_AREA < wal.len + FRAME_SIZE * (pages + 1) {
+    let found = mark_differing(staged, wal.len, table, log, main, staging);
+    if WAL_AREA < wal.len + FRAME_SIZE * (found.count + 1) {
         return refused(CommitStart::LogFull);
     }
+    let marks = found.pages;
     Judged {
         answer: CommitStart::Begun,
-        pages,
+        pages: found.count,
+        marks,
+        still: found.still,
     }
 }
 
@@ -626,59 +674,39 @@ pub fn begin_commit<'a>(
     )
 }
 
-// What a commit's frames come to: the log behind them, the first page not looked at, their number, and whether all are stored.
+// What a commit's frames come to: the log behind them, the first page not looked at, and their number.
 struct FrameRun {
     wal: Wal,
     page: usize,
     count: usize,
-    all: bool,
 }
 
-// Stores a commit's frames one after another, each as a step does; only the log and the page are handed on, not the store.
-fn store_frames<'a>(
-    staged: Staged,
+// Stores the frames of the marked pages one after another, each as a step does; only the log and the page are handed on, not the store,
+// and no page is compared again.
+fn store_frames(
+    marks: &[u16],
     first: Wal,
     table: &mut [u32],
     log: &mut [u8],
-    main: &'a [u8],
-    staging: &'a [u8],
+    staging: &[u8],
 ) -> FrameRun
-    requires { ⌜ (length (now table) ≡ 1024) × ((length (now log) ≡ 4210720) × ((length (now staging) ≡ 262144) × (first .len ≤ 4210720))) ⌝ }
-    ensures { λ r. ⌜ FramesRun (now (staging .entry)) (now (main .entry)) staged first (now (table .entry)) (now (log .entry)) (r .count) (r .page) (r .wal) (now (table .exit)) (now (log .exit)) ⌝ }
-    ensures { λ r. ⌜ (r .all ≡ true → pagesFrom (differsIn staged (now (staging .entry)) (now (table .exit)) (now (log .exit)) (now (main .entry))) (r .page) ≡ []) ⌝ }
+    requires { ⌜ (length (now marks) ≡ 64) × ((length (now table) ≡ 1024) × ((length (now log) ≡ 4210720) × ((length (now staging) ≡ 262144) × (first .len + 4112 * (length (pagesFrom (isIn (now marks)) 0) + 1) ≤ 4210720)))) ⌝ }
+    ensures { λ r. ⌜ FramesStored (now (marks .entry)) (now (staging .entry)) first (now (table .entry)) (now (log .entry)) (r .count) (r .page) (r .wal) (now (table .exit)) (now (log .exit)) ⌝ }
     ensures { λ r. ⌜ (r .count ≤ 1024) × (r .wal .len ≤ 4210720) ⌝ }
 {
     let mut wal = first;
     let mut page: usize = 0;
     let mut count: usize = 0;
     while page < PAGES {
-        let found = next_differing(staged, table, log, main, staging, page);
+        let found = next_of(marks, STAGED_PAGES, page);
         if PAGES <= found.page {
-            return FrameRun {
-                wal,
-                page,
-                count,
-                all: true,
-            };
+            return FrameRun { wal, page, count };
         }
-        let FrameAppended::Appended(next) = store_frame(wal, found, table, log, staging) else {
-            return FrameRun {
-                wal,
-                page,
-                count,
-                all: false,
-            };
-        };
-        wal = next;
+        wal = store_frame(wal, found, table, log, staging);
         page = found.page + 1;
         count += 1;
     }
-    FrameRun {
-        wal,
-        page,
-        count,
-        all: true,
-    }
+    FrameRun { wal, page, count }
 }
 
 // A store, and the steps of a commit that led to it.
@@ -688,30 +716,23 @@ struct Run {
 }
 
 // Runs a commit that was begun up to its seal.
-fn run_frames<'a>(
+fn run_frames(
     pager: Pager,
     header: DbHeader,
     salt: u32,
     answer: usize,
+    marks: &[u16],
     table: &mut [u32],
     log: &mut [u8],
-    main: &'a [u8],
-    staging: &'a [u8],
+    staging: &[u8],
 ) -> Run
-    requires { ⌜ stepFine (now staging) (world pager (now table) (now log) (now main)) ≡ true ⌝ }
-    ensures { λ r. ⌜ world (r .pager) (now (table .exit)) (now (log .exit)) (now (main .entry)) ≡ steps (now (staging .entry)) (r .steps) (world (withJob pager (Job.Commit header salt 0 answer)) (now (table .entry)) (now (log .entry)) (now (main .entry))) ⌝ }
+    requires { ⌜ (length (now marks) ≡ 64) × ((length (now table) ≡ 1024) × ((length (now log) ≡ 4210720) × ((length (now staging) ≡ 262144) × (pager .wal .len + 4112 * (length (pagesFrom (isIn (now marks)) 0) + 1) ≤ 4210720)))) ⌝ }
+    ensures { λ r. ⌜ ((m : List ℕ) → stepFine (now (staging .entry)) (world pager (now (table .entry)) (now (log .entry)) m) ≡ true → Marking (now (staging .entry)) m (pager .staged) (pager .wal .len) (now (table .entry)) (now (log .entry)) (now (marks .entry)) 0 → world (r .pager) (now (table .exit)) (now (log .exit)) m ≡ steps (now (staging .entry)) (r .steps) (world (withJob pager (Job.Commit header salt 0 answer)) (now (table .entry)) (now (log .entry)) m)) ⌝ }
     ensures { λ r. ⌜ r .steps ≤ 1025 ⌝ }
 {
-    let staged = pager.staged;
     let first = pager.wal;
-    let run = store_frames(staged, first, table, log, main, staging);
+    let run = store_frames(marks, first, table, log, staging);
     let wal = run.wal;
-    if !run.all {
-        return Run {
-            pager: under_way(pager, wal, header, salt, run.page, answer),
-            steps: run.count,
-        };
-    }
     let FrameAppended::Appended(next) = store_seal(table, log, wal, header) else {
         return Run {
             pager: under_way(pager, wal, header, salt, run.page, answer),
@@ -734,7 +755,7 @@ pub struct CommitRun {
     pub steps: usize,
 }
 
-// Judges a commit and runs it up to its seal.
+// Judges a commit and runs it up to its seal. Where a made-up table lets a frame overwrite what a page is compared with, it is only begun.
 pub fn commit_frames<'a>(
     pager: Pager,
     table: &mut [u32],
@@ -760,7 +781,25 @@ pub fn commit_frames<'a>(
             steps: 0,
         };
     }
-    let run = run_frames(pager, new_header, salt, pages, table, log, main, staging);
+    if !judged.still {
+        let wal = pager.wal;
+        return CommitRun {
+            answer,
+            pages,
+            pager: under_way(pager, wal, new_header, salt, 0, pages),
+            steps: 0,
+        };
+    }
+    let run = run_frames(
+        pager,
+        new_header,
+        salt,
+        pages,
+        &judged.marks,
+        table,
+        log,
+        staging,
+    );
     let store = run.pager;
     CommitRun {
         answer,

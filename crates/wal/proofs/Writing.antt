@@ -73,21 +73,6 @@ module _ (l : List ℕ) (w : Wal) (page : ℕ) (body : List ℕ) (count : ℕ) w
           e ∙ rw (eq-eqb _ _ nb, eq-eqb _ _ n, le-leb _ _ h, le-leb _ _ k, store-put l (w .len) (encodeFrame page count (w .header .salt) body) j),
         )
 
-    -- what a caller who sees to the refusals gets, for any page but a batch
-    pub frame-done : (page ≡ 4294967295 → ⊥) → length l ≡ 4210720 → w .len + 4112 ≤ 4210720
-        → (appendAnswer l w page body count ≡ appended.Appended (withFrame w count))
-        × (appendAfter l w page body count ≡ put l (w .len) (encodeFrame page count (w .header .salt) body))
-    unfolding appendAnswer appendAfter
-    frame-done p n k =
-        let h : w .len ≤ 4210720 = omega arith in (
-          rw (ne-eqb _ _ p, eq-eqb _ _ nb, eq-eqb _ _ n, le-leb _ _ h, le-leb _ _ k),
-          rw (eq-eqb _ _ nb, eq-eqb _ _ n, le-leb _ _ h, le-leb _ _ k),
-        )
-
-    pub frame-full : length l ≡ 4210720 → w .len ≤ 4210720 → 4210720 < w .len + 4112
-        → (appendAnswer l w page body count ≡ appended.LogFull) × (appendAfter l w page body count ≡ l)
-    frame-full n h k = let r = log-full n h k in (sym (r .0), sym (r .1))
-
 -- ---- a frame made around a page that lies there already
 
 module _ (l : List ℕ) (w : Wal) (page count : ℕ) where

@@ -11,7 +11,7 @@ ghost use Rattle.frame.specs.Frame.{frameAt};
 ghost use Rattle.wal.specs.Header.{encodeWalHeader, headerIn, decodeWalHeader};
 ghost use Rattle.wal.specs.Recovery.{readableAs, readable, chunks, recovered, walOf, openLog};
 ghost use Rattle.wal.specs.Read.{frameIn, readPage, placeFrom, findPage, batchFrom, nextBatch};
-ghost use Rattle.wal.specs.Write.{emptyWal, createAnswer, createAfter, truncateAnswer, truncateAfter, longer, joins, appendAnswer, appendAfter, inPlaceAnswer, inPlaceAfter, clockAnswer};
+ghost use Rattle.wal.specs.Write.{emptyWal, createAnswer, createAfter, truncateAnswer, truncateAfter, longer, joins, withFrame, hasRoom, appendAnswer, appendAfter, inPlaceAnswer, inPlaceAfter, clockAnswer};
 use frame::FRAME_HEADER_SIZE;
 use frame::FRAME_SIZE;
 use frame::FrameHeader;
@@ -179,6 +179,16 @@ impl Wal {
             last_commit_page_count: counted(last_commit_page_count, commit_page_count),
             frame_count: std::num::wrapping_add_usize(self.frame_count, 1),
         }
+    }
+
+    // The log one good frame longer, which does not seal; as it was where there is no room for one.
+    pub fn longer(self) -> Wal
+        ensures { λ r. ⌜ r ≡ pick (hasRoom self) (withFrame self 0) self ⌝ }
+    {
+        if !le::fits_in(WAL_AREA, self.len, FRAME_SIZE) {
+            return self;
+        }
+        self.with_frame(true, 0)
     }
 
     // Opens a log: judges its header and reads its frames once, where they lie.

@@ -1,9 +1,7 @@
 // A batch appended to the log: its canonical form is written straight behind the heading's place at the log's length,
 // and becomes an unsealed frame there.
 ghost use mathlib.Core.Path.{_≡_};
-ghost use Prim.Native.Nat.{_+_, _^_, _<_};
 ghost use Rattle.mvcc.specs.Seen.{refusalOf};
-ghost use Rattle.wal.specs.Write.{withFrame};
 ghost use Rattle.wal_batch.specs.Batch.{headed, refusedAs, batchAnswer, batchAfter};
 use frame::FRAME_HEADER_SIZE;
 use frame::FRAME_SIZE;
@@ -48,20 +46,6 @@ fn refused(k: Refusal) -> BatchAppended
     }
 }
 
-// The log longer by one good frame that does not seal.
-fn with_batch(wal: Wal) -> Wal
-    requires { ⌜ wal .len + 4112 < 2 ^ 64 ⌝ }
-    ensures { λ r. ⌜ r ≡ withFrame wal 0 ⌝ }
-{
-    let mut longer = wal;
-    longer.len = wal.len + FRAME_SIZE;
-    longer.frame_count = std::num::wrapping_add_usize(wal.frame_count, 1);
-    if wal.len == wal.good_end {
-        longer.good_end = longer.len;
-    }
-    longer
-}
-
 // Appends a batch, as `encode` writes it, unsealed: the body that is lent may have any bools and any bytes behind its records.
 pub fn append_mvcc_batch(log: &mut [u8], wal: Wal, body: &[u8]) -> BatchAppended
     ensures { λ r. ⌜ (r ≡ batchAnswer (now (log .entry)) wal (now (body .entry))) × (now (log .exit) ≡ batchAfter (now (log .entry)) wal (now (body .entry))) ⌝ }
@@ -89,5 +73,5 @@ pub fn append_mvcc_batch(log: &mut [u8], wal: Wal, body: &[u8]) -> BatchAppended
     }
     let header = wal.header;
     frame::write_frame_header(log, wal.len, MVCC_FRAME_MARKER, 0, header.salt);
-    BatchAppended::Appended(with_batch(wal))
+    BatchAppended::Appended(wal.longer())
 }

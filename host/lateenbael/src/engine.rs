@@ -356,11 +356,11 @@ impl Engine {
         self.take(&answered).map(|()| answered.begun != 0)
     }
 
-    /// Does the next store of what is part done.
+    /// Does the next store of what is part done. While more are to come, readings are refused (9) as they were before.
     pub fn next_step(&mut self) -> Result<Step, Refusal> {
         let step = over_areas!(self, as_mut_ptr, sys::lateenbael_next_step, [self.store], []);
         Refusal::judge(step.refusal)?;
-        self.set_store(step.store);
+        self.store = step.store;
         let area = if step.area == 1 { Area::Log } else { Area::Main };
         let named = Named {
             area,
@@ -368,9 +368,12 @@ impl Engine {
             len: step.len,
             flush: step.flush != 0,
         };
+        if step.kind == 1 {
+            return Ok(Step::Stored(named));
+        }
+        self.judge();
         Ok(match step.kind {
             0 => Step::Idle,
-            1 => Step::Stored(named),
             _ => Step::Last(named, step.answer),
         })
     }

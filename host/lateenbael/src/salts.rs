@@ -7,9 +7,10 @@ pub type Salts = Box<dyn FnMut() -> u32 + Send>;
 
 /// Salts drawn from the clock and the process id, never 0 and no two in a row alike.
 pub fn salts_of_the_clock() -> Salts {
+    let own = u64::from(process::id()) << 40;
     let mut last = 0;
     Box::new(move || {
-        let mut salt = draw();
+        let mut salt = draw(own);
         while salt == 0 || salt == last {
             salt = salt.wrapping_add(0x9E37_79B9);
         }
@@ -18,10 +19,9 @@ pub fn salts_of_the_clock() -> Salts {
     })
 }
 
-fn draw() -> u32 {
+fn draw(own: u64) -> u32 {
     let now = SystemTime::now().duration_since(UNIX_EPOCH).unwrap_or_default();
-    let nanos = now.as_nanos() as u64 ^ (u64::from(process::id()) << 40);
-    mix(nanos) as u32
+    mix(now.as_nanos() as u64 ^ own) as u32
 }
 
 /// Every bit of the number reaches every bit of the result.

@@ -1,4 +1,5 @@
-//! A commit's own cost: what it takes beside the frames that it appends.
+//! A commit's own cost: what it takes beside the frames that it appends, and
+//! beside these and the comparisons that tell which pages have one.
 
 use std::cell::RefCell;
 
@@ -30,29 +31,55 @@ fn row(table: &Table, what: &str, pages: usize, differs: Differs) {
     let mut port = InMemory::new(false);
     begin(&mut port, &files::main(), &files::empty_log());
     commits.sample(&mut port, &mut pool);
-    let port = RefCell::new(port);
-    let whole = Box::new(|| commits.sample(&mut *port.borrow_mut(), &mut pool));
-    let part = Box::new(|| frames(&mut port.borrow_mut(), pages));
-    table.own_cost(what, whole, part);
+    let both = RefCell::new((port, pool));
+    let whole = Box::new(|| {
+        let (port, pool) = &mut *both.borrow_mut();
+        commits.sample(port, pool)
+    });
+    let parts = [false, true].map(|compared| {
+        let both = &both;
+        Box::new(move || {
+            let (port, pool) = &mut *both.borrow_mut();
+            frames(port, pool, pages, compared)
+        })
+    });
+    let [alone, compared] = parts;
+    table.own_cost(what, whole, alone, compared);
 }
 
 /// Appends the same frames with the log's own call, to the log area behind a
-/// fold, as the commits between two folds do; the mean of a commit's.
-fn frames(port: &mut InMemory, pages: usize) -> f64 {
+/// fold, as the commits between two folds do, each time of pages that were just
+/// staged; before them, if `compared`, compares each page with its bytes in the
+/// main area. The mean of a commit's.
+fn frames(port: &mut InMemory, pool: &mut Pool, pages: usize, compared: bool) -> f64 {
     port.fold();
-    let engine = &mut port.engine;
-    let mut wal = engine.store().wal;
+    let mut wal = port.engine.store().wal;
     let header = header_page();
     let commits = in_a_row(pages);
     let time = (0..commits)
         .map(|_| {
-            clock(|| {
+            for _ in 0..pages {
+                let (page_num, page) = pool.next();
+                port.stage(page_num, page);
+            }
+            let engine = &mut port.engine;
+            let staged = engine.store().staged;
+            let time = clock(|| {
                 let bodies = engine.staging.chunks_exact(PAGE_SIZE);
+                if compared {
+                    let places = staged.pages[..pages]
+                        .iter()
+                        .map(|&n| n as usize * PAGE_SIZE);
+                    let same = |(body, at): (&[u8], usize)| body == &engine.main[at..][..PAGE_SIZE];
+                    assert!(!bodies.clone().zip(places).any(same), "they differ");
+                }
                 for (k, body) in bodies.take(pages).enumerate() {
                     append(&mut engine.log, &mut wal, k as u32 + 1, body, 0);
                 }
                 append(&mut engine.log, &mut wal, 0, &header, HEADER.page_count);
-            })
+            });
+            port.clear();
+            time
         })
         .sum();
     each(time, commits)

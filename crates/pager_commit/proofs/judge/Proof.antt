@@ -7,7 +7,7 @@ use Prim.Native.Nat.{_-_}
 use Rattle.pager_state.specs.World.{world, fine}
 use Rattle.pager_state.specs.Steps.{stepFine}
 use Rattle.pager_state.proofs.Made.{ready-fine}
-use Rattle.pager_commit.proofs.Starting.{start-area, start-busy, start-read-only, start-header, count-most, start-joining, start-full, start-begun}
+use Rattle.pager_commit.proofs.Starting.{not-begun, start-area, start-busy, start-read-only, start-header, count-most, start-joining, start-full, start-begun}
 use borrow.Author.Needs.{needs}
 use Rattle.pager_commit.proofs.judge.Statement.{statement}
 use Rattle.pager_commit.proofs.judge.Tie as tie
@@ -21,7 +21,7 @@ returns c =
     let W = world (c7 .args .pager) (now (c7 .args .table)) (now (c7 .args .log)) (now (c7 .args .main)) in
     let g = now (c7 .args .staging) in
     let a : stepFine g W ≡ false = sym (c2 .are-fine .ensures) ∙ not-true _ (c1 .if1 .taken) in
-    start-area g W (c7 .args .new-header) a (c .refused .ensures)
+    not-begun g W (c7 .args .new-header) (start-area g W (c7 .args .new-header) a) (c .refused .ensures)
 
 returns-2 : tie.Need-returns-2
 unfolding fine
@@ -34,7 +34,7 @@ returns-2 c =
     let W = world (c9 .args .pager) (now (c9 .args .table)) (now (c9 .args .log)) (now (c9 .args .main)) in
     let g = now (c9 .args .staging) in
     let a : stepFine g W ≡ true = sym (c4 .are-fine .ensures) ∙ not-false _ (c3 .if1 .left) in
-    start-busy g W (c9 .args .new-header) a (sym (c2 .is-busy .ensures) ∙ c1 .if2 .taken) (c .refused2 .ensures)
+    not-begun g W (c9 .args .new-header) (start-busy g W (c9 .args .new-header) a (sym (c2 .is-busy .ensures) ∙ c1 .if2 .taken)) (c .refused2 .ensures)
 
 returns-3 : tie.Need-returns-3
 unfolding fine
@@ -50,7 +50,7 @@ returns-3 c =
     let g = now (c11 .args .staging) in
     let a : stepFine g W ≡ true = sym (c6 .are-fine .ensures) ∙ not-false _ (c5 .if1 .left) in
     let b = sym (c4 .is-busy .ensures) ∙ c3 .if2 .left in
-    start-read-only g W (c11 .args .new-header) a b (sym (c2 .is-read-only .ensures) ∙ c1 .if3 .taken) (c .refused3 .ensures)
+    not-begun g W (c11 .args .new-header) (start-read-only g W (c11 .args .new-header) a b (sym (c2 .is-read-only .ensures) ∙ c1 .if3 .taken)) (c .refused3 .ensures)
 
 returns-4 : tie.Need-returns-4
 unfolding fine
@@ -69,7 +69,7 @@ returns-4 c =
     let a : stepFine g W ≡ true = sym (c8 .are-fine .ensures) ∙ not-false _ (c7 .if1 .left) in
     let b = sym (c6 .is-busy .ensures) ∙ c5 .if2 .left in
     let r = sym (c4 .is-read-only .ensures) ∙ c3 .if3 .left in
-    start-header g W (c13 .args .new-header) a b r (sym (c2 .is-header-good .ensures) ∙ not-true _ (c1 .if4 .taken)) (c .refused4 .ensures)
+    not-begun g W (c13 .args .new-header) (start-header g W (c13 .args .new-header) a b r (sym (c2 .is-header-good .ensures) ∙ not-true _ (c1 .if4 .taken))) (c .refused4 .ensures)
 
 first-lacking-requires : tie.Need-first-lacking-requires
 first-lacking-requires c κs =
@@ -98,79 +98,77 @@ returns-5 c =
     let b = sym (c10 .is-busy .ensures) ∙ c9 .if2 .left in
     let r = sym (c8 .is-read-only .ensures) ∙ c7 .if3 .left in
     let d = sym (c6 .is-header-good .ensures) ∙ not-false _ (c5 .if4 .left) in
-    start-joining g W (c17 .args .new-header) a b r d (c2 .first-lacking .ensures) (c1 .if5 .taken) (c .refused5 .ensures)
+    not-begun g W (c17 .args .new-header) (start-joining g W (c17 .args .new-header) a b r d (c2 .first-lacking .ensures) (c1 .if5 .taken)) (c .refused5 .ensures)
 
 add-if6 : tie.Need-add-if6
-unfolding fine
-add-if6 c =
-    let c1 = c .before in
-    omega (arith, c1 .count-differing .ensures .1)
+add-if6 c = omega (arith, c .before .mark-differing .ensures .1 .0)
 
 mul-if6 : tie.Need-mul-if6
-unfolding fine
-mul-if6 c =
-    let c1 = c .before in
-    omega (arith, c1 .count-differing .ensures .1)
+mul-if6 c = omega (arith, c .before .mark-differing .ensures .1 .0)
 
 add-if6-2 : tie.Need-add-if6-2
 unfolding fine
 add-if6-2 c =
     let c2 = c .before .before in
-    let c13 = c2 .before .before .before .before .before .before .before .before .before .before .before in
-    let c14 = c13 .before in
-    let c19 = c14 .before .before .before .before .before in
-    let W = world (c19 .args .pager) (now (c19 .args .table)) (now (c19 .args .log)) (now (c19 .args .main)) in
-    let g = now (c19 .args .staging) in
-    let a : stepFine g W ≡ true = sym (c14 .are-fine .ensures) ∙ not-false _ (c13 .if1 .left) in
+    let c14 = c2 .before .before .before .before .before .before .before .before .before .before .before .before in
+    let c15 = c14 .before in
+    let c20 = c15 .before .before .before .before .before in
+    let W = world (c20 .args .pager) (now (c20 .args .table)) (now (c20 .args .log)) (now (c20 .args .main)) in
+    let g = now (c20 .args .staging) in
+    let a : stepFine g W ≡ true = sym (c15 .are-fine .ensures) ∙ not-false _ (c14 .if1 .left) in
     let s = ready-fine g W a in
-    omega (arith, c2 .count-differing .ensures .1, s .0 .files .log .len)
+    omega (arith, c2 .mark-differing .ensures .1 .0, s .0 .files .log .len)
 
 returns-6 : tie.Need-returns-6
 unfolding fine
 returns-6 c =
-    let c1 = c .before in
-    let c4 = c1 .before .before .before in
-    let c5 = c4 .before in
-    let c6 = c5 .before in
-    let c9 = c6 .before .before .before in
-    let c10 = c9 .before in
+    let c4 = c .before .before .before .before in
+    let c6 = c4 .before .before in
+    let c7 = c6 .before in
+    let c10 = c7 .before .before .before in
     let c11 = c10 .before in
     let c12 = c11 .before in
     let c13 = c12 .before in
     let c14 = c13 .before in
     let c15 = c14 .before in
     let c16 = c15 .before in
-    let c21 = c16 .before .before .before .before .before in
-    let W = world (c21 .args .pager) (now (c21 .args .table)) (now (c21 .args .log)) (now (c21 .args .main)) in
-    let g = now (c21 .args .staging) in
-    let a : stepFine g W ≡ true = sym (c16 .are-fine .ensures) ∙ not-false _ (c15 .if1 .left) in
-    let b = sym (c14 .is-busy .ensures) ∙ c13 .if2 .left in
-    let r = sym (c12 .is-read-only .ensures) ∙ c11 .if3 .left in
-    let d = sym (c10 .is-header-good .ensures) ∙ not-false _ (c9 .if4 .left) in
-    start-full g W (c21 .args .new-header) a b r d (c6 .first-lacking .ensures) (c5 .if5 .left) (c4 .count-differing .ensures .0) (c1 .if6 .taken) (c .refused6 .ensures)
+    let c17 = c16 .before in
+    let c22 = c17 .before .before .before .before .before in
+    let W = world (c22 .args .pager) (now (c22 .args .table)) (now (c22 .args .log)) (now (c22 .args .main)) in
+    let g = now (c22 .args .staging) in
+    let h = c22 .args .new-header in
+    let a : stepFine g W ≡ true = sym (c17 .are-fine .ensures) ∙ not-false _ (c16 .if1 .left) in
+    let f = sym (c15 .is-busy .ensures) ∙ c14 .if2 .left in
+    let r = sym (c13 .is-read-only .ensures) ∙ c12 .if3 .left in
+    let d = sym (c11 .is-header-good .ensures) ∙ not-false _ (c10 .if4 .left) in
+    let m = c4 .mark-differing .ensures in
+    not-begun g W h (start-full g W h a f r d (c7 .first-lacking .ensures) (c6 .if5 .left) (m .0) (c .before .if6 .taken)) (c .refused6 .ensures)
 
 returns-7 : tie.Need-returns-7
 unfolding fine
 returns-7 c =
-    let c3 = c .before .before .before in
-    let c4 = c3 .before in
-    let c5 = c4 .before in
-    let c8 = c5 .before .before .before in
-    let c9 = c8 .before in
-    let c10 = c9 .before in
+    let c4 = c .before .before .before .before in
+    let c6 = c4 .before .before in
+    let c7 = c6 .before in
+    let c10 = c7 .before .before .before in
     let c11 = c10 .before in
     let c12 = c11 .before in
     let c13 = c12 .before in
     let c14 = c13 .before in
     let c15 = c14 .before in
-    let c20 = c15 .before .before .before .before .before in
-    let W = world (c20 .args .pager) (now (c20 .args .table)) (now (c20 .args .log)) (now (c20 .args .main)) in
-    let g = now (c20 .args .staging) in
-    let a : stepFine g W ≡ true = sym (c15 .are-fine .ensures) ∙ not-false _ (c14 .if1 .left) in
-    let b = sym (c13 .is-busy .ensures) ∙ c12 .if2 .left in
-    let r = sym (c11 .is-read-only .ensures) ∙ c10 .if3 .left in
-    let d = sym (c9 .is-header-good .ensures) ∙ not-false _ (c8 .if4 .left) in
-    start-begun g W (c20 .args .new-header) a b r d (c5 .first-lacking .ensures) (c4 .if5 .left) (c3 .count-differing .ensures .0) (c .if6 .left)
+    let c16 = c15 .before in
+    let c17 = c16 .before in
+    let c22 = c17 .before .before .before .before .before in
+    let W = world (c22 .args .pager) (now (c22 .args .table)) (now (c22 .args .log)) (now (c22 .args .main)) in
+    let g = now (c22 .args .staging) in
+    let h = c22 .args .new-header in
+    let a : stepFine g W ≡ true = sym (c17 .are-fine .ensures) ∙ not-false _ (c16 .if1 .left) in
+    let f = sym (c15 .is-busy .ensures) ∙ c14 .if2 .left in
+    let r = sym (c13 .is-read-only .ensures) ∙ c12 .if3 .left in
+    let d = sym (c11 .is-header-good .ensures) ∙ not-false _ (c10 .if4 .left) in
+    let m = c4 .mark-differing .ensures in
+    let j = start-begun g W h a f r d (c7 .first-lacking .ensures) (c6 .if5 .left) (m .0) (c .before .if6 .left) in
+    (j .0, (j .1, m .1 .1))
 
 pub judge-spec : {M : Type 1} → statement M
 judge-spec =

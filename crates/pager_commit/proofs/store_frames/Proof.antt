@@ -1,131 +1,133 @@
 use native.Mathlib.Omega.{arith}
-use mathlib.Core.Path.{_≡_, refl, sym, _∙_}
+use mathlib.Core.Path.{_≡_, refl, ap, _∙_}
 use mathlib.Core.Bool.{true}
+use mathlib.Core.List.{List}
 use denote.Ref.{now}
-use Prim.Native.Nat.{_+_, _-_, _≤_}
-use borrow.Author.Tests.{leb-true}
-use lib.ListN.{length}
-use Rattle.le.proofs.Compare.{no-test}
-use Rattle.wal.specs.Write.{withFrame, hasRoom}
-use Rattle.pager_state.proofs.Searches.{lowest, pages-end}
+use Prim.Native.Nat.{ℕ, _+_, _-_, _*_, _≤_}
+use borrow.Author.Tests.{le-leb}
+use lib.ListN.{length, take}
+use lib.Seq.{take-all}
+use Rattle.wal.specs.Write.{hasRoom}
+use Rattle.wal.specs.declared.Wal.{Wal}
+use Rattle.pager_state.specs.Overlay.{findIn}
+use Rattle.pager_state.specs.Pages.{pagesFrom, firstOf}
+use Rattle.pager_state.specs.declared.Staged.{Staged}
+use Rattle.pager_state.proofs.Searches.{First, lowest, pages-end}
+use Rattle.pager_state.proofs.Sizes.{frame-len}
 use Rattle.pager_state.proofs.Walks.{none-found}
-use Rattle.pager_commit.specs.CommitStep.{differsIn, FramesRun}
-use Rattle.pager_commit.proofs.Frames.{no-room, has-room}
-use Rattle.pager_commit.proofs.Whole.{run-none, run-still, run-frame, frame-fits}
-use borrow.Author.Needs.{needs}
+use Rattle.pager_commit.specs.CommitStep.{isIn, FramesRun, Marking}
+use Rattle.pager_commit.proofs.Whole.{run-none, run-mark, none-marked, room-left}
 use Rattle.pager_commit.proofs.store_frames.Statement.{statement}
 use Rattle.pager_commit.proofs.store_frames.Tie as tie
 
 abbrev Inv-loop : tie.InvT-loop
-Inv-loop staged table₀ log₀ main staging wal₀ page₀ count₀ table log wal page count =
-    (length table ≡ length table₀) × ((length log ≡ length log₀) × ((wal .len ≤ 4210720) × ((count ≤ page) × ((page ≤ 1024) × FramesRun staging main staged wal₀ table₀ log₀ count page wal table log))))
+Inv-loop marks table₀ log₀ staging wal₀ page₀ count₀ table log wal page count =
+    (length table ≡ length table₀) × ((length log ≡ length log₀) × ((wal₀ .len ≤ wal .len) × ((wal .len + 4112 * (length (pagesFrom (isIn marks) page) + 1) ≤ 4210720) × ((count ≤ page) × ((page ≤ 1024) × ((s : Staged) (m : List ℕ) → Marking staging m s (wal₀ .len) table₀ log₀ marks 0 → FramesRun staging m s wal₀ table₀ log₀ count page wal table log × Marking staging m s (wal₀ .len) table log marks page))))))
 
 abbrev μ-loop : tie.MeasureT-loop
-μ-loop staged table₀ log₀ main staging wal₀ page₀ count₀ table log wal page count = 1024 - page
+μ-loop marks table₀ log₀ staging wal₀ page₀ count₀ table log wal page count = 1024 - page
 
 loop-holds : tie.Need-loop-holds Inv-loop μ-loop
 loop-holds c =
     let c4 = c .before .before .before .before in
-    (refl, (refl, (c4 .pre .1 .1 .1, (omega arith, (omega arith, run-none (now (c4 .args .staging)) (now (c4 .args .main)) (c4 .args .staged) (c4 .args .first) (now (c4 .args .table)) (now (c4 .args .log)))))))
+    (refl, (refl, (omega arith, (c4 .pre .1 .1 .1 .1, (omega arith, (omega arith, λ s m k. (run-none (now (c4 .args .staging)) m s (c4 .args .first) (now (c4 .args .table)) (now (c4 .args .log)), k)))))))
+
+next-of-requires : tie.Need-next-of-requires Inv-loop μ-loop
+next-of-requires c κs = c .before .before .before .before .before .before .pre .0
 
 same-length : tie.Need-same-length Inv-loop μ-loop
-same-length c = c .before .before .before .before .before .before .loop .inv .0
+same-length c = c .before .before .before .before .loop .inv .0
 
 same-length-2 : tie.Need-same-length-2 Inv-loop μ-loop
-same-length-2 c = c .before .before .before .before .before .before .loop .inv .1 .0
+same-length-2 c = c .before .before .before .before .loop .inv .1 .0
 
 returns : tie.Need-returns Inv-loop μ-loop
 returns c =
     let c2 = c .before .before in
-    let c6 = c2 .before .before .before .before in
-    let c11 = c6 .before .before .before .before .before in
-    let i = c6 .loop .inv .1 .1 in
-    let e = none-found (differsIn (c11 .args .staged) (now (c11 .args .staging)) (c6 .loop .table) (c6 .loop .log) (now (c11 .args .main))) (c6 .loop .page) (c2 .next-differing .result .page) (c2 .next-differing .ensures .0) (c .if1 .taken) in
-    (i .1 .1 .1, (λ z. e, (omega (arith, i .1 .0, i .1 .1 .0), i .0)))
+    let c4 = c2 .before .before in
+    let c9 = c4 .before .before .before .before .before in
+    let M = now (c9 .args .marks) in
+    let i = c4 .loop .inv .1 .1 .1 in
+    let d : take 64 M ≡ M = take-all 64 M (omega (arith, c9 .pre .0)) in
+    let e : c2 .next-of .result .page ≡ firstOf (pagesFrom (isIn M) (c4 .loop .page)) = rw d at (c2 .next-of .ensures .0) in
+    let z = none-found (isIn M) (c4 .loop .page) (c2 .next-of .result .page) e (c .if1 .taken) in
+    (λ s m k. (i .1 .1 .1 s m k .0, none-marked (c4 .loop .page) (i .1 .1 .1 s m k .1) z), (omega (arith, i .1 .0, i .1 .1 .0), omega (arith, i .0)))
+
+-- the page that was found, and that there is room for its frame
+found : (c : tie.After-store-frame-arg Inv-loop μ-loop) → First (isIn (now (c .before .before .before .before .before .before .before .before .before .before .args .marks))) (c .before .before .before .before .before .loop .page) (c .before .before .before .next-of .result .page)
+found c =
+    let c3 = c .before .before .before in
+    let c5 = c3 .before .before in
+    let c10 = c5 .before .before .before .before .before in
+    let M = now (c10 .args .marks) in
+    let d : take 64 M ≡ M = take-all 64 M (omega (arith, c10 .pre .0)) in
+    lowest (isIn M) (c5 .loop .page) (c3 .next-of .result .page) (rw d at (c3 .next-of .ensures .0)) (c .before .if1 .left)
+
+room : (c : tie.After-store-frame-arg Inv-loop μ-loop) → hasRoom (c .before .before .before .before .before .loop .wal) ≡ true
+room c =
+    let c5 = c .before .before .before .before .before in
+    let c10 = c5 .before .before .before .before .before in
+    let n = ap length (found c .split) in
+    let h : c5 .loop .wal .len + 4112 ≤ 4210720 = omega (arith, c5 .loop .inv .1 .1 .1 .0, n) in
+    le-leb _ _ h
 
 store-frame-requires : tie.Need-store-frame-requires Inv-loop μ-loop
 store-frame-requires c κs =
-    let c2 = c .before .before in
-    let c4 = c2 .before .before in
-    let c8 = c4 .before .before .before .before in
-    let c13 = c8 .before .before .before .before .before in
-    (c2 .if1 .left, (c4 .next-differing .ensures .1 .1, (c8 .loop .inv .0 ∙ c13 .pre .0, (c8 .loop .inv .1 .0 ∙ c13 .pre .1 .0, (c13 .pre .1 .1 .0, c8 .loop .inv .1 .1 .0)))))
-
-same-length-3 : tie.Need-same-length-3 Inv-loop μ-loop
-same-length-3 c =
-    let c5 = c .before .before .before .before .before in
-    let c14 = c5 .before .before .before .before .before .before .before .before .before in
-    c5 .store-frame .kept .1 .1 .0 ∙ c14 .loop .inv .0
-
-same-length-4 : tie.Need-same-length-4 Inv-loop μ-loop
-same-length-4 c =
-    let c5 = c .before .before .before .before .before in
-    let c14 = c5 .before .before .before .before .before .before .before .before .before in
-    c5 .store-frame .kept .1 .1 .1 .0 ∙ c14 .loop .inv .1 .0
-
-returns-2 : tie.Need-returns-2 Inv-loop μ-loop
-returns-2 c =
-    let c5 = c .before .before .before .before .before in
-    let c14 = c5 .before .before .before .before .before .before .before .before .before in
-    let c19 = c14 .before .before .before .before .before in
-    let v = c14 .loop .wal in
-    let s = c5 .store-frame .ensures in
-    let i = c14 .loop .inv .1 .1 in
-    let o = no-room (c5 .store-frame .result) (withFrame v 0) (hasRoom v) (s .0) (c .match .keys2) in
-    let r = run-still (now (c19 .args .staging)) (now (c19 .args .main)) (c19 .args .staged) (c19 .args .first) (now (c19 .args .table)) (now (c19 .args .log)) (c14 .loop .count) (c14 .loop .page) (i .1 .1 .1) (s .1 .0 ∙ rw o) (s .1 .1 ∙ rw o) in
-    (r, (λ z. no-test z, (omega (arith, i .1 .0, i .1 .1 .0), i .0)))
+    let c4 = c .before .before .before .before in
+    let c6 = c4 .before .before in
+    let c11 = c6 .before .before .before .before .before in
+    (c .before .before .if1 .left, (c4 .next-of .ensures .1 .1, (c6 .loop .inv .0 ∙ c11 .pre .1 .0, (c6 .loop .inv .1 .0 ∙ c11 .pre .1 .1 .0, (c11 .pre .1 .1 .1 .0, room (c .before))))))
 
 add-page : tie.Need-add-page Inv-loop μ-loop
-add-page c = omega (arith, c .before .before .before .before .before .before .before .before .before .before .before .if1 .left)
+add-page c = omega (arith, c .before .before .before .before .before .before .before .before .if1 .left)
 
 add-count : tie.Need-add-count Inv-loop μ-loop
 add-count c =
-    let c17 = c .before .before .before .before .before .before .before .before .before .before .before .before .before .before .before .before .before in
-    omega (arith, c17 .loop .inv .1 .1 .1 .0, c17 .loop .inv .1 .1 .1 .1 .0)
+    let i = c .before .before .before .before .before .before .before .before .before .before .before .before .loop .inv .1 .1 .1 .1 in
+    omega (arith, i .0, i .1 .0)
 
 loop-less : tie.Need-loop-less Inv-loop μ-loop
 loop-less c =
-    let c11 = c .before .before .before .before .before .before .before .before .before .before .before in
-    let c13 = c11 .before .before in
-    let c17 = c13 .before .before .before .before in
-    let c22 = c17 .before .before .before .before .before in
-    let p = lowest (differsIn (c22 .args .staged) (now (c22 .args .staging)) (c17 .loop .table) (c17 .loop .log) (now (c22 .args .main))) (c17 .loop .page) (c13 .next-differing .result .page) (c13 .next-differing .ensures .0) (c11 .if1 .left) in
-    omega (arith, p .from, c11 .if1 .left)
+    let p = found (c .before .before .before .before .before .before .before) in
+    omega (arith, p .from, p .below)
 
 loop-again : tie.Need-loop-again Inv-loop μ-loop
 loop-again c =
-    let c8 = c .before .before .before .before .before .before .before .before in
-    let c11 = c8 .before .before .before in
-    let c13 = c11 .before .before in
-    let c17 = c13 .before .before .before .before in
-    let c22 = c17 .before .before .before .before .before in
-    let g = now (c22 .args .staging) in
-    let v = c17 .loop .wal in
-    let s = c8 .store-frame .ensures in
-    let i = c17 .loop .inv in
-    let f = c13 .next-differing .ensures in
-    let q = c13 .next-differing .result .page in
-    let o = has-room (c8 .store-frame .result) _ (withFrame v 0) (hasRoom v) (s .0) (c .before .before .next .given .1) in
-    let p = lowest (differsIn (c22 .args .staged) g (c17 .loop .table) (c17 .loop .log) (now (c22 .args .main))) (c17 .loop .page) q (f .0) (c11 .if1 .left) in
-    let r = run-frame g (now (c22 .args .main)) (c22 .args .staged) (c22 .args .first) (now (c22 .args .table)) (now (c22 .args .log)) (c17 .loop .count) (c17 .loop .page) (i .1 .1 .1 .1 .1) (i .0 ∙ c22 .pre .0) (i .1 .0 ∙ c22 .pre .1 .0) (i .1 .1 .0)
-    q (c13 .next-differing .result .index) (c22 .pre .1 .1 .0) (p .split) (f .1 .0 (c11 .if1 .left)) (f .1 .1) (o .0) (o .1) (s .1 .0 ∙ rw (o .0)) (s .1 .1 ∙ rw (o .0)) in
-    (c8 .store-frame .kept .1 .1 .0 ∙ i .0, (c8 .store-frame .kept .1 .1 .1 .0 ∙ i .1 .0, (frame-fits v (o .0) (o .1), (omega (arith, i .1 .1 .1 .0, p .from), (omega (arith, c11 .if1 .left), r)))))
+    let c5 = c .before .before .before .before .before in
+    let c7 = c5 .before .before in
+    let c8 = c7 .before in
+    let c10 = c8 .before .before in
+    let c12 = c10 .before .before in
+    let c17 = c12 .before .before .before .before .before in
+    let a = c17 .args in
+    let g = now (a .staging) in
+    let M = now (a .marks) in
+    let i = c12 .loop .inv in
+    let v = c12 .loop .wal in
+    let s = c5 .store-frame .ensures in
+    let q = c10 .next-of .result .page in
+    let p = found c7 in
+    let o = room c7 in
+    let d : take 64 M ≡ M = take-all 64 M (omega (arith, c17 .pre .0)) in
+    let x : c10 .next-of .result .index ≡ findIn M q = rw d at (c10 .next-of .ensures .1 .0 (c8 .if1 .left)) in
+    let u : c5 .store-frame .result .len ≡ v .len + 4112 = ap (λ (w : Wal). w .len) (s .0) ∙ frame-len v 0 in
+    (c5 .store-frame .kept .1 .1 .0 ∙ i .0, (c5 .store-frame .kept .1 .1 .1 .0 ∙ i .1 .0, (omega (arith, u, i .1 .1 .0), (room-left (isIn M) (v .len) p u (i .1 .1 .1 .0), (omega (arith, i .1 .1 .1 .1 .0, p .from), (omega (arith, p .below), λ t m k. run-mark g m t (a .first) (now (a .table)) (now (a .log)) (c12 .loop .count) (c12 .loop .page) (i .1 .1 .1 .1 .1 .1 t m k .0) (i .0 ∙ c17 .pre .1 .0) (i .1 .0 ∙ c17 .pre .1 .1 .0) (i .1 .1 .0) q (c10 .next-of .result .index) (c17 .pre .1 .1 .1 .0) (i .1 .1 .1 .1 .1 .1 t m k .1) p x (c10 .next-of .ensures .1 .1) o (s .0) (s .1 .0) (s .1 .1)))))))
 
-same-length-5 : tie.Need-same-length-5 Inv-loop μ-loop
-same-length-5 c = c .before .loop .inv .0
+same-length-3 : tie.Need-same-length-3 Inv-loop μ-loop
+same-length-3 c = c .before .loop .inv .0
 
-same-length-6 : tie.Need-same-length-6 Inv-loop μ-loop
-same-length-6 c = c .before .loop .inv .1 .0
+same-length-4 : tie.Need-same-length-4 Inv-loop μ-loop
+same-length-4 c = c .before .loop .inv .1 .0
 
-returns-3 : tie.Need-returns-3 Inv-loop μ-loop
-returns-3 c =
+returns-2 : tie.Need-returns-2 Inv-loop μ-loop
+returns-2 c =
     let c1 = c .before in
     let c6 = c1 .before .before .before .before .before in
-    let i = c1 .loop .inv .1 .1 in
-    let e = pages-end (differsIn (c6 .args .staged) (now (c6 .args .staging)) (c1 .loop .table) (c1 .loop .log) (now (c6 .args .main))) (c1 .loop .page) (c .loop-test .left) in
-    (i .1 .1 .1, (λ z. e, (omega (arith, i .1 .0, i .1 .1 .0), i .0)))
+    let i = c1 .loop .inv .1 .1 .1 in
+    let z = pages-end (isIn (now (c6 .args .marks))) (c1 .loop .page) (c .loop-test .left) in
+    (λ s m k. (i .1 .1 .1 s m k .0, none-marked (c1 .loop .page) (i .1 .1 .1 s m k .1) z), (omega (arith, i .1 .0, i .1 .1 .0), omega (arith, i .0)))
 
 pub store-frames-spec : {M : Type 1} → statement M
 store-frames-spec =
     tie.close
-    (tie.spec Inv-loop μ-loop loop-holds (search needs) same-length same-length-2 returns store-frame-requires (search needs) same-length-3 same-length-4 returns-2 add-page add-count loop-less loop-again same-length-5 same-length-6 returns-3)
+    (tie.spec Inv-loop μ-loop loop-holds next-of-requires same-length same-length-2 returns store-frame-requires add-page add-count loop-less loop-again same-length-3 same-length-4 returns-2)

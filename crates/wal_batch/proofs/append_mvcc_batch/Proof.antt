@@ -1,8 +1,9 @@
-use mathlib.Core.Path.{_≡_}
+use mathlib.Core.Path.{_≡_, _∙_}
 use Prim.Native.Nat.{_+_, _-_, _≤_}
 use native.Mathlib.Omega.{arith}
 use denote.Ref.{now}
 use borrow.Author.Needs.{needs}
+use borrow.Author.Tests.{le-leb}
 use borrow.Rule.Slice.PartMut.{putMid}
 use Rattle.mvcc_canonical.specs.Canonical.{canonicalNumber}
 use Rattle.mvcc_canonical.specs.declared.Canonical.{Canonical}
@@ -75,7 +76,7 @@ returns-9 c =
     let b = d .before .before .before in
     let a = b .before .before .before .args in
     way-done (now (a .log)) (a .wal) (now (a .body)) (b .if1 .left) (d .if3 .left) (room k) (λ i. b .before .shared-slice-known .given i .fits) (t .enum-told .given .1)
-    (k .canonicalize .ensures .0) (k .canonicalize .ensures .1) (h .write-frame-header .ensures .1) (c .with-batch .ensures)
+    (k .canonicalize .ensures .0) (k .canonicalize .ensures .1) (h .write-frame-header .ensures .1) (c .longer .ensures ∙ rw (le-leb _ _ (room k)))
 
 pub append-mvcc-batch-spec : {M : Type 1} → statement M
 append-mvcc-batch-spec =

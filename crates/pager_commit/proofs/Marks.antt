@@ -1,0 +1,188 @@
+-- The marks of the pages that differ: how a start makes them, and what storing a frame leaves of them. Assumes nothing.
+use mathlib.Core.Path.{_≡_, refl, sym, _∙_}
+use mathlib.Core.Bool.{Bool, true, false}
+use mathlib.Core.List.{List}
+use mathlib.Core.Logic.{⊎-elim}
+use Prim.Native.Nat.{ℕ, _+_, _≤_, _<_, min}
+use native.Mathlib.Omega.{arith}
+use borrow.Author.Tests.{eq-eqb, lt-ltb, ltb-true, leb-true}
+use lib.Dec.{leb}
+use lib.ListN.{length, getD, set, length-take, length-set, replicate, length-replicate, getD-replicate}
+use lib.Seq.{getD-take, getD-set-same, getD-set-other}
+use Rattle.le.specs.Choice.{pick, both}
+use Rattle.le.specs.Le.{put}
+use Rattle.le.proofs.Tests.{le-or-lt, eq-or-not}
+use Rattle.le.proofs.Compare.{both-true}
+use Rattle.pager_state.specs.Overlay.{findIn, stagedPages, slotOf, isStaged, frameOf, inLog, onMain, entry, logBytes}
+use Rattle.pager_state.specs.Commit.{entered}
+use Rattle.pager_state.specs.declared.Staged.{Staged}
+use Rattle.pager_state.proofs.Entries.{frame-other, log-other, main-other, part-before}
+use Rattle.pager_commit.specs.CommitStep.{isIn, committedIn, slotDiffers, differsIn, countsAt, standsBefore, Marking}
+use Rattle.pager_commit.proofs.Least.{find-at, find-most}
+use Rattle.pager_commit.proofs.Differing.{counts-told}
+
+-- ---- a frame more
+
+-- the bytes that another page was committed with stay, where its frame stands before the new one
+module _ (t l m : List ℕ) (q x at : ℕ) (bs : List ℕ) (len : ℕ) (a : len ≤ at) (b : at ≤ length l) where
+  committed-by : (n : ℕ) → (n ≡ q → ⊥) → (o : Bool) → inLog t n ≡ o → pick o (leb (frameOf t n + 4112) len) true ≡ true
+      → committedIn (set t q x) (put l at bs) m n ≡ committedIn t l m n
+  unfolding committedIn logBytes
+  committed-by n d true s e =
+      let h : frameOf t n + 4112 ≤ len = leb-true _ _ e in
+      rw (log-other t q x n d, s, frame-other t q x n d) (part-before l at bs (frameOf t n + 16) 4096 (omega (arith, h, a)) b)
+  committed-by n d false s e = rw (log-other t q x n d, s, main-other t q x n d)
+
+  committed-other : (n : ℕ) → (n ≡ q → ⊥) → standsBefore t n len ≡ true → committedIn (set t q x) (put l at bs) m n ≡ committedIn t l m n
+  committed-other n d e = committed-by n d (inLog t n) refl e
+
+module _ {g m : List ℕ} {s : Staged} {len : ℕ} {t l marks : List ℕ} {page : ℕ} (k : Marking g m s len t l marks page) (q at : ℕ) (bs : List ℕ) (h : page ≤ q)
+    (a : len ≤ at) (b : at ≤ length l) where
+  apart : (n : ℕ) → q + 1 ≤ n → n ≡ q → ⊥
+  apart n c e = omega (arith, c, e)
+
+  differs-still : (n : ℕ) → q + 1 ≤ n → n < 1024 → (o : Bool) → isStaged s n ≡ o
+      → both o (slotDiffers g (entered t q at) (put l at bs) m n (slotOf s n)) ≡ both o (slotDiffers g t l m n (slotOf s n))
+  unfolding slotDiffers
+  differs-still n c d true o = rw (committed-other t l m q (entry at (onMain t q)) at bs len a b n (apart n c) (k .still n (omega (arith, h, c)) d o))
+  differs-still n c d false o = refl
+
+  same-after : (n : ℕ) → q + 1 ≤ n → n < 1024 → isIn marks n ≡ differsIn s g (entered t q at) (put l at bs) m n
+  unfolding differsIn
+  same-after n c d = k .same n (omega (arith, h, c)) d ∙ sym (differs-still n c d (isStaged s n) refl)
+
+  still-after : (n : ℕ) → q + 1 ≤ n → n < 1024 → isStaged s n ≡ true → standsBefore (entered t q at) n len ≡ true
+  still-after n c d e =
+      rw (log-other t q (entry at (onMain t q)) n (apart n c), frame-other t q (entry at (onMain t q)) n (apart n c)) (k .still n (omega (arith, h, c)) d e)
+
+  -- the marks from the next page on
+  pub marking-frame : Marking g m s len (entered t q at) (put l at bs) marks (q + 1)
+  marking-frame = record { long = k .long; same = same-after; slot = k .slot; still = still-after }
+
+-- ---- slot by slot
+
+module _ (s : Staged) (g t l m : List ℕ) where
+  abbrev pageAt : ℕ → ℕ
+  pageAt j = getD (s .pages) j 0
+
+  abbrev markAt : ℕ → ℕ
+  markAt j = pick (countsAt (slotOf s (pageAt j)) g t l m (pageAt j) j) (pageAt j) 65535
+
+  -- the first i slots are marked, the others not
+  pub record Marks (i : ℕ) (marks : List ℕ) : Type 0 where
+    pub long : length marks ≡ 64
+    pub front : (j : ℕ) → j < i → getD marks j 0 ≡ markAt j
+    pub back : (j : ℕ) → i ≤ j → j < 64 → getD marks j 0 ≡ 65535
+
+  pub marks-none : Marks 0 (replicate {A = ℕ} 64 65535)
+  marks-none =
+      record {
+        long = length-replicate {A = ℕ} 64 65535;
+        front = λ j h. absurd (omega (arith, h));
+        back = λ j h k. getD-replicate {A = ℕ} 64 j 65535 0 k;
+      }
+
+  module _ (i : ℕ) {marks : List ℕ} {mark : ℕ} (k : Marks i marks) (h : i < 64) (e : mark ≡ markAt i) where
+    same-mark : (j : ℕ) → (j ≡ i → ⊥) → getD (set marks i mark) j 0 ≡ getD marks j 0
+    same-mark j d = getD-set-other marks i j mark 0 d
+
+    own-mark : getD (set marks i mark) i 0 ≡ markAt i
+    own-mark = getD-set-same marks i mark 0 (omega (arith, k .long, h)) ∙ e
+
+    front-mark : (j : ℕ) → j < i + 1 → getD (set marks i mark) j 0 ≡ markAt j
+    front-mark j f =
+        ⊎-elim (λ (z : j ≡ i). rw z own-mark) (λ z. same-mark j z ∙ k .front j (omega (arith, f, z))) (eq-or-not j i)
+
+    pub marks-more : Marks (i + 1) (set marks i mark)
+    marks-more =
+        record {
+          long = length-set marks i mark ∙ k .long;
+          front = front-mark;
+          back = λ j f b. same-mark j (λ z. omega (arith, f, z)) ∙ k .back j (omega (arith, f)) b;
+        }
+
+  -- one slot more
+  pub marks-step : (i : ℕ) {marks : List ℕ} {page first mark : ℕ} {yes : Bool} → Marks i marks → i < 64 → page ≡ pageAt i → first ≡ findIn (stagedPages s) page
+      → yes ≡ countsAt first g t l m page i → mark ≡ pick yes page 65535 → Marks (i + 1) (set marks i mark)
+  unfolding slotOf
+  marks-step i k h e f y b = marks-more i k h (b ∙ rw (y, f, e))
+
+  -- no frame from len on changes what the first i slots are compared with
+  abbrev pub Still : ℕ → ℕ → Type 0
+  Still len i = (j : ℕ) → j < i → standsBefore t (pageAt j) len ≡ true
+
+  pub still-none : (len : ℕ) → Still len 0
+  still-none len j h = absurd (omega (arith, h))
+
+  pub still-step : (len i : ℕ) {page : ℕ} {still yes : Bool} → page ≡ pageAt i → yes ≡ standsBefore t page len → (still ≡ true → Still len i)
+      → both still yes ≡ true → Still len (i + 1)
+  still-step len i {page} {still} {yes} e y k b j h =
+      let c = both-true still yes b in
+      let z : standsBefore t (pageAt i) len ≡ true = rw (← e) (sym y ∙ c .1) in
+      ⊎-elim (λ (n : j ≡ i). rw n z) (λ n. k (c .0) j (omega (arith, h, n))) (eq-or-not j i)
+
+  -- ---- all of them
+
+  module _ (i : ℕ) {marks : List ℕ} (k : Marks i marks) (e : i ≡ length (stagedPages s)) (long : length (s .pages) ≡ 64) where
+    -- a staged page stands in its slot
+    slot-in : (n : ℕ) → isStaged s n ≡ true → slotOf s n < i
+    unfolding isStaged
+    slot-in n o = let h = ltb-true (slotOf s n) (length (stagedPages s)) o in omega (arith, h, e)
+
+    few : i ≤ 64
+    few = let c : length (stagedPages s) ≡ min (s .count) (length (s .pages)) = length-take (s .count) (s .pages) in omega (arith, c, long, e)
+
+    slot-has : (n : ℕ) → isStaged s n ≡ true → pageAt (slotOf s n) ≡ n
+    unfolding slotOf isStaged
+    slot-has n o =
+        let h : findIn (stagedPages s) n < length (stagedPages s) = ltb-true (findIn (stagedPages s) n) (length (stagedPages s)) o in
+        let c : length (stagedPages s) ≡ min (s .count) (length (s .pages)) = length-take (s .count) (s .pages) in
+        sym (getD-take (s .count) (s .pages) (findIn (stagedPages s) n) 0 (omega (arith, h, c))) ∙ find-at (stagedPages s) n h
+
+    -- what stands among the marks differs, and has that slot
+    mark-by : (n j : ℕ) (b : Bool) → n < 1024 → j < i → countsAt (slotOf s (pageAt j)) g t l m (pageAt j) j ≡ b → pick b (pageAt j) 65535 ≡ n
+        → (differsIn s g t l m n ≡ true) × (slotOf s n ≡ j)
+    mark-by n j true h f c z =
+        let a = counts-told s g t l m j (pageAt j) (omega (arith, f, e)) refl c in
+        (rw (← z) (a .1 .1), rw (← z) (a .1 .0))
+    mark-by n j false h f c z = absurd (omega (arith, h, z))
+
+    mark-told : (n j : ℕ) → n < 1024 → j < 64 → getD marks j 0 ≡ n → (differsIn s g t l m n ≡ true) × (slotOf s n ≡ j)
+    mark-told n j h f z =
+        ⊎-elim (λ o. absurd (let y = k .back j o f in omega (arith, y, z, h)))
+        (λ o. mark-by n j (countsAt (slotOf s (pageAt j)) g t l m (pageAt j) j) h o refl (sym (k .front j o) ∙ z)) (le-or-lt i j)
+
+    found-mark : (n : ℕ) → n < 1024 → isIn marks n ≡ true → (differsIn s g t l m n ≡ true) × (slotOf s n ≡ findIn marks n)
+    unfolding isIn
+    found-mark n h o =
+        let f = ltb-true (findIn marks n) (length marks) o in
+        mark-told n (findIn marks n) h (omega (arith, f, k .long)) (find-at marks n f)
+
+    -- a page that differs stands there
+    counts-own : (n : ℕ) → n < 1024 → slotDiffers g t l m n (slotOf s n) ≡ true → countsAt (slotOf s n) g t l m n (slotOf s n) ≡ true
+    unfolding countsAt
+    counts-own n h d = rw (lt-ltb n 1024 h, eq-eqb (slotOf s n) (slotOf s n) refl, d)
+
+    has-mark : (n : ℕ) → n < 1024 → differsIn s g t l m n ≡ true → isIn marks n ≡ true
+    unfolding isIn differsIn
+    has-mark n h d =
+        let c = both-true (isStaged s n) (slotDiffers g t l m n (slotOf s n)) d in
+        let p = slot-has n (c .0) in
+        let o = slot-in n (c .0) in
+        let y : getD marks (slotOf s n) 0 ≡ n = k .front (slotOf s n) o ∙ rw (p, counts-own n h (c .1)) in
+        let f = find-most marks (slotOf s n) n (omega (arith, o, few, k .long)) y in
+        lt-ltb (findIn marks n) (length marks) (omega (arith, f, o, few, k .long))
+
+    same-by : (n : ℕ) → n < 1024 → (a b : Bool) → isIn marks n ≡ a → differsIn s g t l m n ≡ b → a ≡ b
+    same-by n h true b x y = sym (found-mark n h x .0) ∙ y
+    same-by n h false true x y = sym x ∙ has-mark n h y
+    same-by n h false false x y = refl
+
+    pub marks-all : (len : ℕ) → Still len i → Marking g m s len t l marks 0
+    marks-all len z =
+        record {
+          long = k .long;
+          same = λ n a h. same-by n h (isIn marks n) (differsIn s g t l m n) refl refl;
+          slot = λ n h o. sym (found-mark n h o .1);
+          still = λ n a h o. rw (slot-has n o) at (z (slotOf s n) (slot-in n o));
+        }
