@@ -24,6 +24,7 @@ use Rattle.pager_state.specs.declared.CommitStart.{CommitStart}
 use Rattle.pager_state.specs.declared.CommitStarted.{CommitStarted}
 use Rattle.pager_state.specs.declared.StepAnswer.{StepAnswer}
 use Rattle.pager_state.specs.declared.StepAnswer.the-variants as step
+use Rattle.pager_commit.specs.declared.CommitRun.{CommitRun}
 
 -- refusal 1, then "each next-step call does the next store .. and no other" of a commit; of another job nothing and Idle
 unfoldable pub commitStepAnswer : List ℕ → World → StepAnswer
@@ -76,6 +77,9 @@ sealPut l v h = put l (v .len) (encodeFrame 0 (countOf h) (v .header .salt) (enc
 
 abbrev pub startedAs : CommitStart → Pager → CommitStarted
 startedAs a p = record { answer = a; pager = p }
+
+abbrev pub ranAs : CommitStart → ℕ → Pager → ℕ → CommitRun
+ranAs a n p k = record { answer = a; pages = n; pager = p; steps = k }
 
 -- ---- a commit's steps in one call
 

@@ -14,7 +14,7 @@ ghost use Rattle.pager_state.specs.Stores.{Put, Sealed, Other, placeOf};
 ghost use Rattle.pager_state.specs.Pages.{pagesFrom, firstOf, differs, lacks};
 ghost use Rattle.pager_state.specs.Commit.{entered, jobAfter, framesTodo, framesAdvance};
 ghost use Rattle.pager_state.specs.Steps.{named, done, headerGood, differing, commitStart, isBegun, beginCommit, stepFine, steps, onStore};
-ghost use Rattle.pager_commit.specs.CommitStep.{commitStepAnswer, commitStepped, isIn, committedIn, slotDiffers, differsIn, countsAt, standsBefore, Marking, sealedWith, framePut, sealPut, startedAs, FramesStored};
+ghost use Rattle.pager_commit.specs.CommitStep.{commitStepAnswer, commitStepped, isIn, committedIn, slotDiffers, differsIn, countsAt, standsBefore, Marking, sealedWith, framePut, sealPut, startedAs, ranAs, FramesStored};
 use frame::FRAME_HEADER_SIZE;
 use frame::FRAME_SIZE;
 use header::DbHeader;
@@ -755,6 +755,17 @@ pub struct CommitRun {
     pub steps: usize,
 }
 
+fn ran(answer: CommitStart, pages: usize, pager: Pager, steps: usize) -> CommitRun
+    ensures { λ r. ⌜ r ≡ ranAs answer pages pager steps ⌝ }
+{
+    CommitRun {
+        answer,
+        pages,
+        pager,
+        steps,
+    }
+}
+
 // Judges a commit and runs it up to its seal. Where a made-up table lets a frame overwrite what a page is compared with, it is only begun.
 pub fn commit_frames<'a>(
     pager: Pager,
@@ -774,21 +785,12 @@ pub fn commit_frames<'a>(
     let answer = judged.answer;
     let pages = judged.pages;
     if !is_begun(answer) {
-        return CommitRun {
-            answer,
-            pages,
-            pager,
-            steps: 0,
-        };
+        return ran(answer, pages, pager, 0);
     }
     if !judged.still {
         let wal = pager.wal;
-        return CommitRun {
-            answer,
-            pages,
-            pager: under_way(pager, wal, new_header, salt, 0, pages),
-            steps: 0,
-        };
+        let begun = under_way(pager, wal, new_header, salt, 0, pages);
+        return ran(answer, pages, begun, 0);
     }
     let run = run_frames(
         pager,
@@ -801,10 +803,5 @@ pub fn commit_frames<'a>(
         staging,
     );
     let store = run.pager;
-    CommitRun {
-        answer,
-        pages,
-        pager: store,
-        steps: run.steps,
-    }
+    ran(answer, pages, store, run.steps)
 }
