@@ -7,11 +7,11 @@ use Prim.Native.Nat.{ℕ, _+_, _≤_, _<_, min}
 use native.Mathlib.Omega.{arith}
 use borrow.Author.Tests.{eq-eqb, lt-ltb, ltb-true, leb-true}
 use lib.Dec.{leb}
-use lib.ListN.{length, getD, set, length-take, length-set, replicate, length-replicate, getD-replicate}
+use lib.ListN.{length, take, getD, set, length-take, length-set, replicate, length-replicate}
 use lib.Seq.{getD-take, getD-set-same, getD-set-other}
 use Rattle.le.specs.Choice.{pick, both}
 use Rattle.le.specs.Le.{put}
-use Rattle.le.proofs.Tests.{le-or-lt, eq-or-not}
+use Rattle.le.proofs.Tests.{eq-or-not}
 use Rattle.le.proofs.Compare.{both-true}
 use Rattle.pager_state.specs.Overlay.{findIn, stagedPages, slotOf, isStaged, frameOf, inLog, onMain, entry, logBytes}
 use Rattle.pager_state.specs.Commit.{entered}
@@ -57,7 +57,7 @@ module _ {g m : List ℕ} {s : Staged} {len : ℕ} {t l marks : List ℕ} {page 
 
   -- the marks from the next page on
   pub marking-frame : Marking g m s len (entered t q at) (put l at bs) marks (q + 1)
-  marking-frame = record { long = k .long; same = same-after; slot = k .slot; still = still-after }
+  marking-frame = record { same = same-after; slot = k .slot; still = still-after }
 
 -- ---- slot by slot
 
@@ -68,19 +68,13 @@ module _ (s : Staged) (g t l m : List ℕ) where
   abbrev markAt : ℕ → ℕ
   markAt j = pick (countsAt (slotOf s (pageAt j)) g t l m (pageAt j) j) (pageAt j) 65535
 
-  -- the first i slots are marked, the others not
+  -- the first i slots are marked
   pub record Marks (i : ℕ) (marks : List ℕ) : Type 0 where
     pub long : length marks ≡ 64
     pub front : (j : ℕ) → j < i → getD marks j 0 ≡ markAt j
-    pub back : (j : ℕ) → i ≤ j → j < 64 → getD marks j 0 ≡ 65535
 
   pub marks-none : Marks 0 (replicate {A = ℕ} 64 65535)
-  marks-none =
-      record {
-        long = length-replicate {A = ℕ} 64 65535;
-        front = λ j h. absurd (omega (arith, h));
-        back = λ j h k. getD-replicate {A = ℕ} 64 j 65535 0 k;
-      }
+  marks-none = record { long = length-replicate {A = ℕ} 64 65535; front = λ j h. absurd (omega (arith, h)) }
 
   module _ (i : ℕ) {marks : List ℕ} {mark : ℕ} (k : Marks i marks) (h : i < 64) (e : mark ≡ markAt i) where
     same-mark : (j : ℕ) → (j ≡ i → ⊥) → getD (set marks i mark) j 0 ≡ getD marks j 0
@@ -93,13 +87,8 @@ module _ (s : Staged) (g t l m : List ℕ) where
     front-mark j f =
         ⊎-elim (λ (z : j ≡ i). rw z own-mark) (λ z. same-mark j z ∙ k .front j (omega (arith, f, z))) (eq-or-not j i)
 
-    pub marks-more : Marks (i + 1) (set marks i mark)
-    marks-more =
-        record {
-          long = length-set marks i mark ∙ k .long;
-          front = front-mark;
-          back = λ j f b. same-mark j (λ z. omega (arith, f, z)) ∙ k .back j (omega (arith, f)) b;
-        }
+    marks-more : Marks (i + 1) (set marks i mark)
+    marks-more = record { long = length-set marks i mark ∙ k .long; front = front-mark }
 
   -- one slot more
   pub marks-step : (i : ℕ) {marks : List ℕ} {page first mark : ℕ} {yes : Bool} → Marks i marks → i < 64 → page ≡ pageAt i → first ≡ findIn (stagedPages s) page
@@ -129,9 +118,6 @@ module _ (s : Staged) (g t l m : List ℕ) where
     unfolding isStaged
     slot-in n o = let h = ltb-true (slotOf s n) (length (stagedPages s)) o in omega (arith, h, e)
 
-    few : i ≤ 64
-    few = let c : length (stagedPages s) ≡ min (s .count) (length (s .pages)) = length-take (s .count) (s .pages) in omega (arith, c, long, e)
-
     slot-has : (n : ℕ) → isStaged s n ≡ true → pageAt (slotOf s n) ≡ n
     unfolding slotOf isStaged
     slot-has n o =
@@ -147,42 +133,52 @@ module _ (s : Staged) (g t l m : List ℕ) where
         (rw (← z) (a .1 .1), rw (← z) (a .1 .0))
     mark-by n j false h f c z = absurd (omega (arith, h, z))
 
-    mark-told : (n j : ℕ) → n < 1024 → j < 64 → getD marks j 0 ≡ n → (differsIn s g t l m n ≡ true) × (slotOf s n ≡ j)
-    mark-told n j h f z =
-        ⊎-elim (λ o. absurd (let y = k .back j o f in omega (arith, y, z, h)))
-        (λ o. mark-by n j (countsAt (slotOf s (pageAt j)) g t l m (pageAt j) j) h o refl (sym (k .front j o) ∙ z)) (le-or-lt i j)
+    -- the marks of the slots that are taken
+    abbrev L : List ℕ
+    L = take (s .count) marks
 
-    found-mark : (n : ℕ) → n < 1024 → isIn marks n ≡ true → (differsIn s g t l m n ≡ true) × (slotOf s n ≡ findIn marks n)
+    size : length L ≡ i
+    size =
+        let c : length (stagedPages s) ≡ min (s .count) (length (s .pages)) = length-take (s .count) (s .pages) in
+        let d : length L ≡ min (s .count) (length marks) = length-take (s .count) marks in
+        omega (arith, c, d, e, long, k .long)
+
+    mark-in : (j : ℕ) → j < i → getD L j 0 ≡ markAt j
+    mark-in j h =
+        let d : length L ≡ min (s .count) (length marks) = length-take (s .count) marks in
+        getD-take (s .count) marks j 0 (omega (arith, d, size, h)) ∙ k .front j h
+
+    found-mark : (n : ℕ) → n < 1024 → isIn L n ≡ true → (differsIn s g t l m n ≡ true) × (slotOf s n ≡ findIn L n)
     unfolding isIn
     found-mark n h o =
-        let f = ltb-true (findIn marks n) (length marks) o in
-        mark-told n (findIn marks n) h (omega (arith, f, k .long)) (find-at marks n f)
+        let f = ltb-true (findIn L n) (length L) o in
+        let j : findIn L n < i = omega (arith, f, size) in
+        mark-by n (findIn L n) (countsAt (slotOf s (pageAt (findIn L n))) g t l m (pageAt (findIn L n)) (findIn L n)) h j refl (sym (mark-in (findIn L n) j) ∙ find-at L n f)
 
     -- a page that differs stands there
     counts-own : (n : ℕ) → n < 1024 → slotDiffers g t l m n (slotOf s n) ≡ true → countsAt (slotOf s n) g t l m n (slotOf s n) ≡ true
     unfolding countsAt
     counts-own n h d = rw (lt-ltb n 1024 h, eq-eqb (slotOf s n) (slotOf s n) refl, d)
 
-    has-mark : (n : ℕ) → n < 1024 → differsIn s g t l m n ≡ true → isIn marks n ≡ true
+    has-mark : (n : ℕ) → n < 1024 → differsIn s g t l m n ≡ true → isIn L n ≡ true
     unfolding isIn differsIn
     has-mark n h d =
         let c = both-true (isStaged s n) (slotDiffers g t l m n (slotOf s n)) d in
         let p = slot-has n (c .0) in
         let o = slot-in n (c .0) in
-        let y : getD marks (slotOf s n) 0 ≡ n = k .front (slotOf s n) o ∙ rw (p, counts-own n h (c .1)) in
-        let f = find-most marks (slotOf s n) n (omega (arith, o, few, k .long)) y in
-        lt-ltb (findIn marks n) (length marks) (omega (arith, f, o, few, k .long))
+        let y : getD L (slotOf s n) 0 ≡ n = mark-in (slotOf s n) o ∙ rw (p, counts-own n h (c .1)) in
+        let f = find-most L (slotOf s n) n (omega (arith, o, size)) y in
+        lt-ltb (findIn L n) (length L) (omega (arith, f, o, size))
 
-    same-by : (n : ℕ) → n < 1024 → (a b : Bool) → isIn marks n ≡ a → differsIn s g t l m n ≡ b → a ≡ b
+    same-by : (n : ℕ) → n < 1024 → (a b : Bool) → isIn L n ≡ a → differsIn s g t l m n ≡ b → a ≡ b
     same-by n h true b x y = sym (found-mark n h x .0) ∙ y
     same-by n h false true x y = sym x ∙ has-mark n h y
     same-by n h false false x y = refl
 
-    pub marks-all : (len : ℕ) → Still len i → Marking g m s len t l marks 0
+    pub marks-all : (len : ℕ) → Still len i → Marking g m s len t l L 0
     marks-all len z =
         record {
-          long = k .long;
-          same = λ n a h. same-by n h (isIn marks n) (differsIn s g t l m n) refl refl;
+          same = λ n a h. same-by n h (isIn L n) (differsIn s g t l m n) refl refl;
           slot = λ n h o. sym (found-mark n h o .1);
           still = λ n a h o. rw (slot-has n o) at (z (slotOf s n) (slot-in n o));
         }

@@ -12,7 +12,7 @@ use Rattle.header.specs.Header.{encodeHeader}
 use Rattle.header.specs.declared.DbHeader.{DbHeader}
 use Rattle.frame.specs.Frame.{frameSize, encodeFrame}
 use Rattle.wal.specs.declared.Wal.{Wal}
-use Rattle.pager_state.specs.World.{World, world, pageLimit, stagedLimit, countOf, withJob, withWal, noneStaged}
+use Rattle.pager_state.specs.World.{World, world, pageLimit, countOf, withJob, withWal, noneStaged}
 use Rattle.pager_state.specs.Overlay.{pageFrom, findIn, slotOf, isStaged, frameOf, inLog, onMain, mainAt, logBytes}
 use Rattle.pager_state.specs.Pages.{pagesFrom}
 use Rattle.pager_state.specs.Commit.{jobAfter, commitTodo, commitAdvance}
@@ -90,7 +90,6 @@ standsBefore t n len = pick (inLog t n) (leb (frameOf t n + frameSize) len) true
 -- among the marks stand just the pages from `page` on that differ, each in its slot; and a frame stored at len or behind changes no
 -- bytes that a staged page from there on is compared with
 pub record Marking (g m : List ℕ) (s : Staged) (len : ℕ) (t l marks : List ℕ) (page : ℕ) : Type 0 where
-  pub long : length marks ≡ stagedLimit
   pub same : (n : ℕ) → page ≤ n → n < pageLimit → isIn marks n ≡ differsIn s g t l m n
   pub slot : (n : ℕ) → n < pageLimit → isIn marks n ≡ true → findIn marks n ≡ slotOf s n
   pub still : (n : ℕ) → page ≤ n → n < pageLimit → isStaged s n ≡ true → standsBefore t n len ≡ true

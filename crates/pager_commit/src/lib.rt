@@ -246,8 +246,8 @@ fn mark_differing<'a>(
     staging: &'a [u8],
 ) -> Marked
     ensures { λ r. ⌜ r .count ≡ length (pagesFrom (differsIn staged (now (staging .entry)) (now (table .entry)) (now (log .entry)) (now (main .entry))) 0) ⌝ }
-    ensures { λ r. ⌜ r .count ≤ 64 ⌝ }
-    ensures { λ r. ⌜ (r .still ≡ true → Marking (now (staging .entry)) (now (main .entry)) staged len (now (table .entry)) (now (log .entry)) (r .pages) 0) ⌝ }
+    ensures { λ r. ⌜ (r .count ≤ 64) × (length (r .pages) ≡ 64) ⌝ }
+    ensures { λ r. ⌜ (r .still ≡ true → Marking (now (staging .entry)) (now (main .entry)) staged len (now (table .entry)) (now (log .entry)) (take (staged .count) (r .pages)) 0) ⌝ }
 {
     let count = staged.count;
     let end = lower(count, STAGED_PAGES);
@@ -579,7 +579,7 @@ fn judge<'a>(
 ) -> Judged
     ensures { λ r. ⌜ r .answer ≡ commitStart (now (staging .entry)) (world pager (now (table .entry)) (now (log .entry)) (now (main .entry))) «new_header» ⌝ }
     ensures { λ r. ⌜ r .pages ≡ pick (isBegun (commitStart (now (staging .entry)) (world pager (now (table .entry)) (now (log .entry)) (now (main .entry))) «new_header»)) (differing (now (staging .entry)) (world pager (now (table .entry)) (now (log .entry)) (now (main .entry)))) 0 ⌝ }
-    ensures { λ r. ⌜ (r .still ≡ true → Marking (now (staging .entry)) (now (main .entry)) (pager .staged) (pager .wal .len) (now (table .entry)) (now (log .entry)) (r .marks) 0) ⌝ }
+    ensures { λ r. ⌜ (r .still ≡ true → (length (r .marks) ≡ 64) × Marking (now (staging .entry)) (now (main .entry)) (pager .staged) (pager .wal .len) (now (table .entry)) (now (log .entry)) (take (pager .staged .count) (r .marks)) 0) ⌝ }
 {
     if !pager_state::are_fine(pager, table.len(), log.len(), main.len(), staging.len()) {
         return refused(CommitStart::Area);
@@ -681,24 +681,25 @@ struct FrameRun {
     count: usize,
 }
 
-// Stores the frames of the marked pages one after another, each as a step does; only the log and the page are handed on, not the store,
+// Stores the frames of the pages among the first n marks one after another, each as a step does; only the log and the page are handed on, not the store,
 // and no page is compared again.
 fn store_frames(
     marks: &[u16],
+    n: usize,
     first: Wal,
     table: &mut [u32],
     log: &mut [u8],
     staging: &[u8],
 ) -> FrameRun
-    requires { ⌜ (length (now marks) ≡ 64) × ((length (now table) ≡ 1024) × ((length (now log) ≡ 4210720) × ((length (now staging) ≡ 262144) × (first .len + 4112 * (length (pagesFrom (isIn (now marks)) 0) + 1) ≤ 4210720)))) ⌝ }
-    ensures { λ r. ⌜ FramesStored (now (marks .entry)) (now (staging .entry)) first (now (table .entry)) (now (log .entry)) (r .count) (r .page) (r .wal) (now (table .exit)) (now (log .exit)) ⌝ }
+    requires { ⌜ (length (now marks) ≡ 64) × ((length (now table) ≡ 1024) × ((length (now log) ≡ 4210720) × ((length (now staging) ≡ 262144) × (first .len + 4112 * (length (pagesFrom (isIn (take n (now marks))) 0) + 1) ≤ 4210720)))) ⌝ }
+    ensures { λ r. ⌜ FramesStored (take n (now (marks .entry))) (now (staging .entry)) first (now (table .entry)) (now (log .entry)) (r .count) (r .page) (r .wal) (now (table .exit)) (now (log .exit)) ⌝ }
     ensures { λ r. ⌜ (r .count ≤ 1024) × (r .wal .len ≤ 4210720) ⌝ }
 {
     let mut wal = first;
     let mut page: usize = 0;
     let mut count: usize = 0;
     while page < PAGES {
-        let found = next_of(marks, STAGED_PAGES, page);
+        let found = next_of(marks, n, page);
         if PAGES <= found.page {
             return FrameRun { wal, page, count };
         }
@@ -726,12 +727,13 @@ fn run_frames(
     log: &mut [u8],
     staging: &[u8],
 ) -> Run
-    requires { ⌜ (length (now marks) ≡ 64) × ((length (now table) ≡ 1024) × ((length (now log) ≡ 4210720) × ((length (now staging) ≡ 262144) × (pager .wal .len + 4112 * (length (pagesFrom (isIn (now marks)) 0) + 1) ≤ 4210720)))) ⌝ }
-    ensures { λ r. ⌜ ((m : List ℕ) → stepFine (now (staging .entry)) (world pager (now (table .entry)) (now (log .entry)) m) ≡ true → Marking (now (staging .entry)) m (pager .staged) (pager .wal .len) (now (table .entry)) (now (log .entry)) (now (marks .entry)) 0 → world (r .pager) (now (table .exit)) (now (log .exit)) m ≡ steps (now (staging .entry)) (r .steps) (world (withJob pager (Job.Commit header salt 0 answer)) (now (table .entry)) (now (log .entry)) m)) ⌝ }
+    requires { ⌜ (length (now marks) ≡ 64) × ((length (now table) ≡ 1024) × ((length (now log) ≡ 4210720) × ((length (now staging) ≡ 262144) × (pager .wal .len + 4112 * (length (pagesFrom (isIn (take (pager .staged .count) (now marks))) 0) + 1) ≤ 4210720)))) ⌝ }
+    ensures { λ r. ⌜ ((m : List ℕ) → stepFine (now (staging .entry)) (world pager (now (table .entry)) (now (log .entry)) m) ≡ true → Marking (now (staging .entry)) m (pager .staged) (pager .wal .len) (now (table .entry)) (now (log .entry)) (take (pager .staged .count) (now (marks .entry))) 0 → world (r .pager) (now (table .exit)) (now (log .exit)) m ≡ steps (now (staging .entry)) (r .steps) (world (withJob pager (Job.Commit header salt 0 answer)) (now (table .entry)) (now (log .entry)) m)) ⌝ }
     ensures { λ r. ⌜ r .steps ≤ 1025 ⌝ }
 {
     let first = pager.wal;
-    let run = store_frames(marks, first, table, log, staging);
+    let staged = pager.staged;
+    let run = store_frames(marks, staged.count, first, table, log, staging);
     let wal = run.wal;
     let FrameAppended::Appended(next) = store_seal(table, log, wal, header) else {
         return Run {

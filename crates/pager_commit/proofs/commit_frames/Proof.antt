@@ -44,7 +44,7 @@ run-frames-requires c κs =
     let k = j .1 .1 (not-false _ (c5 .if2 .left)) in
     let s = sym (c6 .before .is-begun .ensures) ∙ not-false _ (c6 .if1 .left) in
     let r = ready-fine g W (begun-told g W (a .new-header) (a .salt) (j .0, j .1 .0) s .right) in
-    (k .long, (r .0 .table, (r .0 .files .log .area, (r .1, begun-room g W (a .new-header) (a .salt) (j .0, j .1 .0) s k))))
+    (k .0, (r .0 .table, (r .0 .files .log .area, (r .1, begun-room g W (a .new-header) (a .salt) (j .0, j .1 .0) s (k .1)))))
 
 returns-3 : tie.Need-returns-3
 returns-3 c =
@@ -60,7 +60,7 @@ returns-3 c =
     let s = sym (c13 .before .is-begun .ensures) ∙ not-false _ (c13 .if1 .left) in
     let f = begun-told g W (a .new-header) (a .salt) (j .0, j .1 .0) s .right in
     rw (c .ran3 .ensures)
-    ((j .0, (j .1 .0, (run-begun g W (a .new-header) (a .salt) (j .0, j .1 .0) (c6 .run-frames .result .steps) s (r .0 (now (a .main)) f (j .1 .1 (not-false _ (c12 .if2 .left)))), r .1))))
+    ((j .0, (j .1 .0, (run-begun g W (a .new-header) (a .salt) (j .0, j .1 .0) (c6 .run-frames .result .steps) s (r .0 (now (a .main)) f (j .1 .1 (not-false _ (c12 .if2 .left)) .1)), r .1))))
 
 pub commit-frames-spec : {M : Type 1} → statement M
 commit-frames-spec =

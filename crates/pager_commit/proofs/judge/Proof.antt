@@ -101,10 +101,10 @@ returns-5 c =
     not-begun g W (c17 .args .new-header) (start-joining g W (c17 .args .new-header) a b r d (c2 .first-lacking .ensures) (c1 .if5 .taken)) (c .refused5 .ensures)
 
 add-if6 : tie.Need-add-if6
-add-if6 c = omega (arith, c .before .mark-differing .ensures .1 .0)
+add-if6 c = omega (arith, c .before .mark-differing .ensures .1 .0 .0)
 
 mul-if6 : tie.Need-mul-if6
-mul-if6 c = omega (arith, c .before .mark-differing .ensures .1 .0)
+mul-if6 c = omega (arith, c .before .mark-differing .ensures .1 .0 .0)
 
 add-if6-2 : tie.Need-add-if6-2
 unfolding fine
@@ -117,7 +117,7 @@ add-if6-2 c =
     let g = now (c20 .args .staging) in
     let a : stepFine g W ≡ true = sym (c15 .are-fine .ensures) ∙ not-false _ (c14 .if1 .left) in
     let s = ready-fine g W a in
-    omega (arith, c2 .mark-differing .ensures .1 .0, s .0 .files .log .len)
+    omega (arith, c2 .mark-differing .ensures .1 .0 .0, s .0 .files .log .len)
 
 returns-6 : tie.Need-returns-6
 unfolding fine
@@ -168,7 +168,7 @@ returns-7 c =
     let d = sym (c11 .is-header-good .ensures) ∙ not-false _ (c10 .if4 .left) in
     let m = c4 .mark-differing .ensures in
     let j = start-begun g W h a f r d (c7 .first-lacking .ensures) (c6 .if5 .left) (m .0) (c .before .if6 .left) in
-    (j .0, (j .1, m .1 .1))
+    (j .0, (j .1, λ z. (m .1 .0 .1, m .1 .1 z)))
 
 pub judge-spec : {M : Type 1} → statement M
 judge-spec =

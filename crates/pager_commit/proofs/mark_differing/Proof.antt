@@ -101,7 +101,7 @@ returns c =
     let z : length (s .pages) ≡ 64 = slots s _ (c7 .good .0) in
     let y : length (stagedPages s) ≡ min (s .count) 64 = simp (length-take, z) in
     let e : c1 .loop .i ≡ length (stagedPages s) = omega arith in
-    (v .0 ∙ count-all s g t l m (c1 .loop .i) e, (omega arith, λ x. marks-all s g t l m (c1 .loop .i) (v .1 .0) e z (c7 .args .len) (v .1 .1 x)))
+    (v .0 ∙ count-all s g t l m (c1 .loop .i) e, ((omega arith, v .1 .0 .long), λ x. marks-all s g t l m (c1 .loop .i) (v .1 .0) e z (c7 .args .len) (v .1 .1 x)))
 
 pub mark-differing-spec : {M : Type 1} → statement M
 mark-differing-spec =

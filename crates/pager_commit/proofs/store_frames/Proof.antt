@@ -6,11 +6,9 @@ use denote.Ref.{now}
 use Prim.Native.Nat.{ℕ, _+_, _-_, _*_, _≤_}
 use borrow.Author.Tests.{le-leb}
 use lib.ListN.{length, take}
-use lib.Seq.{take-all}
 use Rattle.wal.specs.Write.{hasRoom}
 use Rattle.wal.specs.declared.Wal.{Wal}
-use Rattle.pager_state.specs.Overlay.{findIn}
-use Rattle.pager_state.specs.Pages.{pagesFrom, firstOf}
+use Rattle.pager_state.specs.Pages.{pagesFrom}
 use Rattle.pager_state.specs.declared.Staged.{Staged}
 use Rattle.pager_state.proofs.Searches.{First, lowest, pages-end}
 use Rattle.pager_state.proofs.Sizes.{frame-len}
@@ -21,11 +19,11 @@ use Rattle.pager_commit.proofs.store_frames.Statement.{statement}
 use Rattle.pager_commit.proofs.store_frames.Tie as tie
 
 abbrev Inv-loop : tie.InvT-loop
-Inv-loop marks table₀ log₀ staging wal₀ page₀ count₀ table log wal page count =
-    (length table ≡ length table₀) × ((length log ≡ length log₀) × ((wal₀ .len ≤ wal .len) × ((wal .len + 4112 * (length (pagesFrom (isIn marks) page) + 1) ≤ 4210720) × ((count ≤ page) × ((page ≤ 1024) × ((s : Staged) (m : List ℕ) → Marking staging m s (wal₀ .len) table₀ log₀ marks 0 → FramesRun staging m s wal₀ table₀ log₀ count page wal table log × Marking staging m s (wal₀ .len) table log marks page))))))
+Inv-loop marks n table₀ log₀ staging wal₀ page₀ count₀ table log wal page count =
+    (length table ≡ length table₀) × ((length log ≡ length log₀) × ((wal₀ .len ≤ wal .len) × ((wal .len + 4112 * (length (pagesFrom (isIn (take n marks)) page) + 1) ≤ 4210720) × ((count ≤ page) × ((page ≤ 1024) × ((s : Staged) (m : List ℕ) → Marking staging m s (wal₀ .len) table₀ log₀ (take n marks) 0 → FramesRun staging m s wal₀ table₀ log₀ count page wal table log × Marking staging m s (wal₀ .len) table log (take n marks) page))))))
 
 abbrev μ-loop : tie.MeasureT-loop
-μ-loop marks table₀ log₀ staging wal₀ page₀ count₀ table log wal page count = 1024 - page
+μ-loop marks n table₀ log₀ staging wal₀ page₀ count₀ table log wal page count = 1024 - page
 
 loop-holds : tie.Need-loop-holds Inv-loop μ-loop
 loop-holds c =
@@ -46,22 +44,19 @@ returns c =
     let c2 = c .before .before in
     let c4 = c2 .before .before in
     let c9 = c4 .before .before .before .before .before in
-    let M = now (c9 .args .marks) in
+    let M = take (c9 .args .n) (now (c9 .args .marks)) in
     let i = c4 .loop .inv .1 .1 .1 in
-    let d : take 64 M ≡ M = take-all 64 M (omega (arith, c9 .pre .0)) in
-    let e : c2 .next-of .result .page ≡ firstOf (pagesFrom (isIn M) (c4 .loop .page)) = rw d at (c2 .next-of .ensures .0) in
-    let z = none-found (isIn M) (c4 .loop .page) (c2 .next-of .result .page) e (c .if1 .taken) in
+    let z = none-found (isIn M) (c4 .loop .page) (c2 .next-of .result .page) (c2 .next-of .ensures .0) (c .if1 .taken) in
     (λ s m k. (i .1 .1 .1 s m k .0, none-marked (c4 .loop .page) (i .1 .1 .1 s m k .1) z), (omega (arith, i .1 .0, i .1 .1 .0), omega (arith, i .0)))
 
 -- the page that was found, and that there is room for its frame
-found : (c : tie.After-store-frame-arg Inv-loop μ-loop) → First (isIn (now (c .before .before .before .before .before .before .before .before .before .before .args .marks))) (c .before .before .before .before .before .loop .page) (c .before .before .before .next-of .result .page)
+found : (c : tie.After-store-frame-arg Inv-loop μ-loop) → First (isIn (take (c .before .before .before .before .before .before .before .before .before .before .args .n) (now (c .before .before .before .before .before .before .before .before .before .before .args .marks)))) (c .before .before .before .before .before .loop .page) (c .before .before .before .next-of .result .page)
 found c =
     let c3 = c .before .before .before in
     let c5 = c3 .before .before in
     let c10 = c5 .before .before .before .before .before in
-    let M = now (c10 .args .marks) in
-    let d : take 64 M ≡ M = take-all 64 M (omega (arith, c10 .pre .0)) in
-    lowest (isIn M) (c5 .loop .page) (c3 .next-of .result .page) (rw d at (c3 .next-of .ensures .0)) (c .before .if1 .left)
+    let M = take (c10 .args .n) (now (c10 .args .marks)) in
+    lowest (isIn M) (c5 .loop .page) (c3 .next-of .result .page) (c3 .next-of .ensures .0) (c .before .if1 .left)
 
 room : (c : tie.After-store-frame-arg Inv-loop μ-loop) → hasRoom (c .before .before .before .before .before .loop .wal) ≡ true
 room c =
@@ -101,15 +96,14 @@ loop-again c =
     let c17 = c12 .before .before .before .before .before in
     let a = c17 .args in
     let g = now (a .staging) in
-    let M = now (a .marks) in
+    let M = take (a .n) (now (a .marks)) in
     let i = c12 .loop .inv in
     let v = c12 .loop .wal in
     let s = c5 .store-frame .ensures in
     let q = c10 .next-of .result .page in
     let p = found c7 in
     let o = room c7 in
-    let d : take 64 M ≡ M = take-all 64 M (omega (arith, c17 .pre .0)) in
-    let x : c10 .next-of .result .index ≡ findIn M q = rw d at (c10 .next-of .ensures .1 .0 (c8 .if1 .left)) in
+    let x = c10 .next-of .ensures .1 .0 (c8 .if1 .left) in
     let u : c5 .store-frame .result .len ≡ v .len + 4112 = ap (λ (w : Wal). w .len) (s .0) ∙ frame-len v 0 in
     (c5 .store-frame .kept .1 .1 .0 ∙ i .0, (c5 .store-frame .kept .1 .1 .1 .0 ∙ i .1 .0, (omega (arith, u, i .1 .1 .0), (room-left (isIn M) (v .len) p u (i .1 .1 .1 .0), (omega (arith, i .1 .1 .1 .1 .0, p .from), (omega (arith, p .below), λ t m k. run-mark g m t (a .first) (now (a .table)) (now (a .log)) (c12 .loop .count) (c12 .loop .page) (i .1 .1 .1 .1 .1 .1 t m k .0) (i .0 ∙ c17 .pre .1 .0) (i .1 .0 ∙ c17 .pre .1 .1 .0) (i .1 .1 .0) q (c10 .next-of .result .index) (c17 .pre .1 .1 .1 .0) (i .1 .1 .1 .1 .1 .1 t m k .1) p x (c10 .next-of .ensures .1 .1) o (s .0) (s .1 .0) (s .1 .1)))))))
 
@@ -124,7 +118,7 @@ returns-2 c =
     let c1 = c .before in
     let c6 = c1 .before .before .before .before .before in
     let i = c1 .loop .inv .1 .1 .1 in
-    let z = pages-end (isIn (now (c6 .args .marks))) (c1 .loop .page) (c .loop-test .left) in
+    let z = pages-end (isIn (take (c6 .args .n) (now (c6 .args .marks)))) (c1 .loop .page) (c .loop-test .left) in
     (λ s m k. (i .1 .1 .1 s m k .0, none-marked (c1 .loop .page) (i .1 .1 .1 s m k .1) z), (omega (arith, i .1 .0, i .1 .1 .0), omega (arith, i .0)))
 
 pub store-frames-spec : {M : Type 1} → statement M
