@@ -6,7 +6,7 @@ use mathlib.Core.Logic.{_⊎_, inl, inr}
 use mathlib.Core.Option.{Option, none, some}
 use Prim.Native.Nat.{ℕ, suc, _+_, _*_, max, _≤_, _<_}
 use native.Mathlib.Omega.{arith}
-use borrow.Author.Tests.{eq-eqb, ne-eqb, eqb-true, lt-ltb, le-ltb, ltb-true}
+use borrow.Author.Tests.{eq-eqb, ne-eqb, lt-ltb, le-ltb, ltb-true}
 use lib.Dec.{ltb, eqb}
 use lib.ListN.{length, drop, getD, set, length-append, length-take, length-drop, length-set}
 use lib.Seq.{length-take-le, getD-take, set-getD, take-suc-set}
@@ -16,6 +16,7 @@ use Rattle.le.proofs.Tests.{le-or-lt, eq-or-not}
 use Rattle.pager_state.specs.Overlay.{pageFrom, findIn, stagedPages, slotOf, isStaged, stagedBytes}
 use Rattle.pager_state.specs.Staging.{slotted}
 use Rattle.pager_state.specs.declared.Staged.{Staged}
+use Rattle.pager_state.proofs.Slots.{find-length, find-there}
 use Rattle.history.proofs.Files.{page-other, page-same}
 
 -- what is staged for a page
@@ -27,23 +28,6 @@ pub record Slots (s : Staged) : Type 0 where
   pub long : length (s .pages) ≡ 64
 
 -- ---- finding a page
-
-find-most : (xs : List ℕ) (n : ℕ) → findIn xs n ≤ length xs
-find-most [] n = omega arith
-find-most (x ∷ xs) n = go (eqb x n) (find-most xs n)
-  where
-    go : (t : Bool) → findIn xs n ≤ length xs → pick t 0 (suc (findIn xs n)) ≤ suc (length xs)
-    go true h = omega arith
-    go false h = omega arith
-
-find-there : (xs : List ℕ) (n : ℕ) → findIn xs n < length xs → getD xs (findIn xs n) 0 ≡ n
-find-there [] n h = absurd (omega arith)
-find-there (x ∷ xs) n h = go (eqb x n) refl h (find-there xs n)
-  where
-    go : (t : Bool) → eqb x n ≡ t → pick t 0 (suc (findIn xs n)) < suc (length xs) → (findIn xs n < length xs → getD xs (findIn xs n) 0 ≡ n)
-        → getD (x ∷ xs) (pick t 0 (suc (findIn xs n))) 0 ≡ n
-    go true e k later = eqb-true x n e
-    go false e k later = later (omega arith)
 
 find-in : (xs ys : List ℕ) (n : ℕ) → findIn xs n < length xs → findIn (xs ++ ys) n ≡ findIn xs n
 find-in [] ys n h = absurd (omega arith)
@@ -89,7 +73,7 @@ module _ (xs g bytes : List ℕ) (n : ℕ) (hb : length bytes ≡ 4096) (hg : 40
   more h m = go (eq-or-not m n) (le-or-lt (suc (findIn xs m)) (length xs))
     where
       here : findIn xs n ≡ length xs
-      here = omega (arith, find-most xs n)
+      here = omega (arith, find-length xs n)
 
       room : 4096 * findIn xs n ≤ length g
       room = omega (arith, here)
@@ -127,7 +111,7 @@ module _ (s : Staged) (k : Slots s) where
 
   pub slot-most : (n : ℕ) → slotOf s n ≤ s .count
   unfolding slotOf
-  slot-most n = omega (arith, find-most (stagedPages s) n, slots-few)
+  slot-most n = omega (arith, find-length (stagedPages s) n, slots-few)
 
   pub slot-staged : (n : ℕ) → isStaged s n ≡ true → slotOf s n < 64
   unfolding isStaged
@@ -157,7 +141,7 @@ module _ (s : Staged) (k : Slots s) where
     unfolding slotted slotOf
     pages-more h =
         let i : ℕ = findIn (stagedPages s) n in
-        let e : i ≡ s .count = omega (arith, find-most (stagedPages s) n, slots-few) in
+        let e : i ≡ s .count = omega (arith, find-length (stagedPages s) n, slots-few) in
         let c : max (s .count) (i + 1) ≡ suc (s .count) = omega arith in
         rw (c, e) (take-suc-set (s .pages) (s .count) n (omega (arith, k .long, slot-most n, low)))
 

@@ -18,9 +18,9 @@ use Rattle.pager_state.specs.Overlay.{findIn, stagedPages, slotOf, isStaged, st
 use Rattle.pager_state.specs.Pages.{pagesFrom, firstOf, differs, lacks}
 use Rattle.pager_state.specs.declared.Staged.{Staged}
 use Rattle.pager_state.proofs.Searches.{pages-hit, pages-miss, lowest, pages-same}
+use Rattle.pager_state.proofs.Slots.{find-there}
 use Rattle.pager_state.proofs.Walks.{none-found, pages-skip, none-is, first-before, pages-more}
 use Rattle.pager_commit.specs.CommitStep.{isIn, committedIn, slotDiffers, differsIn, countsAt}
-use Rattle.pager_commit.proofs.Least.{find-at}
 
 both-false : (b : Bool) → both b false ≡ false
 both-false true = refl
@@ -125,7 +125,7 @@ module _ (s : Staged) (g t l m : List ℕ) where
     unfolding slotOf
     slot-page n k =
         let f : findIn (stagedPages s) n < length (stagedPages s) = rw k h in
-        let a : getD (stagedPages s) i 0 ≡ n = rw k at (find-at (stagedPages s) n f) in
+        let a : getD (stagedPages s) i 0 ≡ n = rw k at (find-there (stagedPages s) n f) in
         let c : length (stagedPages s) ≡ min (s .count) (length (s .pages)) = length-take (s .count) (s .pages) in
         sym a ∙ getD-take (s .count) (s .pages) i 0 (omega (arith, c)) ∙ sym e
 

@@ -5,7 +5,7 @@ use mathlib.Core.List.{List, [], _∷_}
 use mathlib.Core.Logic.{⊎-elim}
 use Prim.Native.Nat.{ℕ, zero, suc, _+_, _%_, _≤_, _<_, min}
 use native.Mathlib.Omega.{arith}
-use borrow.Author.Tests.{eq-eqb, eqb-true, lt-ltb, ltb-true}
+use borrow.Author.Tests.{eq-eqb, lt-ltb, ltb-true}
 use lib.Dec.{ltb, eqb}
 use lib.ListN.{length, take, getD, length-take}
 use lib.Seq.{getD-take}
@@ -13,6 +13,7 @@ use Rattle.le.specs.Choice.{pick}
 use Rattle.le.proofs.Tests.{le-or-lt, eq-or-not}
 use Rattle.pager_state.specs.Overlay.{findIn}
 use Rattle.pager_state.specs.Pages.{pagesFrom, firstOf}
+use Rattle.pager_state.proofs.Slots.{find-there}
 use Rattle.pager_state.proofs.Walks.{first-is, none-is}
 use Rattle.pager_commit.specs.CommitStep.{isIn}
 
@@ -28,19 +29,9 @@ find-most [] j x h e = absurd (omega arith)
 find-most (y ∷ l) zero x h e = rw (eq-eqb y x e) (omega arith)
 find-most (y ∷ l) (suc j) x h e = find-most-at y x l j (eqb y x) refl (find-most l j x (omega arith) e)
 
-find-later : (y x : ℕ) (l : List ℕ) (b : Bool) → eqb y x ≡ b → pick b 0 (suc (findIn l x)) < suc (length l)
-    → (findIn l x < length l → getD l (findIn l x) 0 ≡ x) → getD (y ∷ l) (pick b 0 (suc (findIn l x))) 0 ≡ x
-find-later y x l true e h r = eqb-true y x e
-find-later y x l false e h r = r (omega arith)
-
--- what stands there
-pub find-at : (l : List ℕ) (x : ℕ) → findIn l x < length l → getD l (findIn l x) 0 ≡ x
-find-at [] x h = absurd (omega arith)
-find-at (y ∷ l) x h = find-later y x l (eqb y x) refl h (λ k. find-at l x k)
-
 -- a page that stands nowhere
 not-by : (l : List ℕ) (x : ℕ) → ((j : ℕ) → j < length l → getD l j 0 ≡ x → ⊥) → (b : Bool) → ltb (findIn l x) (length l) ≡ b → b ≡ false
-not-by l x a true e = let h = ltb-true (findIn l x) (length l) e in absurd (a (findIn l x) h (find-at l x h))
+not-by l x a true e = let h = ltb-true (findIn l x) (length l) e in absurd (a (findIn l x) h (find-there l x h))
 not-by l x a false e = refl
 
 not-in : (l : List ℕ) (x : ℕ) → ((j : ℕ) → j < length l → getD l j 0 ≡ x → ⊥) → isIn l x ≡ false

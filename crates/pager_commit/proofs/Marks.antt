@@ -17,8 +17,9 @@ use Rattle.pager_state.specs.Overlay.{findIn, stagedPages, slotOf, isStaged, fr
 use Rattle.pager_state.specs.Commit.{entered}
 use Rattle.pager_state.specs.declared.Staged.{Staged}
 use Rattle.pager_state.proofs.Entries.{frame-other, log-other, main-other, part-before}
+use Rattle.pager_state.proofs.Slots.{find-there}
 use Rattle.pager_commit.specs.CommitStep.{isIn, committedIn, slotDiffers, differsIn, countsAt, standsBefore, Marking}
-use Rattle.pager_commit.proofs.Least.{find-at, find-most}
+use Rattle.pager_commit.proofs.Least.{find-most}
 use Rattle.pager_commit.proofs.Differing.{counts-told}
 
 -- ---- a frame more
@@ -123,7 +124,7 @@ module _ (s : Staged) (g t l m : List ℕ) where
     slot-has n o =
         let h : findIn (stagedPages s) n < length (stagedPages s) = ltb-true (findIn (stagedPages s) n) (length (stagedPages s)) o in
         let c : length (stagedPages s) ≡ min (s .count) (length (s .pages)) = length-take (s .count) (s .pages) in
-        sym (getD-take (s .count) (s .pages) (findIn (stagedPages s) n) 0 (omega (arith, h, c))) ∙ find-at (stagedPages s) n h
+        sym (getD-take (s .count) (s .pages) (findIn (stagedPages s) n) 0 (omega (arith, h, c))) ∙ find-there (stagedPages s) n h
 
     -- what stands among the marks differs, and has that slot
     mark-by : (n j : ℕ) (b : Bool) → n < 1024 → j < i → countsAt (slotOf s (pageAt j)) g t l m (pageAt j) j ≡ b → pick b (pageAt j) 65535 ≡ n
@@ -153,7 +154,7 @@ module _ (s : Staged) (g t l m : List ℕ) where
     found-mark n h o =
         let f = ltb-true (findIn L n) (length L) o in
         let j : findIn L n < i = omega (arith, f, size) in
-        mark-by n (findIn L n) (countsAt (slotOf s (pageAt (findIn L n))) g t l m (pageAt (findIn L n)) (findIn L n)) h j refl (sym (mark-in (findIn L n) j) ∙ find-at L n f)
+        mark-by n (findIn L n) (countsAt (slotOf s (pageAt (findIn L n))) g t l m (pageAt (findIn L n)) (findIn L n)) h j refl (sym (mark-in (findIn L n) j) ∙ find-there L n f)
 
     -- a page that differs stands there
     counts-own : (n : ℕ) → n < 1024 → slotDiffers g t l m n (slotOf s n) ≡ true → countsAt (slotOf s n) g t l m n (slotOf s n) ≡ true

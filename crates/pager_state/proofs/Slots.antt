@@ -32,6 +32,25 @@ next : (n a b : ℕ) (t : Bool) → a ≡ min n b → pick t 0 (suc a) ≡ min (
 next n a b true e = omega arith
 next n a b false e = omega arith
 
+length-next : (f k : ℕ) (b : Bool) → f ≤ k → pick b 0 (suc f) ≤ suc k
+length-next f k true h = omega arith
+length-next f k false h = omega arith
+
+-- what is not there is found at the end
+pub find-length : (l : List ℕ) (p : ℕ) → findIn l p ≤ length l
+find-length [] p = omega arith
+find-length (x ∷ l) p = length-next (findIn l p) (length l) (eqb x p) (find-length l p)
+
+there-next : (x p : ℕ) (l : List ℕ) (b : Bool) → eqb x p ≡ b → (findIn l p < length l → getD l (findIn l p) 0 ≡ p) → pick b 0 (suc (findIn l p)) < suc (length l)
+    → getD (x ∷ l) (pick b 0 (suc (findIn l p))) 0 ≡ p
+there-next x p l true e k h = eqb-true x p e
+there-next x p l false e k h = k (omega arith)
+
+-- what is found is there
+pub find-there : (l : List ℕ) (p : ℕ) → findIn l p < length l → getD l (findIn l p) 0 ≡ p
+find-there [] p h = absurd (omega arith)
+find-there (x ∷ l) p h = there-next x p l (eqb x p) refl (find-there l p) h
+
 pub find-take : (l : List ℕ) (n p : ℕ) → findIn (take n l) p ≡ min n (findIn l p)
 find-take [] zero p = omega arith
 find-take [] (suc n) p = omega arith

@@ -461,8 +461,9 @@ fn find(s: &[u16], p: usize) -> usize
 pub fn find_in(s: &[u16], n: usize, p: usize) -> usize
     ensures { λ r. ⌜ r ≡ findIn (take n (now (s .entry))) p ⌝ }
 {
-    if n == 0 {
-        return 0;
+    if n < 2 {
+        let end = smaller(n, s.len());
+        return find_each(&s[..end], p);
     }
     smaller(n, find(s, p))
 }
