@@ -67,6 +67,7 @@ fn page(page_num: u32, version: u32) -> Page {
 #[derive(Clone, Copy, PartialEq, Eq)]
 pub enum Differs {
     FromTheFirst,
+    InTheMiddle,
     AtTheLast,
 }
 
@@ -74,7 +75,17 @@ impl Differs {
     pub fn name(self) -> &'static str {
         match self {
             Self::FromTheFirst => "first bytes differ",
+            Self::InTheMiddle => "middle bytes differ",
             Self::AtTheLast => "last bytes differ",
+        }
+    }
+
+    /// Where the eight bytes stand that differ.
+    fn at(self) -> usize {
+        match self {
+            Self::FromTheFirst => 0,
+            Self::InTheMiddle => PAGE_SIZE / 2,
+            Self::AtTheLast => PAGE_SIZE - 8,
         }
     }
 }
@@ -101,12 +112,8 @@ impl Pool {
         self.version += 1;
         let index = self.index();
         let page = &mut self.pages[index];
-        match self.differs {
-            Differs::FromTheFirst => page[..8].copy_from_slice(&self.version.to_le_bytes()),
-            Differs::AtTheLast => {
-                page[PAGE_SIZE - 8..].copy_from_slice(&self.version.to_be_bytes());
-            }
-        }
+        let at = self.differs.at();
+        page[at..at + 8].copy_from_slice(&self.version.to_le_bytes());
         (index as u32 + 1, page)
     }
 

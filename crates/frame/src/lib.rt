@@ -5,7 +5,7 @@ ghost use Prim.Native.Nat.{_+_, _≤_};
 ghost use lib.ListN.{length, take, drop};
 ghost use Rattle.le.specs.Answers.{storedOf};
 ghost use Rattle.le.specs.Le.{put, store};
-ghost use Rattle.frame.specs.Frame.{isCommit, heading, encodeFrame, frameAt, headerOf, bodyOf, checksumOf, intactAt, headingAfter, frameStored, frameAfter};
+ghost use Rattle.frame.specs.Frame.{isCommit, heading, encodeFrame, frameAt, headerOf, bodyOf, checksumOf, intactAt, headingAfter, frameStored, frameAfter, padded};
 use le::Stored;
 use page::PAGE_SIZE;
 
@@ -124,4 +124,30 @@ pub fn write_frame(
     }
     le::write_bytes(log, at + FRAME_HEADER_SIZE, body);
     write_frame_header(log, at, page_num, commit_page_count, salt)
+}
+
+// Stores a whole frame at `at` of a page that has only these 32 bytes in front, and zeros behind. The zeros are not summed: 32 of them
+// turn the sum round to itself.
+pub fn write_padded_frame(
+    log: &mut [u8],
+    at: usize,
+    page_num: u32,
+    commit_page_count: u32,
+    salt: u32,
+    front: &[u8],
+) -> Stored
+    ensures { λ r. ⌜ (r ≡ frameStored (now (log .entry)) at (padded (now (front .entry)))) × (now (log .exit) ≡ frameAfter (now (log .entry)) at «page_num» «commit_page_count» salt (padded (now (front .entry)))) ⌝ }
+{
+    if front.len() != 32 {
+        return Stored::Area;
+    }
+    if !le::fits_in(log.len(), at, FRAME_SIZE) {
+        return Stored::Area;
+    }
+    le::write_bytes(log, at + FRAME_HEADER_SIZE, front);
+    le::write_zeros(log, at + FRAME_HEADER_SIZE + 32, PAGE_SIZE - 32);
+    put_heading(log, at, page_num, commit_page_count, salt);
+    let sum = checksum::sum_over(le::part(log, at, 12), 0);
+    le::write_u32(log, at + 12, checksum::sum_over(front, sum));
+    Stored::Done
 }

@@ -1,13 +1,14 @@
--- The stores of `encode_header`, one behind the other, leave the header's page. Assumes nothing.
+-- The stores of encoding, one behind the other, leave the header's fields and its page. Assumes nothing.
 use mathlib.Core.Path.{_≡_, refl, sym, _∙_}
 use mathlib.Core.List.{List, [], _++_, append-assoc}
 use Prim.Native.Nat.{ℕ}
 use native.Mathlib.Omega.{arith}
-use lib.ListN.{length, length-append, replicate, length-replicate}
+use borrow.Author.Tests.{eq-eqb}
+use lib.ListN.{length, take, drop, length-append, length-take, replicate, length-replicate}
 use Rattle.le.specs.Le.{leBytes, put, store}
 use Rattle.le.proofs.Fields.{length-leBytes}
 use Rattle.le.proofs.Stores.{put-none, store-next, put-all}
-use Rattle.header.specs.Header.{magic, headerFields, encodeHeader}
+use Rattle.header.specs.Header.{magic, headerFields, fieldsAfter, encodeHeader}
 use Rattle.header.specs.declared.DbHeader.{DbHeader}
 
 pub length-magic : length magic ≡ 16
@@ -22,12 +23,11 @@ pub length-encodeHeader : (h : DbHeader) → length (encodeHeader h) ≡ 4096
 unfolding encodeHeader
 length-encodeHeader h = simp (length-append, length-headerFields, length-replicate {A = ℕ} 4064 0)
 
-pub header-written : (h : DbHeader) (l : List ℕ) {l₁ l₂ l₃ l₄ l₅ l₆ l₇ : List ℕ} → length l ≡ 4096 → l₁ ≡ store l 0 magic
+pub fields-written : (h : DbHeader) (l : List ℕ) {l₁ l₂ l₃ l₄ l₅ l₆ : List ℕ} → length l ≡ 32 → l₁ ≡ store l 0 magic
     → l₂ ≡ store l₁ 16 (leBytes 2 (h .«format_version»)) → l₃ ≡ store l₂ 18 (leBytes 2 4096) → l₄ ≡ store l₃ 20 (leBytes 4 (h .«page_count»))
-    → l₅ ≡ store l₄ 24 (leBytes 4 (h .«schema_root_page»)) → l₆ ≡ store l₅ 28 (leBytes 4 (h .«freelist_head»)) → l₇ ≡ store l₆ 32 (replicate 4064 0)
-    → l₇ ≡ encodeHeader h
-unfolding encodeHeader headerFields
-header-written h l n e₁ e₂ e₃ e₄ e₅ e₆ e₇ =
+    → l₅ ≡ store l₄ 24 (leBytes 4 (h .«schema_root_page»)) → l₆ ≡ store l₅ 28 (leBytes 4 (h .«freelist_head»)) → l₆ ≡ headerFields h
+unfolding headerFields
+fields-written h l n e₁ e₂ e₃ e₄ e₅ e₆ =
     let v : List ℕ = leBytes 2 (h .«format_version») in
     let z : List ℕ = leBytes 2 4096 in
     let c : List ℕ = leBytes 4 (h .«page_count») in
@@ -39,7 +39,16 @@ header-written h l n e₁ e₂ e₃ e₄ e₅ e₆ e₇ =
     let p₄ = store-next 20 4 l 0 (magic ++ v ++ z) c (simp (length-append, length-magic, length-leBytes)) (length-leBytes 4 (h .«page_count»)) (omega arith) p₃ e₄ in
     let p₅ = store-next 24 4 l 0 (magic ++ v ++ z ++ c) r (simp (length-append, length-magic, length-leBytes)) (length-leBytes 4 (h .«schema_root_page»)) (omega arith) p₄ e₅ in
     let p₆ = store-next 28 4 l 0 (magic ++ v ++ z ++ c ++ r) f (simp (length-append, length-magic, length-leBytes)) (length-leBytes 4 (h .«freelist_head»)) (omega arith) p₅ e₆ in
-    let p₇ =
-    store-next 32 4064 l 0 (magic ++ v ++ z ++ c ++ r ++ f) (replicate 4064 0) (simp (length-append, length-magic, length-leBytes)) (length-replicate {A = ℕ} 4064 0)
-    (omega arith) p₆ e₇ in
-    p₇ ∙ simp append-assoc (simp append-assoc at (put-all l (encodeHeader h) (length-encodeHeader h ∙ sym n)))
+    p₆ ∙ simp append-assoc (put-all l (headerFields h) (length-headerFields h ∙ sym n))
+
+-- the page is its fields and the zeros behind them
+pub header-written : (h : DbHeader) (l : List ℕ) {x l₁ : List ℕ} → length l ≡ 4096 → x ≡ fieldsAfter h (take 32 l)
+    → l₁ ≡ store (x ++ drop 32 l) 32 (replicate 4064 0) → l₁ ≡ encodeHeader h
+unfolding encodeHeader put
+header-written h l {x} {l₁} n e f =
+    let w : length (take 32 l) ≡ 32 = rw length-take (omega arith) in
+    let v : x ≡ headerFields h = e ∙ rw (eq-eqb _ _ w) in
+    let k : length (headerFields h) ≡ 32 = length-headerFields h in
+    let p : put l 0 (headerFields h) ≡ headerFields h ++ drop 32 l = rw k in
+    let q = store-next 32 4064 l 0 (headerFields h) (replicate 4064 0) k (length-replicate {A = ℕ} 4064 0) (omega arith) refl (f ∙ rw (v, ← p)) in
+    q ∙ put-all l (encodeHeader h) (length-encodeHeader h ∙ sym n)

@@ -9,7 +9,7 @@ use native.Mathlib.Numerals.{add-one}
 use native.Mathlib.Omega.{arith}
 use borrow.Author.Tests.{eq-eqb, ne-eqb, eqb-true}
 use lib.Dec.{eqb}
-use lib.ListN.{length, drop, getD, drop-of-length-le}
+use lib.ListN.{length, take, drop, getD, drop-of-length-le}
 use lib.Seq.{drop-cons}
 use Rattle.le.specs.Choice.{both}
 use Rattle.le.specs.Le.{leOf, field, sameBytes}
@@ -51,6 +51,11 @@ differ xs ys h = same-either xs ys (sameBytes xs ys) refl h
 -- lists of different lengths differ
 pub differ-length : (xs ys : List ℕ) → (length xs ≡ length ys → ⊥) → sameBytes xs ys ≡ false
 differ-length xs ys h = differ xs ys (λ e. h (ap length e))
+
+-- lists whose parts differ differ
+pub differ-part : (n i : ℕ) (xs ys : List ℕ) → sameBytes (take n (drop i xs)) (take n (drop i ys)) ≡ false → sameBytes xs ys ≡ false
+differ-part n i xs ys e =
+    differ xs ys (λ (f : xs ≡ ys). no-test (sym e ∙ rw f (same-refl (take n (drop i ys)))))
 
 -- ---- n bytes at a time
 

@@ -14,18 +14,17 @@ use lib.Seq.{drop-drop}
 use Rattle.le.specs.Choice.{pick}
 use Rattle.le.specs.Le.{put, store}
 use Rattle.le.proofs.Stores.{part-put, put-over, length-put, store-put}
-use Rattle.header.specs.Header.{encodeHeader, encodeAfter}
+use Rattle.header.specs.Header.{headerFields, encodeHeader}
 use Rattle.header.specs.declared.DbHeader.{DbHeader}
-use Rattle.header.proofs.Encoding.{length-encodeHeader}
-use Rattle.frame.specs.Frame.{encodeFrame, frameAt, bodyOf, frameAfter}
+use Rattle.header.proofs.Encoding.{length-headerFields, length-encodeHeader}
+use Rattle.frame.specs.Frame.{encodeFrame, frameAt, bodyOf, frameAfter, padded}
 use Rattle.frame.proofs.Places.{body-there}
-use Rattle.frame.proofs.Stores.{length-encodeFrame}
-use Rattle.wal.specs.Write.{withFrame, hasRoom, inPlaceAnswer, inPlaceAfter}
+use Rattle.frame.proofs.Stores.{length-encodeFrame, length-padded}
+use Rattle.wal.specs.Write.{withFrame, hasRoom, appendAnswer, appendAfter}
 use Rattle.wal.specs.declared.Wal.{Wal}
 use Rattle.wal.specs.declared.FrameAppended.{FrameAppended}
 use Rattle.wal.specs.declared.FrameAppended.the-variants as appended
 use Rattle.wal.proofs.FrameAppended as F
-use Rattle.wal.proofs.Writing.{place-done}
 use Rattle.pager_state.specs.World.{World, world, countOf, busyWith, withJob, withWal}
 use Rattle.pager_state.specs.Overlay.{pageFrom, slotOf, stagedBytes, frameOf, inLog, onMain, logBytes}
 use Rattle.pager_state.specs.Stores.{Act, Put, Other, placeOf, inside, diskOf}
@@ -83,41 +82,16 @@ pub has-room : (r : FrameAppended) (u v : Wal) (o : Bool) → r ≡ pick o (appe
 has-room r u v true e f = (refl, cc)
 has-room r u v false e f = absurd (let z : _≡_ {A = ℕ} 0 1 = cc in omega arith)
 
--- the header's page written behind the heading's place, then the heading around it
-module _ (l : List ℕ) (v : Wal) (h : DbHeader) (n : length l ≡ 4210720) (k : v .len + 4112 ≤ 4210720) where
-  seal-placed : {m : List ℕ} → m ≡ put l (v .len + 16) (encodeHeader h)
-      → (inPlaceAnswer m v 0 (countOf h) ≡ appended.Appended (withFrame v (countOf h))) × (inPlaceAfter m v 0 (countOf h) ≡ sealPut l v h)
-  seal-placed {m} e =
-      let z : length (encodeHeader h) ≡ 4096 = length-encodeHeader h in
-      let f : v .len + 16 + length (encodeHeader h) ≤ length l = rw (z, n) (omega arith) in
-      let c : length m ≡ 4210720 = rw e (length-put l (v .len + 16) (encodeHeader h) f ∙ n) in
-      let d = place-done m v 0 (countOf h) c k (λ (z : _≡_ {A = ℕ} 0 4294967295). omega (arith, z)) in
-      let b : bodyOf (frameAt (v .len) m) ≡ encodeHeader h =
-      rw (body-there (v .len) m, e) (part-put 4096 l (v .len + 16) (encodeHeader h) z (omega arith)) in
-      let y : length (encodeFrame 0 (countOf h) (v .header .salt) (encodeHeader h)) ≡ 4112 = length-encodeFrame 0 (countOf h) (v .header .salt) (encodeHeader h) z in
-      let o : v .len + 16 + length (encodeHeader h) ≤ v .len + length (encodeFrame 0 (countOf h) (v .header .salt) (encodeHeader h)) = rw (y, z) (omega arith) in (
-        d .0,
-        d .1 ∙ rw (b, e) (put-over l (v .len + 16) (v .len) (encodeHeader h) (encodeFrame 0 (countOf h) (v .header .salt) (encodeHeader h)) (omega arith) o (omega arith)),
-      )
-
-  -- m bytes of the log were lent to the header, and put back where they lay
-  lent : (m : ℕ) {x : List ℕ} → m ≡ 4096 → x ≡ encodeAfter h (take m (drop (v .len + 16) l)) → x ≡ encodeHeader h
-  lent m e f =
-      let t : length (take m (drop (v .len + 16) l)) ≡ 4096 = simp (length-take, length-drop) (omega arith) in
-      f ∙ rw (eq-eqb (length (take m (drop (v .len + 16) l))) 4096 t)
-
-  put-back : (m : ℕ) → m ≡ 4096 → take (v .len + 16) l ++ (encodeHeader h ++ drop m (drop (v .len + 16) l)) ≡ put l (v .len + 16) (encodeHeader h)
-  unfolding put
-  put-back m e = rw (length-encodeHeader h, ← e, drop-drop)
-
-  pub seal-stored : (m : ℕ) {x y : List ℕ} {r : FrameAppended} → m ≡ 4096 → x ≡ encodeAfter h (take m (drop (v .len + 16) l))
-      → r ≡ inPlaceAnswer (take (v .len + 16) l ++ (x ++ drop m (drop (v .len + 16) l))) v 0 (countOf h)
-      → y ≡ inPlaceAfter (take (v .len + 16) l ++ (x ++ drop m (drop (v .len + 16) l))) v 0 (countOf h)
-      → (r ≡ pick (hasRoom v) (appended.Appended (withFrame v (countOf h))) appended.LogFull) × (y ≡ pick (hasRoom v) (sealPut l v h) l)
-  seal-stored m {x} {y} {r} e f a b =
-      let p = seal-placed (put-back m e) in
-      let z : x ≡ encodeHeader h = lent m e f in
-      (a ∙ rw (z, le-leb _ _ k) (p .0), b ∙ rw (z, le-leb _ _ k) (p .1))
+-- a page of the header's fields and zeros is the header's page
+pub seal-stored : (l : List ℕ) (v : Wal) (h : DbHeader) {x y : List ℕ} {r : FrameAppended} → length l ≡ 4210720 → v .len + 4112 ≤ 4210720
+    → x ≡ headerFields h → r ≡ appendAnswer l v 0 (padded x) (countOf h) → y ≡ appendAfter l v 0 (padded x) (countOf h)
+    → (r ≡ pick (hasRoom v) (appended.Appended (withFrame v (countOf h))) appended.LogFull) × (y ≡ pick (hasRoom v) (sealPut l v h) l)
+unfolding appendAnswer appendAfter encodeHeader
+seal-stored l v h n k e a b =
+    let z : length (padded (headerFields h)) ≡ 4096 = length-padded (headerFields h) (length-headerFields h) in
+    let f : v .len ≤ 4210720 = omega arith in
+    let t = le-leb (v .len + 4112) 4210720 k in
+    (a ∙ rw (e, eq-eqb _ _ z, eq-eqb _ _ n, le-leb _ _ f, t), b ∙ rw (e, eq-eqb _ _ z, eq-eqb _ _ n, le-leb _ _ f, t))
 
 -- ---- a page's frame
 

@@ -5,6 +5,7 @@ ghost use mathlib.Core.List.{List, []};
 ghost use Prim.Native.Nat.{ℕ, _+_, _*_, _≤_, _<_, min, max};
 ghost use lib.ListN.{length, take, drop, getD};
 ghost use Rattle.le.specs.Choice.{pick, both};
+ghost use Rattle.le.specs.Le.{sameBytes};
 ghost use Rattle.header.specs.Header.{encodeHeader};
 ghost use Rattle.frame.specs.Frame.{encodeFrame};
 ghost use Rattle.wal.specs.Write.{withFrame, hasRoom};
@@ -15,7 +16,6 @@ ghost use Rattle.pager_state.specs.Pages.{pagesFrom, firstOf, differs, lacks};
 ghost use Rattle.pager_state.specs.Commit.{entered, jobAfter, framesTodo, framesAdvance};
 ghost use Rattle.pager_state.specs.Steps.{named, done, headerGood, differing, commitStart, isBegun, beginCommit, stepFine, steps, onStore};
 ghost use Rattle.pager_commit.specs.CommitStep.{commitStepAnswer, commitStepped, isIn, committedIn, slotDiffers, differsIn, countsAt, standsBefore, Marking, sealedWith, framePut, sealPut, startedAs, ranAs, FramesStored};
-use frame::FRAME_HEADER_SIZE;
 use frame::FRAME_SIZE;
 use header::DbHeader;
 use page::PAGE_SIZE;
@@ -128,7 +128,15 @@ fn committed_page<'a>(table: &[u32], log: &'a [u8], main: &'a [u8], page: usize)
     &log[..0]
 }
 
-// Whether a slot's bytes differ from those of a page.
+// Whether the 64 bytes from `at` on differ in two pages.
+fn part_differs(new: &[u8], old: &[u8], at: usize) -> bool
+    ensures { λ r. ⌜ (r ≡ true → sameBytes (now (new .entry)) (now (old .entry)) ≡ false) ⌝ }
+{
+    !le::same(le::part(new, at, 64), le::part(old, at, 64))
+}
+
+// Whether a slot's bytes differ from those of a page. A page fills from both ends, and most changes show at one of them: there it is
+// looked at first.
 fn is_differing<'a>(
     table: &[u32],
     log: &'a [u8],
@@ -142,6 +150,12 @@ fn is_differing<'a>(
 {
     let new = pager_state::page_from(staging, PAGE_SIZE * slot);
     let old = committed_page(table, log, main, page);
+    if part_differs(new, old, 0) {
+        return true;
+    }
+    if part_differs(new, old, PAGE_SIZE - 64) {
+        return true;
+    }
     !le::same(new, old)
 }
 
@@ -369,7 +383,7 @@ fn frame_step(
     }
 }
 
-// Stores the seal at the log's length, the header's page and then the heading around it, and enters it.
+// Stores the seal at the log's length, and enters it.
 fn store_seal(table: &mut [u32], log: &mut [u8], wal: Wal, header: DbHeader) -> FrameAppended
     requires { ⌜ (length (now table) ≡ 1024) × ((length (now log) ≡ 4210720) × (wal .len ≤ 4210720)) ⌝ }
     ensures { λ r. ⌜ r ≡ pick (hasRoom wal) (FrameAppended.Appended (withFrame wal (countOf header))) FrameAppended.LogFull ⌝ }
@@ -380,11 +394,10 @@ fn store_seal(table: &mut [u32], log: &mut [u8], wal: Wal, header: DbHeader) -> 
     if WAL_AREA - at < FRAME_SIZE {
         return FrameAppended::LogFull;
     }
-    let from = at + FRAME_HEADER_SIZE;
-    let to = at + FRAME_SIZE;
-    header::encode_header(header, &mut log[from..to]);
+    let mut front: [u8; 32] = [0; 32];
+    header::encode_fields(header, &mut front);
     enter(table, 0, at);
-    wal::append_in_place(log, wal, 0, header.page_count)
+    wal::append_header(log, wal, &front, header.page_count)
 }
 
 // What a commit has left after its seal.

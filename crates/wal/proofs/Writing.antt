@@ -9,11 +9,11 @@ use lib.ListN.{length, take, drop, length-append, length-take, length-drop}
 use lib.Seq.{take-at}
 use Rattle.le.specs.Le.{put, store}
 use Rattle.le.proofs.Stores.{store-put}
-use Rattle.frame.specs.Frame.{encodeFrame, frameAt, bodyOf, headingAfter, frameAfter}
+use Rattle.frame.specs.Frame.{encodeFrame, frameAfter}
 use Rattle.frame.proofs.Stores.{length-encodeFrame}
 use Rattle.wal.specs.Header.{encodeWalHeader, headerIn, decodeWalHeader}
 use Rattle.wal.specs.Recovery.{chunks, readableAs, good, goodFront, undecodable, countOf, Recovered, recovered, walOf}
-use Rattle.wal.specs.Write.{emptyWal, headed, createdHeader, truncatedHeader, longer, joins, withFrame, appendAnswer, appendAfter, inPlaceAnswer, inPlaceAfter}
+use Rattle.wal.specs.Write.{emptyWal, headed, createdHeader, truncatedHeader, longer, joins, withFrame, appendAnswer, appendAfter}
 use Rattle.wal.specs.declared.WalHeader.{WalHeader}
 use Rattle.wal.specs.declared.WalHeaderDecoded.the-variants as decoded
 use Rattle.wal.specs.declared.Wal.{Wal}
@@ -72,40 +72,6 @@ module _ (l : List ℕ) (w : Wal) (page : ℕ) (body : List ℕ) (count : ℕ) w
           rw (f, eq-eqb _ _ nb, eq-eqb _ _ n, le-leb _ _ h, le-leb _ _ k),
           e ∙ rw (eq-eqb _ _ nb, eq-eqb _ _ n, le-leb _ _ h, le-leb _ _ k, store-put l (w .len) (encodeFrame page count (w .header .salt) body) j),
         )
-
--- ---- a frame made around a page that lies there already
-
-module _ (l : List ℕ) (w : Wal) (page count : ℕ) where
-  pub place-area : (length l ≡ 4210720 → ⊥) → (appended.Area ≡ inPlaceAnswer l w page count) × (l ≡ inPlaceAfter l w page count)
-  unfolding inPlaceAnswer inPlaceAfter
-  place-area n = (rw (ne-eqb _ _ n), rw (ne-eqb _ _ n))
-
-  module _ (n : length l ≡ 4210720) where
-    pub place-length : 4210720 < w .len → (appended.Area ≡ inPlaceAnswer l w page count) × (l ≡ inPlaceAfter l w page count)
-    unfolding inPlaceAnswer inPlaceAfter
-    place-length h = (rw (eq-eqb _ _ n, lt-leb _ _ h), rw (eq-eqb _ _ n, lt-leb _ _ h))
-
-    pub place-full : w .len ≤ 4210720 → 4210720 < w .len + 4112 → (appended.LogFull ≡ inPlaceAnswer l w page count) × (l ≡ inPlaceAfter l w page count)
-    unfolding inPlaceAnswer inPlaceAfter
-    place-full h k = (rw (eq-eqb _ _ n, le-leb _ _ h, lt-leb _ _ k), rw (eq-eqb _ _ n, le-leb _ _ h, lt-leb _ _ k))
-
-    module _ (k : w .len + 4112 ≤ 4210720) where
-      pub place-done : (page ≡ 4294967295 → ⊥)
-          → (inPlaceAnswer l w page count ≡ appended.Appended (withFrame w count))
-          × (inPlaceAfter l w page count ≡ put l (w .len) (encodeFrame page count (w .header .salt) (bodyOf (frameAt (w .len) l))))
-      unfolding inPlaceAnswer inPlaceAfter
-      place-done p =
-          let h : w .len ≤ 4210720 = omega arith in
-          (rw (ne-eqb _ _ p, eq-eqb _ _ n, le-leb _ _ h, le-leb _ _ k), rw (eq-eqb _ _ n, le-leb _ _ h, le-leb _ _ k))
-
-      pub place-headed : {m : List ℕ} {v : Wal} → m ≡ headingAfter l (w .len) page count (w .header .salt)
-          → v ≡ longer (joins w (readableAs page (bodyOf (frameAt (w .len) l)))) w count
-          → (appended.Appended v ≡ inPlaceAnswer l w page count) × (m ≡ inPlaceAfter l w page count)
-      unfolding inPlaceAnswer inPlaceAfter headingAfter
-      place-headed e f =
-          let h : w .len ≤ 4210720 = omega arith in
-          let j : w .len + 4112 ≤ length l = rw n k in
-          (rw (f, eq-eqb _ _ n, le-leb _ _ h, le-leb _ _ k), e ∙ rw (le-leb _ _ j, eq-eqb _ _ n, le-leb _ _ h, le-leb _ _ k))
 
 -- ---- what the log is afterwards
 

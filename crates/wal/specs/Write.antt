@@ -7,7 +7,7 @@ use lib.ListN.{length}
 use Rattle.le.specs.Choice.{pick, both}
 use Rattle.le.specs.Le.{put}
 use Rattle.page.specs.Page.{pageSize}
-use Rattle.frame.specs.Frame.{frameSize, encodeFrame, frameAt, bodyOf}
+use Rattle.frame.specs.Frame.{frameSize, encodeFrame}
 use Rattle.wal.specs.Header.{headerSize, walVersion, encodeWalHeader}
 use Rattle.wal.specs.Recovery.{readableAs, walArea}
 use Rattle.wal.specs.declared.WalHeader.{WalHeader}
@@ -101,13 +101,9 @@ joins w isGood = both isGood (eqb (w .len) (w .«good_end»))
 abbrev pub withFrame : Wal → ℕ → Wal
 withFrame w count = longer (joins w true) w count
 
--- the log's area, and a length within it
-abbrev pub lentFor : List ℕ → Wal → Bool
-lentFor l w = both (eqb (length l) walArea) (leb (w .len) walArea)
-
--- and a page
+-- a page, the log's area, and a length within it
 abbrev pub appendable : List ℕ → Wal → List ℕ → Bool
-appendable l w body = both (eqb (length body) pageSize) (lentFor l w)
+appendable l w body = both (eqb (length body) pageSize) (both (eqb (length l) walArea) (leb (w .len) walArea))
 
 -- 15: "length + 4,112 × frames to add is above 4,210,720"
 abbrev pub hasRoom : Wal → Bool
@@ -126,22 +122,6 @@ appendAnswer l w page body count =
 unfoldable pub appendAfter : List ℕ → Wal → ℕ → List ℕ → ℕ → List ℕ
 appendAfter l w page body count =
     pick (both (appendable l w body) (hasRoom w)) (put l (w .len) (encodeFrame page count (w .header .salt) body)) l
-
--- the same of the page that already lies behind the heading's place at the log's length
-abbrev pub lyingPage : List ℕ → Wal → List ℕ
-lyingPage l w = bodyOf (frameAt (w .len) l)
-
-unfoldable pub inPlaceAnswer : List ℕ → Wal → ℕ → ℕ → FrameAppended
-inPlaceAnswer l w page count =
-    pick (lentFor l w)
-    (pick (hasRoom w)
-    (appended.Appended (longer (joins w (readableAs page (lyingPage l w))) w count))
-    appended.LogFull)
-    appended.Area
-
-unfoldable pub inPlaceAfter : List ℕ → Wal → ℕ → ℕ → List ℕ
-inPlaceAfter l w page count =
-    pick (both (lentFor l w) (hasRoom w)) (put l (w .len) (encodeFrame page count (w .header .salt) (lyingPage l w))) l
 
 abbrev pub appendRefusal : FrameAppended → ℕ
 appendRefusal (appended.Appended w) = 0

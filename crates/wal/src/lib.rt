@@ -7,11 +7,11 @@ ghost use lib.Dec.{eqb};
 ghost use Rattle.le.specs.Choice.{pick, both};
 ghost use Rattle.le.specs.Answers.{storedOf};
 ghost use Rattle.le.specs.Le.{store};
-ghost use Rattle.frame.specs.Frame.{frameAt};
+ghost use Rattle.frame.specs.Frame.{frameAt, padded};
 ghost use Rattle.wal.specs.Header.{encodeWalHeader, headerIn, decodeWalHeader};
 ghost use Rattle.wal.specs.Recovery.{readableAs, readable, chunks, recovered, walOf, openLog};
 ghost use Rattle.wal.specs.Read.{frameIn, readPage, placeFrom, findPage, batchFrom, nextBatch};
-ghost use Rattle.wal.specs.Write.{emptyWal, createAnswer, createAfter, truncateAnswer, truncateAfter, longer, joins, withFrame, hasRoom, appendAnswer, appendAfter, inPlaceAnswer, inPlaceAfter, clockAnswer};
+ghost use Rattle.wal.specs.Write.{emptyWal, createAnswer, createAfter, truncateAnswer, truncateAfter, longer, joins, withFrame, hasRoom, appendAnswer, appendAfter, clockAnswer};
 use frame::FRAME_HEADER_SIZE;
 use frame::FRAME_SIZE;
 use frame::FrameHeader;
@@ -438,15 +438,18 @@ pub fn append_frame(
     FrameAppended::Appended(wal.with_frame(good, commit_page_count))
 }
 
-// Makes the page that lies behind the heading's place at the log's length a frame; a nonzero count seals.
-pub fn append_in_place(
+// Stores page 0's frame: a header's 32 bytes, and zeros behind. A nonzero count seals.
+pub fn append_header(
     log: &mut [u8],
     wal: Wal,
-    page_num: u32,
+    front: &[u8],
     commit_page_count: u32,
 ) -> FrameAppended
-    ensures { λ r. ⌜ (r ≡ inPlaceAnswer (now (log .entry)) wal «page_num» «commit_page_count») × (now (log .exit) ≡ inPlaceAfter (now (log .entry)) wal «page_num» «commit_page_count») ⌝ }
+    ensures { λ r. ⌜ (r ≡ appendAnswer (now (log .entry)) wal 0 (padded (now (front .entry))) «commit_page_count») × (now (log .exit) ≡ appendAfter (now (log .entry)) wal 0 (padded (now (front .entry))) «commit_page_count») ⌝ }
 {
+    if front.len() != 32 {
+        return FrameAppended::Area;
+    }
     if log.len() != WAL_AREA {
         return FrameAppended::Area;
     }
@@ -456,10 +459,9 @@ pub fn append_in_place(
     if WAL_AREA - wal.len < FRAME_SIZE {
         return FrameAppended::LogFull;
     }
-    let good = is_readable_as(page_num, frame::frame_body(log, wal.len));
     let header = wal.header;
-    frame::write_frame_header(log, wal.len, page_num, commit_page_count, header.salt);
-    FrameAppended::Appended(wal.with_frame(good, commit_page_count))
+    frame::write_padded_frame(log, wal.len, 0, commit_page_count, header.salt, front);
+    FrameAppended::Appended(wal.with_frame(true, commit_page_count))
 }
 
 // What setting the clock answers.

@@ -302,27 +302,8 @@ impl Engine {
         }))
     }
 
-    /// Brings the first of a page's stored bytes nearer while the page is staged: a commit compares the page with them, and most often
-    /// that ends there. It is a hint by what the table's entries say, and whatever they say it reads and changes nothing.
-    fn prefetch_stored(&self, page_num: u32) {
-        #[cfg(target_arch = "x86_64")]
-        {
-            use std::arch::x86_64::{_MM_HINT_T0, _mm_prefetch};
-            let page = page_num as usize;
-            let stored = match self.table.get(page) {
-                None => None,
-                Some(0 | 1) => self.main.get(page * PAGE_SIZE),
-                Some(&entry) => self.log.get(entry as usize / 2 + (FRAME_SIZE - PAGE_SIZE)),
-            };
-            if let Some(first) = stored {
-                unsafe { _mm_prefetch::<_MM_HINT_T0>((first as *const u8).cast()) }
-            }
-        }
-    }
-
     /// Stages a page's bytes. The numbers of the staged pages are stored where they lie: the store is not handed over.
     pub fn stage_page(&mut self, page_num: u32, bytes: &[u8]) -> Result<(), Refusal> {
-        self.prefetch_stored(page_num);
         let staged = &mut self.store.staged;
         let done = unsafe {
             sys::lateenbael_stage_in(

@@ -17,7 +17,11 @@ use crate::table::Table;
 use crate::timing::{clock, each};
 
 pub fn rows(table: &Table) {
-    for differs in [Differs::FromTheFirst, Differs::AtTheLast] {
+    for differs in [
+        Differs::FromTheFirst,
+        Differs::InTheMiddle,
+        Differs::AtTheLast,
+    ] {
         for pages in [1, 4, 8, 16, 64] {
             let what = format!("{}, {}", in_words(pages), differs.name());
             row(table, &what, pages, differs);

@@ -1,7 +1,8 @@
+use native.Mathlib.Omega.{arith}
+use lib.ListN.{length-take}
 use denote.Ref.{now}
 use borrow.Author.Needs.{needs}
 use borrow.Author.Tests.{eq-eqb, ne-eqb}
-use Rattle.header.specs.Header.{magic}
 use Rattle.header.proofs.Encoding.{header-written}
 use Rattle.header.proofs.encode_header.Statement.{statement}
 use Rattle.header.proofs.encode_header.Tie as tie
@@ -9,23 +10,18 @@ use Rattle.header.proofs.encode_header.Tie as tie
 returns : tie.Need-returns
 returns c = (simp (ne-eqb _ _ (c .if1 .taken)), simp (ne-eqb _ _ (c .if1 .taken)))
 
+slice-aggregate-encode-fields : tie.Need-slice-aggregate-encode-fields
+slice-aggregate-encode-fields c = rw length-take (omega (arith, c .before .if1 .left))
+
 returns-2 : tie.Need-returns-2
-unfolding magic
 returns-2 c =
-    let c₇ = c .before .before in
-    let c₆ = c₇ .before .before .before .before in
-    let c₅ = c₆ .before .before .before .before in
-    let c₄ = c₅ .before .before .before .before in
-    let c₃ = c₄ .before .before .before .before in
-    let c₂ = c₃ .before .before .before .before in
-    let c₁ = c₂ .before .before .before .before in
-    let d = c₁ .before .before .before in
+    let z = c .before .before in
+    let f = z .before .before .before .before in
+    let d = f .before .before in
     let a = d .before .before .args in
-    let e = header-written (a .h) (now (a .buf)) (d .if1 .left) (c₁ .write-bytes .ensures .1) (c₂ .write-u16 .ensures .1) (c₃ .write-u162 .ensures .1)
-    (c₄ .write-u32 .ensures .1) (c₅ .write-u322 .ensures .1) (c₆ .write-u323 .ensures .1) (c₇ .write-zeros .ensures .1) in
+    let e = header-written (a .h) (now (a .buf)) (d .if1 .left) (f .encode-fields .ensures .1) (z .write-zeros .ensures .1) in
     (simp (eq-eqb _ _ (d .if1 .left)), simp (eq-eqb _ _ (d .if1 .left)) e)
 
 pub encode-header-spec : {M : Type 1} → statement M
 encode-header-spec =
-    tie.close
-    (tie.spec returns (search needs) (search needs) (search needs) (search needs) (search needs) (search needs) (search needs) (search needs) (search needs) (search needs) (search needs) returns-2)
+    tie.close (tie.spec returns (search needs) slice-aggregate-encode-fields (search needs) (search needs) (search needs) (search needs) returns-2)
