@@ -397,7 +397,7 @@ fn store_seal(table: &mut [u32], log: &mut [u8], wal: Wal, header: DbHeader) -> 
     let mut front: [u8; 32] = [0; 32];
     header::encode_fields(header, &mut front);
     enter(table, 0, at);
-    wal::append_header(log, wal, &front, header.page_count)
+    wal::append_page_zero(log, wal, &front, header.page_count)
 }
 
 // What a commit has left after its seal.

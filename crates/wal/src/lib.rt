@@ -439,7 +439,7 @@ pub fn append_frame(
 }
 
 // Stores page 0's frame: a header's 32 bytes, and zeros behind. A nonzero count seals.
-pub fn append_header(
+pub fn append_page_zero(
     log: &mut [u8],
     wal: Wal,
     front: &[u8],

@@ -33,7 +33,7 @@ returns-2 c =
     let at = d .args .wal .len in
     let k : at + 4112 ≤ 4210720 = omega (arith, d .pre .1 .1, i .if1 .left) in
     let s = seal-stored (now (d .args .log)) (d .args .wal) (d .args .header) (d .pre .1 .0) k (f .encode-fields .ensures .1)
-    (a .append-header .ensures .0) (a .append-header .ensures .1) in
+    (a .append-page-zero .ensures .0) (a .append-page-zero .ensures .1) in
     (s .0, (n .enter .ensures ∙ rw (le-leb (at + 4112) 4210720 k), s .1))
 
 pub store-seal-spec : {M : Type 1} → statement M

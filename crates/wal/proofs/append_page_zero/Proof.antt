@@ -5,8 +5,8 @@ use borrow.Author.Needs.{needs}
 use Rattle.frame.specs.Frame.{padded}
 use Rattle.frame.proofs.Stores.{length-padded, padded-other}
 use Rattle.wal.proofs.Writing.{body-refused, area-refused, length-refused, log-full, frame-appended}
-use Rattle.wal.proofs.append_header.Statement.{statement}
-use Rattle.wal.proofs.append_header.Tie as tie
+use Rattle.wal.proofs.append_page_zero.Statement.{statement}
+use Rattle.wal.proofs.append_page_zero.Tie as tie
 
 returns : tie.Need-returns
 returns c =
@@ -46,5 +46,5 @@ returns-5 c =
     frame-appended (now (a .log)) (a .wal) 0 (padded (now (a .front))) (a .commit-page-count) (length-padded (now (a .front)) (d .if1 .left)) (b .if2 .left) room
     (e .write-padded-frame .ensures .1) (c .with-frame .ensures)
 
-pub append-header-spec : {M : Type 1} → statement M
-append-header-spec = tie.close (tie.spec returns returns-2 returns-3 returns-4 (search needs) (search needs) (search needs) returns-5)
+pub append-page-zero-spec : {M : Type 1} → statement M
+append-page-zero-spec = tie.close (tie.spec returns returns-2 returns-3 returns-4 (search needs) (search needs) (search needs) returns-5)
