@@ -170,7 +170,7 @@ impl Sqlite {
 /// The part of a page that differs.
 fn blob(page: &Page, differs: Differs) -> &[u8] {
     match differs {
-        Differs::FromTheFirst => &page[..BLOB],
+        Differs::FromTheFirst | Differs::InTheMiddle => &page[..BLOB],
         Differs::AtTheLast => &page[page.len() - BLOB..],
     }
 }
