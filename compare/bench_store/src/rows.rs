@@ -24,12 +24,7 @@ type Group = fn(&Table);
 type Beside = Option<(&'static str, Sampler<'static>)>;
 
 const BOTH: [&str; 4] = ["Rust", "port", "port / Rust", "beside: port / it"];
-const OWN: [&str; 4] = [
-    "commit",
-    "its frames",
-    "own cost",
-    "frames and comparisons: own cost",
-];
+const OWN: [&str; 4] = ["commit", "its frames", "own cost", "the least: own cost"];
 
 /// A group's name, its columns, and its rows.
 pub const GROUPS: [(&str, [&str; 4], Group); 7] = [

@@ -1,5 +1,5 @@
 //! A commit's own cost: what it takes beside the frames that it appends, and
-//! beside these and the comparisons that tell which pages have one.
+//! beside the least that a commit must do.
 
 use std::cell::RefCell;
 
@@ -35,27 +35,29 @@ fn row(table: &Table, what: &str, pages: usize, differs: Differs) {
     let mut port = InMemory::new(false);
     begin(&mut port, &files::main(), &files::empty_log());
     commits.sample(&mut port, &mut pool);
+    let seal = seal_frame(port.engine.store().wal);
     let both = RefCell::new((port, pool));
     let whole = Box::new(|| {
         let (port, pool) = &mut *both.borrow_mut();
         commits.sample(port, pool)
     });
-    let parts = [false, true].map(|compared| {
+    let parts = [None, Some(&*seal)].map(|seal| {
         let both = &both;
         Box::new(move || {
             let (port, pool) = &mut *both.borrow_mut();
-            frames(port, pool, pages, compared)
+            frames(port, pool, pages, seal)
         })
     });
-    let [alone, compared] = parts;
-    table.own_cost(what, whole, alone, compared);
+    let [frames, least] = parts;
+    table.own_cost(what, whole, frames, least);
 }
 
 /// Appends the same frames with the log's own call, to the log area behind a
 /// fold, as the commits between two folds do, each time of pages that were just
-/// staged; before them, if `compared`, compares each page with its bytes in the
-/// main area. The mean of a commit's.
-fn frames(port: &mut InMemory, pool: &mut Pool, pages: usize, compared: bool) -> f64 {
+/// staged. With a seal, each page is compared before with its bytes in the main
+/// area, as a commit must, and the seal is copied with the sum that it has,
+/// since a commit need not sum its zeros. The mean of a commit's.
+fn frames(port: &mut InMemory, pool: &mut Pool, pages: usize, seal: Option<&[u8]>) -> f64 {
     port.fold();
     let mut wal = port.engine.store().wal;
     let header = header_page();
@@ -70,7 +72,7 @@ fn frames(port: &mut InMemory, pool: &mut Pool, pages: usize, compared: bool) ->
             let staged = engine.store().staged;
             let time = clock(|| {
                 let bodies = engine.staging.chunks_exact(PAGE_SIZE);
-                if compared {
+                if seal.is_some() {
                     let places = staged.pages[..pages]
                         .iter()
                         .map(|&n| n as usize * PAGE_SIZE);
@@ -80,13 +82,27 @@ fn frames(port: &mut InMemory, pool: &mut Pool, pages: usize, compared: bool) ->
                 for (k, body) in bodies.take(pages).enumerate() {
                     append(&mut engine.log, &mut wal, k as u32 + 1, body, 0);
                 }
-                append(&mut engine.log, &mut wal, 0, &header, HEADER.page_count);
+                match seal {
+                    None => append(&mut engine.log, &mut wal, 0, &header, HEADER.page_count),
+                    Some(seal) => {
+                        engine.log[wal.len..][..seal.len()].copy_from_slice(seal);
+                        wal.len += seal.len();
+                    }
+                }
             });
             port.clear();
             time
         })
         .sum();
     each(time, commits)
+}
+
+/// The seal of every commit behind a fold, whose salt stays the same.
+fn seal_frame(mut wal: sys::Wal) -> Vec<u8> {
+    let mut log = vec![0; sys::LOG_AREA];
+    let at = wal.len;
+    append(&mut log, &mut wal, 0, &header_page(), HEADER.page_count);
+    log[at..wal.len].to_vec()
 }
 
 fn append(log: &mut [u8], wal: &mut sys::Wal, page_num: u32, body: &[u8], count: u32) {
