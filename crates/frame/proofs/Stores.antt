@@ -14,10 +14,11 @@ use Rattle.le.specs.declared.Stored.{Stored}
 use Rattle.le.specs.declared.Stored.the-variants.{Done, Area}
 use Rattle.le.proofs.Fields.{length-leBytes}
 use Rattle.le.proofs.Stores.{length-put, put-none, put-over, put-there, part-put, drop-put, length-store, store-put, store-none, store-next}
+use Rattle.page.specs.Page.{frontPage}
 use Rattle.checksum.specs.Checksum.{sumFrom}
 use Rattle.checksum.proofs.Sums.{sumFrom-append, sumFrom-fits}
 use Rattle.checksum.proofs.Zeros.{sum-zeros}
-use Rattle.frame.specs.Frame.{heading, frameSum, encodeFrame, frameAt, bodyOf, checksumOf, headingAfter, frameStored, frameAfter, padded}
+use Rattle.frame.specs.Frame.{heading, frameSum, encodeFrame, frameAt, bodyOf, checksumOf, headingAfter, frameStored, frameAfter}
 use Rattle.frame.proofs.Places.{body-there, checksum-parts, checksum-there}
 
 pub length-heading : (page count salt : ℕ) → length (heading page count salt) ≡ 12
@@ -101,57 +102,57 @@ module _ (l : List ℕ) (at page count salt : ℕ) where
         rw (eq-eqb (length body) 4096 n) (sym (store-none l at (encodeFrame page count salt body) k)),
       )
 
-pub length-padded : (front : List ℕ) → length front ≡ 32 → length (padded front) ≡ 4096
+pub length-padded : (front : List ℕ) → length front ≡ 32 → length (frontPage front) ≡ 4096
 length-padded front n = simp (length-append, length-replicate {A = ℕ} 4064 0, n)
 
 -- where the front has another length there is no page
-pub padded-other : (front : List ℕ) → (length front ≡ 32 → ⊥) → length (padded front) ≡ 4096 → ⊥
+pub padded-other : (front : List ℕ) → (length front ≡ 32 → ⊥) → length (frontPage front) ≡ 4096 → ⊥
 padded-other front n e =
-    let w : length (padded front) ≡ length front + 4064 = simp (length-append, length-replicate {A = ℕ} 4064 0) in
+    let w : length (frontPage front) ≡ length front + 4064 = simp (length-append, length-replicate {A = ℕ} 4064 0) in
     n (omega (arith, w, e))
 
 pub padded-refused : (l : List ℕ) (at page count salt : ℕ) (front : List ℕ) → (length front ≡ 32 → ⊥)
-    → (Area ≡ frameStored l at (padded front)) × (l ≡ frameAfter l at page count salt (padded front))
+    → (Area ≡ frameStored l at (frontPage front)) × (l ≡ frameAfter l at page count salt (frontPage front))
 unfolding frameAfter
 padded-refused l at page count salt front n =
-    let t = ne-eqb (length (padded front)) 4096 (padded-other front n) in
+    let t = ne-eqb (length (frontPage front)) 4096 (padded-other front n) in
     (rw t, rw t)
 
 -- the zeros of a padded page leave the sum over its front
-padded-sum : (s : ℕ) (front : List ℕ) → s < 2 ^ 32 → sumFrom s (padded front) ≡ sumFrom s front
+padded-sum : (s : ℕ) (front : List ℕ) → s < 2 ^ 32 → sumFrom s (frontPage front) ≡ sumFrom s front
 padded-sum s front h = sumFrom-append s front (replicate 4064 0) ∙ sum-zeros 127 (sumFrom s front) (sumFrom-fits s front h)
 
 -- a padded page stored behind the heading's place in two stores, and made a frame by a heading with the sum over its front
 module _ (l : List ℕ) (at page count salt : ℕ) (front : List ℕ) (n : length front ≡ 32) (t : leb (at + 4112) (length l) ≡ true) where
-  page-stored : {l₁ l₂ : List ℕ} → l₁ ≡ store l (at + 16) front → l₂ ≡ store l₁ (at + 16 + 32) (replicate 4064 0) → l₂ ≡ put l (at + 16) (padded front)
+  page-stored : {l₁ l₂ : List ℕ} → l₁ ≡ store l (at + 16) front → l₂ ≡ store l₁ (at + 16 + 32) (replicate 4064 0) → l₂ ≡ put l (at + 16) (frontPage front)
   page-stored e f =
       let h : at + 4112 ≤ length l = leb-true _ _ t in
       let k : at + 16 + length front ≤ length l = rw n (omega arith) in
       store-next 32 4064 l (at + 16) front (replicate 4064 0) n (length-replicate {A = ℕ} 4064 0) (omega arith) (e ∙ store-put l (at + 16) front k) f
 
-  padded-headed : {l₂ l₃ l₄ : List ℕ} {s r : ℕ} → l₂ ≡ put l (at + 16) (padded front) → l₃ ≡ put l₂ at (heading page count salt)
+  padded-headed : {l₂ l₃ l₄ : List ℕ} {s r : ℕ} → l₂ ≡ put l (at + 16) (frontPage front) → l₃ ≡ put l₂ at (heading page count salt)
       → s ≡ sumFrom 0 (take 12 (drop at l₃)) → r ≡ sumFrom s front → l₄ ≡ store l₃ (at + 12) (leBytes 4 r)
       → l₄ ≡ headingAfter l₂ at page count salt
   unfolding headingAfter
   padded-headed {l₂} {l₃} {l₄} {s} {r} e f g i j =
       let h : at + 4112 ≤ length l = leb-true _ _ t in
-      let w : length (padded front) ≡ 4096 = length-padded front n in
-      let k : at + 16 + length (padded front) ≤ length l = rw w (omega arith) in
-      let m : length l₂ ≡ length l = ap length e ∙ length-put l (at + 16) (padded front) k in
-      let b : bodyOf (frameAt at l₂) ≡ padded front = rw (body-there at l₂, e) (part-put 4096 l (at + 16) (padded front) w (omega arith)) in
+      let w : length (frontPage front) ≡ 4096 = length-padded front n in
+      let k : at + 16 + length (frontPage front) ≤ length l = rw w (omega arith) in
+      let m : length l₂ ≡ length l = ap length e ∙ length-put l (at + 16) (frontPage front) k in
+      let b : bodyOf (frameAt at l₂) ≡ frontPage front = rw (body-there at l₂, e) (part-put 4096 l (at + 16) (frontPage front) w (omega arith)) in
       let fits : s < 4294967296 = rw g (sumFrom-fits 0 (take 12 (drop at l₃)) (omega arith)) in
-      let d : bodyOf (frameAt at l₃) ≡ padded front = rw f (body-kept l₂ at page count salt (rw m h)) ∙ b in
+      let d : bodyOf (frameAt at l₃) ≡ frontPage front = rw f (body-kept l₂ at page count salt (rw m h)) ∙ b in
       let c : r ≡ checksumOf (frameAt at l₃) = checksum-there at l₃ g (i ∙ rw d (sym (padded-sum s front fits))) in
       rw (m, t) (frame-headed l₂ at page count salt (rw m h) f c j)
 
   pub padded-stored : {l₁ l₂ l₃ l₄ : List ℕ} {s r : ℕ} → l₁ ≡ store l (at + 16) front → l₂ ≡ store l₁ (at + 16 + 32) (replicate 4064 0)
       → l₃ ≡ put l₂ at (heading page count salt) → s ≡ sumFrom 0 (take 12 (drop at l₃)) → r ≡ sumFrom s front
       → l₄ ≡ store l₃ (at + 12) (leBytes 4 r)
-      → (Done ≡ frameStored l at (padded front)) × (l₄ ≡ frameAfter l at page count salt (padded front))
+      → (Done ≡ frameStored l at (frontPage front)) × (l₄ ≡ frameAfter l at page count salt (frontPage front))
   padded-stored {l₁} {l₂} e f g i j k =
       let h : at + 4112 ≤ length l = leb-true _ _ t in
-      let w : length (padded front) ≡ 4096 = length-padded front n in
-      let v : at + 16 + length (padded front) ≤ length l = rw w (omega arith) in
+      let w : length (frontPage front) ≡ 4096 = length-padded front n in
+      let v : at + 16 + length (frontPage front) ≤ length l = rw w (omega arith) in
       let p = page-stored e f in
-      let m : length l₂ ≡ length l = ap length p ∙ length-put l (at + 16) (padded front) v in
-      frame-stored l at page count salt (padded front) w t (p ∙ sym (store-put l (at + 16) (padded front) v)) (rw (m, t)) (padded-headed p g i j k)
+      let m : length l₂ ≡ length l = ap length p ∙ length-put l (at + 16) (frontPage front) v in
+      frame-stored l at page count salt (frontPage front) w t (p ∙ sym (store-put l (at + 16) (frontPage front) v)) (rw (m, t)) (padded-headed p g i j k)

@@ -3,7 +3,7 @@ use mathlib.Core.Bool.{Bool, not}
 use mathlib.Core.List.{List, _++_}
 use Prim.Native.Nat.{ℕ, _+_}
 use lib.Dec.{leb, eqb}
-use lib.ListN.{length, take, drop, replicate}
+use lib.ListN.{length, take, drop}
 use Rattle.le.specs.Choice.{pick, both}
 use Rattle.le.specs.Le.{leBytes, field, wholeField, put, store}
 use Rattle.le.specs.Answers.{storedOf}
@@ -79,7 +79,3 @@ frameStored l at body = pick (eqb (length body) pageSize) (storedOf l at frameSi
 
 unfoldable pub frameAfter : List ℕ → ℕ → ℕ → ℕ → ℕ → List ℕ → List ℕ
 frameAfter l at page count salt body = pick (eqb (length body) pageSize) (store l at (encodeFrame page count salt body)) l
-
--- a page that has only a header's 32 bytes in front: "the rest is written zero"
-abbrev pub padded : List ℕ → List ℕ
-padded front = front ++ replicate 4064 0

@@ -5,7 +5,8 @@ ghost use Prim.Native.Nat.{_+_, _≤_};
 ghost use lib.ListN.{length, take, drop};
 ghost use Rattle.le.specs.Answers.{storedOf};
 ghost use Rattle.le.specs.Le.{put, store};
-ghost use Rattle.frame.specs.Frame.{isCommit, heading, encodeFrame, frameAt, headerOf, bodyOf, checksumOf, intactAt, headingAfter, frameStored, frameAfter, padded};
+ghost use Rattle.page.specs.Page.{frontPage};
+ghost use Rattle.frame.specs.Frame.{isCommit, heading, encodeFrame, frameAt, headerOf, bodyOf, checksumOf, intactAt, headingAfter, frameStored, frameAfter};
 use le::Stored;
 use page::PAGE_SIZE;
 
@@ -136,7 +137,7 @@ pub fn write_padded_frame(
     salt: u32,
     front: &[u8],
 ) -> Stored
-    ensures { λ r. ⌜ (r ≡ frameStored (now (log .entry)) at (padded (now (front .entry)))) × (now (log .exit) ≡ frameAfter (now (log .entry)) at «page_num» «commit_page_count» salt (padded (now (front .entry)))) ⌝ }
+    ensures { λ r. ⌜ (r ≡ frameStored (now (log .entry)) at (frontPage (now (front .entry)))) × (now (log .exit) ≡ frameAfter (now (log .entry)) at «page_num» «commit_page_count» salt (frontPage (now (front .entry)))) ⌝ }
 {
     if front.len() != 32 {
         return Stored::Area;

@@ -3,10 +3,10 @@ use mathlib.Core.List.{List, [], _∷_, _++_}
 use Prim.Native.Nat.{ℕ}
 use mathlib.Core.Bool.{Bool}
 use lib.Dec.{leb, eqb}
-use lib.ListN.{length, take, replicate}
+use lib.ListN.{length, take}
 use Rattle.le.specs.Choice.{pick, both}
 use Rattle.le.specs.Le.{leBytes, field, sameBytes}
-use Rattle.page.specs.Page.{pageSize}
+use Rattle.page.specs.Page.{pageSize, frontPage}
 use Rattle.header.specs.declared.DbHeader.{DbHeader}
 use Rattle.header.specs.declared.HeaderEncoded.{HeaderEncoded}
 use Rattle.header.specs.declared.HeaderEncoded.the-variants as encoded
@@ -36,7 +36,7 @@ fieldsAfter h l = pick (eqb (length l) 32) (headerFields h) l
 
 -- "the rest is written zero"
 unfoldable pub encodeHeader : DbHeader → List ℕ
-encodeHeader h = headerFields h ++ replicate 4064 0
+encodeHeader h = frontPage (headerFields h)
 
 -- refusal 2 where the buffer is not 4,096 bytes long, which then stays as it was
 abbrev pub encodeAnswer : List ℕ → HeaderEncoded

@@ -1,4 +1,4 @@
--- A page of the main file, and the page 1 that creation writes.
+-- A page of the main file: its size, one that holds a header, and the page 1 that creation writes.
 use mathlib.Core.List.{List, _∷_, _++_}
 use Prim.Native.Nat.{ℕ}
 use lib.Dec.{eqb}
@@ -11,6 +11,10 @@ use Rattle.le.specs.declared.Stored.the-variants.{Done, Area}
 -- "page 4,096 bytes"
 abbrev pub pageSize : ℕ
 pageSize = 4096
+
+-- a page that has only a header's 32 bytes in front: "the rest is written zero"
+abbrev pub frontPage : List ℕ → List ℕ
+frontPage front = front ++ replicate 4064 0
 
 -- `TablePage::empty` behind the page heading of 7 bytes (type 2, next page 0, payload length 0):
 -- no slot, and the cells begin at the end of the payload, 4,089

@@ -14,10 +14,11 @@ use lib.Seq.{drop-drop}
 use Rattle.le.specs.Choice.{pick}
 use Rattle.le.specs.Le.{put, store}
 use Rattle.le.proofs.Stores.{part-put, put-over, length-put, store-put}
+use Rattle.page.specs.Page.{frontPage}
 use Rattle.header.specs.Header.{headerFields, encodeHeader}
 use Rattle.header.specs.declared.DbHeader.{DbHeader}
 use Rattle.header.proofs.Encoding.{length-headerFields, length-encodeHeader}
-use Rattle.frame.specs.Frame.{encodeFrame, frameAt, bodyOf, frameAfter, padded}
+use Rattle.frame.specs.Frame.{encodeFrame, frameAt, bodyOf, frameAfter}
 use Rattle.frame.proofs.Places.{body-there}
 use Rattle.frame.proofs.Stores.{length-encodeFrame, length-padded}
 use Rattle.wal.specs.Write.{withFrame, hasRoom, appendAnswer, appendAfter}
@@ -84,11 +85,11 @@ has-room r u v false e f = absurd (let z : _≡_ {A = ℕ} 0 1 = cc in omega ari
 
 -- a page of the header's fields and zeros is the header's page
 pub seal-stored : (l : List ℕ) (v : Wal) (h : DbHeader) {x y : List ℕ} {r : FrameAppended} → length l ≡ 4210720 → v .len + 4112 ≤ 4210720
-    → x ≡ headerFields h → r ≡ appendAnswer l v 0 (padded x) (countOf h) → y ≡ appendAfter l v 0 (padded x) (countOf h)
+    → x ≡ headerFields h → r ≡ appendAnswer l v 0 (frontPage x) (countOf h) → y ≡ appendAfter l v 0 (frontPage x) (countOf h)
     → (r ≡ pick (hasRoom v) (appended.Appended (withFrame v (countOf h))) appended.LogFull) × (y ≡ pick (hasRoom v) (sealPut l v h) l)
 unfolding appendAnswer appendAfter encodeHeader
 seal-stored l v h n k e a b =
-    let z : length (padded (headerFields h)) ≡ 4096 = length-padded (headerFields h) (length-headerFields h) in
+    let z : length (frontPage (headerFields h)) ≡ 4096 = length-padded (headerFields h) (length-headerFields h) in
     let f : v .len ≤ 4210720 = omega arith in
     let t = le-leb (v .len + 4112) 4210720 k in
     (a ∙ rw (e, eq-eqb _ _ z, eq-eqb _ _ n, le-leb _ _ f, t), b ∙ rw (e, eq-eqb _ _ z, eq-eqb _ _ n, le-leb _ _ f, t))

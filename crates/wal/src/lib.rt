@@ -7,7 +7,8 @@ ghost use lib.Dec.{eqb};
 ghost use Rattle.le.specs.Choice.{pick, both};
 ghost use Rattle.le.specs.Answers.{storedOf};
 ghost use Rattle.le.specs.Le.{store};
-ghost use Rattle.frame.specs.Frame.{frameAt, padded};
+ghost use Rattle.page.specs.Page.{frontPage};
+ghost use Rattle.frame.specs.Frame.{frameAt};
 ghost use Rattle.wal.specs.Header.{encodeWalHeader, headerIn, decodeWalHeader};
 ghost use Rattle.wal.specs.Recovery.{readableAs, readable, chunks, recovered, walOf, openLog};
 ghost use Rattle.wal.specs.Read.{frameIn, readPage, placeFrom, findPage, batchFrom, nextBatch};
@@ -445,7 +446,7 @@ pub fn append_page_zero(
     front: &[u8],
     commit_page_count: u32,
 ) -> FrameAppended
-    ensures { λ r. ⌜ (r ≡ appendAnswer (now (log .entry)) wal 0 (padded (now (front .entry))) «commit_page_count») × (now (log .exit) ≡ appendAfter (now (log .entry)) wal 0 (padded (now (front .entry))) «commit_page_count») ⌝ }
+    ensures { λ r. ⌜ (r ≡ appendAnswer (now (log .entry)) wal 0 (frontPage (now (front .entry))) «commit_page_count») × (now (log .exit) ≡ appendAfter (now (log .entry)) wal 0 (frontPage (now (front .entry))) «commit_page_count») ⌝ }
 {
     if front.len() != 32 {
         return FrameAppended::Area;

@@ -2,7 +2,7 @@ use Prim.Native.Nat.{_+_, _-_, _≤_}
 use native.Mathlib.Omega.{arith}
 use denote.Ref.{now}
 use borrow.Author.Needs.{needs}
-use Rattle.frame.specs.Frame.{padded}
+use Rattle.page.specs.Page.{frontPage}
 use Rattle.frame.proofs.Stores.{length-padded, padded-other}
 use Rattle.wal.proofs.Writing.{body-refused, area-refused, length-refused, log-full, frame-appended}
 use Rattle.wal.proofs.append_page_zero.Statement.{statement}
@@ -11,20 +11,20 @@ use Rattle.wal.proofs.append_page_zero.Tie as tie
 returns : tie.Need-returns
 returns c =
     let a = c .before .before .before .args in
-    body-refused (now (a .log)) (a .wal) 0 (padded (now (a .front))) (a .commit-page-count) (padded-other (now (a .front)) (c .if1 .taken))
+    body-refused (now (a .log)) (a .wal) 0 (frontPage (now (a .front))) (a .commit-page-count) (padded-other (now (a .front)) (c .if1 .taken))
 
 returns-2 : tie.Need-returns-2
 returns-2 c =
     let d = c .before in
     let a = d .before .before .before .args in
-    area-refused (now (a .log)) (a .wal) 0 (padded (now (a .front))) (a .commit-page-count) (length-padded (now (a .front)) (d .if1 .left)) (c .if2 .taken)
+    area-refused (now (a .log)) (a .wal) 0 (frontPage (now (a .front))) (a .commit-page-count) (length-padded (now (a .front)) (d .if1 .left)) (c .if2 .taken)
 
 returns-3 : tie.Need-returns-3
 returns-3 c =
     let b = c .before .before in
     let d = b .before in
     let a = d .before .before .before .args in
-    length-refused (now (a .log)) (a .wal) 0 (padded (now (a .front))) (a .commit-page-count) (length-padded (now (a .front)) (d .if1 .left)) (b .if2 .left) (c .if3 .taken)
+    length-refused (now (a .log)) (a .wal) 0 (frontPage (now (a .front))) (a .commit-page-count) (length-padded (now (a .front)) (d .if1 .left)) (b .if2 .left) (c .if3 .taken)
 
 returns-4 : tie.Need-returns-4
 returns-4 c =
@@ -32,7 +32,7 @@ returns-4 c =
     let b = f .before .before in
     let d = b .before in
     let a = d .before .before .before .args in
-    log-full (now (a .log)) (a .wal) 0 (padded (now (a .front))) (a .commit-page-count) (length-padded (now (a .front)) (d .if1 .left)) (b .if2 .left) (f .if3 .left) (omega arith)
+    log-full (now (a .log)) (a .wal) 0 (frontPage (now (a .front))) (a .commit-page-count) (length-padded (now (a .front)) (d .if1 .left)) (b .if2 .left) (f .if3 .left) (omega arith)
 
 returns-5 : tie.Need-returns-5
 returns-5 c =
@@ -43,7 +43,7 @@ returns-5 c =
     let d = b .before in
     let a = d .before .before .before .args in
     let room : a .wal .len + 4112 ≤ 4210720 = omega (arith, k .if4 .left, f .if3 .left) in
-    frame-appended (now (a .log)) (a .wal) 0 (padded (now (a .front))) (a .commit-page-count) (length-padded (now (a .front)) (d .if1 .left)) (b .if2 .left) room
+    frame-appended (now (a .log)) (a .wal) 0 (frontPage (now (a .front))) (a .commit-page-count) (length-padded (now (a .front)) (d .if1 .left)) (b .if2 .left) room
     (e .write-padded-frame .ensures .1) (c .with-frame .ensures)
 
 pub append-page-zero-spec : {M : Type 1} → statement M
