@@ -3,12 +3,11 @@ use mathlib.Core.Path.{_≡_, refl, sym, _∙_}
 use mathlib.Core.List.{List, [], _++_, append-assoc}
 use Prim.Native.Nat.{ℕ}
 use native.Mathlib.Omega.{arith}
-use borrow.Author.Tests.{eq-eqb}
-use lib.ListN.{length, take, drop, length-append, length-take, replicate, length-replicate}
-use Rattle.le.specs.Le.{leBytes, put, store}
+use lib.ListN.{length, length-append, replicate, length-replicate}
+use Rattle.le.specs.Le.{leBytes, store}
 use Rattle.le.proofs.Fields.{length-leBytes}
 use Rattle.le.proofs.Stores.{put-none, store-next, put-all}
-use Rattle.header.specs.Header.{magic, headerFields, fieldsAfter, encodeHeader}
+use Rattle.header.specs.Header.{magic, headerFields, encodeHeader}
 use Rattle.header.specs.declared.DbHeader.{DbHeader}
 
 pub length-magic : length magic ≡ 16
@@ -42,13 +41,11 @@ fields-written h l n e₁ e₂ e₃ e₄ e₅ e₆ =
     p₆ ∙ simp append-assoc (put-all l (headerFields h) (length-headerFields h ∙ sym n))
 
 -- the page is its fields and the zeros behind them
-pub header-written : (h : DbHeader) (l : List ℕ) {x l₁ : List ℕ} → length l ≡ 4096 → x ≡ fieldsAfter h (take 32 l)
-    → l₁ ≡ store (x ++ drop 32 l) 32 (replicate 4064 0) → l₁ ≡ encodeHeader h
-unfolding encodeHeader put
-header-written h l {x} {l₁} n e f =
-    let w : length (take 32 l) ≡ 32 = rw length-take (omega arith) in
-    let v : x ≡ headerFields h = e ∙ rw (eq-eqb _ _ w) in
+pub header-written : (h : DbHeader) (l : List ℕ) {x l₁ l₂ : List ℕ} → length l ≡ 4096 → x ≡ headerFields h → l₁ ≡ store l 0 x
+    → l₂ ≡ store l₁ 32 (replicate 4064 0) → l₂ ≡ encodeHeader h
+unfolding encodeHeader
+header-written h l n e f g =
     let k : length (headerFields h) ≡ 32 = length-headerFields h in
-    let p : put l 0 (headerFields h) ≡ headerFields h ++ drop 32 l = rw k in
-    let q = store-next 32 4064 l 0 (headerFields h) (replicate 4064 0) k (length-replicate {A = ℕ} 4064 0) (omega arith) refl (f ∙ rw (v, ← p)) in
-    q ∙ put-all l (encodeHeader h) (length-encodeHeader h ∙ sym n)
+    let p = store-next 0 32 l 0 [] (headerFields h) refl k (omega arith) (sym (put-none l 0)) (f ∙ rw e) in
+    store-next 32 4064 l 0 (headerFields h) (replicate 4064 0) k (length-replicate {A = ℕ} 4064 0) (omega arith) p g
+    ∙ put-all l (encodeHeader h) (length-encodeHeader h ∙ sym n)

@@ -27,13 +27,6 @@ headerFields h =
     ++ (leBytes 2 pageSize
     ++ (leBytes 4 (h .«page_count») ++ (leBytes 4 (h .«schema_root_page») ++ leBytes 4 (h .«freelist_head»)))))
 
--- refusal 2 where the buffer does not have their length, and then it stays as it was
-abbrev pub fieldsAnswer : List ℕ → HeaderEncoded
-fieldsAnswer l = pick (eqb (length l) 32) encoded.Done encoded.Short
-
-abbrev pub fieldsAfter : DbHeader → List ℕ → List ℕ
-fieldsAfter h l = pick (eqb (length l) 32) (headerFields h) l
-
 -- "the rest is written zero"
 unfoldable pub encodeHeader : DbHeader → List ℕ
 encodeHeader h = frontPage (headerFields h)

@@ -1,6 +1,6 @@
 // The main file's header, page 0: what it holds, and its bytes in both directions.
 ghost use mathlib.Core.Path.{_≡_};
-ghost use Rattle.header.specs.Header.{decodeHeader, fieldsAnswer, fieldsAfter, encodeAnswer, encodeAfter};
+ghost use Rattle.header.specs.Header.{decodeHeader, headerFields, encodeAnswer, encodeAfter};
 use page::PAGE_SIZE;
 
 // The leading bytes of every main file.
@@ -23,27 +23,25 @@ pub struct DbHeader {
     pub freelist_head: u32,
 }
 
+// The header's fields: the first 32 bytes of its page.
+pub fn encode_fields(h: DbHeader) -> [u8; 32]
+    ensures { λ r. ⌜ r ≡ headerFields h ⌝ }
+{
+    let mut fields: [u8; 32] = [0; 32];
+    le::write_bytes(&mut fields, 0, &MAGIC);
+    le::write_u16(&mut fields, 16, h.format_version);
+    le::write_u16(&mut fields, 18, PAGE_SIZE as u16);
+    le::write_u32(&mut fields, 20, h.page_count);
+    le::write_u32(&mut fields, 24, h.schema_root_page);
+    le::write_u32(&mut fields, 28, h.freelist_head);
+    fields
+}
+
 // What encoding answers.
 pub enum HeaderEncoded {
     Done,
-    // The buffer has another length.
+    // The buffer does not have a page's length.
     Short,
-}
-
-// Writes the header's fields, the first 32 bytes of its page, into a buffer of that length.
-pub fn encode_fields(h: DbHeader, buf: &mut [u8]) -> HeaderEncoded
-    ensures { λ r. ⌜ (r ≡ fieldsAnswer (now (buf .entry))) × (now (buf .exit) ≡ fieldsAfter h (now (buf .entry))) ⌝ }
-{
-    if buf.len() != 32 {
-        return HeaderEncoded::Short;
-    }
-    le::write_bytes(buf, 0, &MAGIC);
-    le::write_u16(buf, 16, h.format_version);
-    le::write_u16(buf, 18, PAGE_SIZE as u16);
-    le::write_u32(buf, 20, h.page_count);
-    le::write_u32(buf, 24, h.schema_root_page);
-    le::write_u32(buf, 28, h.freelist_head);
-    HeaderEncoded::Done
 }
 
 // Writes the header's page into a buffer of a page's length.
@@ -53,7 +51,8 @@ pub fn encode_header(h: DbHeader, buf: &mut [u8]) -> HeaderEncoded
     if buf.len() != PAGE_SIZE {
         return HeaderEncoded::Short;
     }
-    encode_fields(h, &mut buf[..32]);
+    let fields = encode_fields(h);
+    le::write_bytes(buf, 0, &fields);
     le::write_zeros(buf, 32, PAGE_SIZE - 32);
     HeaderEncoded::Done
 }

@@ -1,6 +1,6 @@
 // The stores of a commit, one at a time, and the call that starts a commit.
 ghost use mathlib.Core.Path.{_≡_};
-ghost use mathlib.Core.Bool.{true, false};
+ghost use mathlib.Core.Bool.{true, false, not};
 ghost use mathlib.Core.List.{List, []};
 ghost use Prim.Native.Nat.{ℕ, _+_, _*_, _≤_, _<_, min, max};
 ghost use lib.ListN.{length, take, drop, getD};
@@ -130,7 +130,7 @@ fn committed_page<'a>(table: &[u32], log: &'a [u8], main: &'a [u8], page: usize)
 
 // Whether the 64 bytes from `at` on differ in two pages.
 fn part_differs(new: &[u8], old: &[u8], at: usize) -> bool
-    ensures { λ r. ⌜ (r ≡ true → sameBytes (now (new .entry)) (now (old .entry)) ≡ false) ⌝ }
+    ensures { λ r. ⌜ r ≡ not (sameBytes (take 64 (drop at (now (new .entry)))) (take 64 (drop at (now (old .entry))))) ⌝ }
 {
     !le::same(le::part(new, at, 64), le::part(old, at, 64))
 }
@@ -394,10 +394,9 @@ fn store_seal(table: &mut [u32], log: &mut [u8], wal: Wal, header: DbHeader) -> 
     if WAL_AREA - at < FRAME_SIZE {
         return FrameAppended::LogFull;
     }
-    let mut front: [u8; 32] = [0; 32];
-    header::encode_fields(header, &mut front);
     enter(table, 0, at);
-    wal::append_page_zero(log, wal, &front, header.page_count)
+    let fields = header::encode_fields(header);
+    wal::append_page_zero(log, wal, &fields, header.page_count)
 }
 
 // What a commit has left after its seal.

@@ -1,4 +1,8 @@
+use mathlib.Core.Path.{sym, _∙_}
 use Prim.Native.Nat.{_-_}
+use denote.Ref.{now}
+use borrow.Author.Tests.{not-true}
+use Rattle.le.proofs.Compare.{differ-part}
 use Rattle.pager_commit.specs.CommitStep.{slotDiffers}
 use borrow.Author.Needs.{needs}
 use Rattle.pager_commit.proofs.is_differing.Statement.{statement}
@@ -8,13 +12,15 @@ returns : tie.Need-returns
 unfolding slotDiffers
 returns c =
     let p = c .before .before in
-    rw (rw (p .before .page-from .ensures, p .committed-page .ensures) at (c .before .part-differs .ensures (c .if1 .taken)))
+    let e = differ-part 64 0 (now (p .before .page-from .result)) (now (p .committed-page .result)) (not-true _ (sym (c .before .part-differs .ensures) ∙ c .if1 .taken)) in
+    rw (rw (p .before .page-from .ensures, p .committed-page .ensures) at e)
 
 returns-2 : tie.Need-returns-2
 unfolding slotDiffers
 returns-2 c =
     let p = c .before .before .before .before in
-    rw (rw (p .before .page-from .ensures, p .committed-page .ensures) at (c .before .part-differs2 .ensures (c .if2 .taken)))
+    let e = differ-part 64 4032 (now (p .before .page-from .result)) (now (p .committed-page .result)) (not-true _ (sym (c .before .part-differs2 .ensures) ∙ c .if2 .taken)) in
+    rw (rw (p .before .page-from .ensures, p .committed-page .ensures) at e)
 
 returns-3 : tie.Need-returns-3
 unfolding slotDiffers

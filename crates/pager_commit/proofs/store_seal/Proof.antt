@@ -20,21 +20,21 @@ returns c =
 
 enter-requires : tie.Need-enter-requires
 enter-requires c κs =
-    let d = c .before .before .before .before .before .before .before in
+    let d = c .before .before .before .before in
     (omega (arith, d .pre .0), d .pre .1 .1)
 
 returns-2 : tie.Need-returns-2
 returns-2 c =
     let a = c .before .before in
-    let n = a .before .before .before .before .before in
-    let f = n .before .before .before in
-    let i = f .before .before in
+    let f = a .before .before .before in
+    let n = f .before .before .before in
+    let i = n .before .before in
     let d = i .before .before .before in
     let at = d .args .wal .len in
     let k : at + 4112 ≤ 4210720 = omega (arith, d .pre .1 .1, i .if1 .left) in
-    let s = seal-stored (now (d .args .log)) (d .args .wal) (d .args .header) (d .pre .1 .0) k (f .encode-fields .ensures .1)
+    let s = seal-stored (now (d .args .log)) (d .args .wal) (d .args .header) (d .pre .1 .0) k (f .encode-fields .ensures)
     (a .append-page-zero .ensures .0) (a .append-page-zero .ensures .1) in
     (s .0, (n .enter .ensures ∙ rw (le-leb (at + 4112) 4210720 k), s .1))
 
 pub store-seal-spec : {M : Type 1} → statement M
-store-seal-spec = tie.close (tie.spec sub-if1 returns (search needs) (search needs) enter-requires (search needs) (search needs) (search needs) (search needs) returns-2)
+store-seal-spec = tie.close (tie.spec sub-if1 returns enter-requires (search needs) (search needs) (search needs) (search needs) (search needs) returns-2)
