@@ -84,11 +84,42 @@ static void wrong_lengths(host *h) {
               .refusal == LATEENBAEL_REFUSED_AREA);
 }
 
+/* Room for the frames of two pages and no seal, and a table that says that one of the pages stands right at the log's length, where its
+ * bytes lie already: the other page's frame would overwrite what it is compared with. */
+static void table_past_the_log(host *h) {
+    lateenbael_db_header header = {3, 1, 4, 0};
+    size_t len = LATEENBAEL_LOG_AREA - 2 * FRAME;
+    CHECK(stage(h, 1, 0x11) == LATEENBAEL_OK && stage(h, 2, 0x22) == LATEENBAEL_OK);
+    lateenbael_store store = h->store;
+    store.wal.len = len;
+    memset(h->log + len + 16, 0x22, PAGE);
+    h->table[2] = (uint32_t)(2 * len);
+    lateenbael_answered a = lateenbael_commit(store, AREAS(h), header, 1);
+    CHECK(a.refusal == LATEENBAEL_REFUSED_AREA && a.store.job.kind == 0 && a.store.wal.len == len && a.store.staged.count == 2);
+    CHECK(h->log[len] == 0 && h->log[len + 16] == 0x22 && h->table[2] == 2 * len);
+    CHECK(lateenbael_begin_commit(store, AREAS(h), header, 1).refusal == LATEENBAEL_REFUSED_AREA);
+    store.job.kind = 1;
+    CHECK(lateenbael_begin_commit(store, AREAS(h), header, 1).refusal == LATEENBAEL_REFUSED_AREA);
+    store.job.kind = 0;
+    /* One byte past the length is too much, one that ends right there is not; nor does a page matter that is not staged. */
+    store.wal.len = len - FRAME;
+    h->table[2] = (uint32_t)(2 * (len - 2 * FRAME + 1));
+    CHECK(lateenbael_begin_commit(store, AREAS(h), header, 1).refusal == LATEENBAEL_REFUSED_AREA);
+    h->table[2] = (uint32_t)(2 * (len - 2 * FRAME));
+    h->table[3] = UINT32_MAX;
+    a = lateenbael_commit(store, AREAS(h), header, 1);
+    CHECK(a.refusal == LATEENBAEL_OK && a.answer == 2 && a.store.job.kind == 0 && a.store.staged.count == 0);
+    CHECK(a.store.wal.len == LATEENBAEL_LOG_AREA);
+    h->table[2] = h->table[3] = 0;
+    CHECK(took(h, lateenbael_clear_staged(h->store)) == LATEENBAEL_OK);
+}
+
 void test_forged(void) {
     host h = new_host();
     uint8_t body[PAGE];
     CHECK(took(&h, lateenbael_create(AREAS(&h), 0xab)) == LATEENBAEL_OK);
     wrong_lengths(&h);
+    table_past_the_log(&h);
     CHECK(lateenbael_mvcc_start(body, PAGE, 1).refusal == LATEENBAEL_OK);
     for (unsigned n = 0; n < 3000; n++) {
         call_all(&h, forged(h.store), body);

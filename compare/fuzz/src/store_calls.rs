@@ -437,7 +437,7 @@ fn commit(world: &mut World, export: &'static str) {
     world.begin(export, &writes);
     let (answered, right) = over_areas!(world, sys::lateenbael_commit, [given.0], [header, salt]);
     world.end(export, answered.refusal, right, &writes);
-    world.take(export, given, &answered);
+    world.take_ended(export, given, &answered);
 }
 
 fn checkpoint(world: &mut World, export: &'static str) {
@@ -452,5 +452,5 @@ fn checkpoint(world: &mut World, export: &'static str) {
     world.begin(export, &writes);
     let (answered, right) = over_areas!(world, sys::lateenbael_checkpoint, [given.0], [salt]);
     world.end(export, answered.refusal, right, &writes);
-    world.take(export, given, &answered);
+    world.take_ended(export, given, &answered);
 }

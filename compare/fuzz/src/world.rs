@@ -195,6 +195,15 @@ impl World {
         }
     }
 
+    /// The same of a commit or fold in one call: it ends, whatever the store,
+    /// with nothing part done.
+    pub fn take_ended(&mut self, export: &str, given: (Store, bool), answered: &Answered) {
+        if answered.refusal == 0 && answered.store.job.kind != 0 {
+            self.tally.fault(export, "answered while part done");
+        }
+        self.take(export, given, answered);
+    }
+
     /// What a call may only read, or was refused, is as it was.
     pub fn unaltered(&mut self, export: &str, slice: &Area<u8>) {
         if !slice.guards_hold() || !slice.holds(&slice.all()) {

@@ -10,11 +10,11 @@ use Rattle.le.specs.Choice.{both}
 use Rattle.le.proofs.Compare.{both-true}
 use Rattle.header.specs.Header.{isVersion}
 use Rattle.header.specs.declared.DbHeader.{DbHeader}
-use Rattle.pager_state.specs.World.{World, countOf, headerOf, busy, readOnly, withJob, fine, stagingFine}
+use Rattle.pager_state.specs.World.{World, countOf, headerOf, busy, readOnly, withJob}
 use Rattle.pager_state.specs.Overlay.{isStaged, committedBytes}
 use Rattle.pager_state.specs.Pages.{differs, lacks}
 use Rattle.pager_state.specs.Stores.{diskOf}
-use Rattle.pager_state.specs.Steps.{headerGood, differing, lacking, roomFor, commitStart, beginCommit, commitRefusal, todo, steps, onStore, commitWorld}
+use Rattle.pager_state.specs.Steps.{headerGood, differing, lacking, roomFor, commitFine, commitStart, beginCommit, commitRefusal, todo, steps, onStore, commitWorld}
 use Rattle.pager_state.specs.declared.Job.the-variants as job
 use Rattle.pager_state.specs.declared.Pager.{Pager}
 use Rattle.pager_state.specs.declared.Staged.{Staged}
@@ -34,7 +34,7 @@ use Rattle.history.proofs.Taken.{Taken, taken-by, took, passed, idle-of
 module _ (w : World) (g : List ℕ) (b : Book) (z : List ℕ) (i : Inv w g b z) (h : DbHeader) (salt : ℕ) (words : Words h) (small : salt < 2 ^ 32)
     (ok : commitRefusal (commitStart g w h) ≡ 0) where
   record Begins : Type 0 where
-    areas : both (fine w) (stagingFine g) ≡ true
+    areas : commitFine g w ≡ true
     rests : busy (w .pager) ≡ false
     writes : readOnly (w .pager) ≡ false
     good : headerGood h ≡ true
@@ -44,7 +44,7 @@ module _ (w : World) (g : List ℕ) (b : Book) (z : List ℕ) (i : Inv w g b z) 
   begins : Begins
   unfolding commitStart
   begins =
-      let a = took commitRefusal (both (fine w) (stagingFine g)) _ commit.Area ok (λ e. omega arith) in
+      let a = took commitRefusal (commitFine g w) _ commit.Area ok (λ e. omega arith) in
       let c = passed commitRefusal (busy (w .pager)) commit.Busy _ (a .1) (λ e. omega arith) in
       let d = passed commitRefusal (readOnly (w .pager)) commit.ReadOnly _ (c .1) (λ e. omega arith) in
       let f = took commitRefusal (headerGood h) _ commit.NewHeader (d .1) (λ e. omega arith) in

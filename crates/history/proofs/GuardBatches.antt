@@ -1,5 +1,5 @@
 -- Batches that are appended: nothing refuses them while there is room, and once sealed an opening returns them.
-use mathlib.Core.Path.{_≡_, ap, _∙_}
+use mathlib.Core.Path.{_≡_, sym, ap, _∙_}
 use mathlib.Core.Bool.{true}
 use mathlib.Core.List.{List, [], _∷_, _++_}
 use Prim.Native.Nat.{ℕ, zero, suc, _+_, _*_, _^_, _≤_, _<_}
@@ -8,6 +8,7 @@ use borrow.Author.Tests.{eq-eqb, eqb-true, le-leb}
 use lib.ListN.{length, replicate}
 use Rattle.le.specs.Le.{put}
 use Rattle.le.proofs.Stores.{length-put}
+use Rattle.le.proofs.Compare.{no-test}
 use Rattle.header.specs.declared.DbHeader.{DbHeader}
 use Rattle.frame.proofs.Stores.{length-encodeFrame}
 use Rattle.mvcc.specs.Seen.{refusalOf, decodes, canonical}
@@ -28,7 +29,7 @@ use Rattle.history.specs.Demand3.{AllBytes, Words, Demand3}
 use Rattle.history.specs.Guards.{newStore, GoodHeader, Joined, Unrefused, UnrefusedBatch, LongerBy, Empty, Ends, after, Accepted, sealedBatch, framesAfter, Returned, Recovers, Filled}
 use Rattle.history.proofs.GuardRefusals.{told-begun, told-full, unrefused-batch, batch-told-full}
 use Rattle.history.proofs.GuardCommit.{begun-of, seal-idle, commit-ends}
-use Rattle.history.proofs.GuardNew.{fine-create, none-differ, new-unrefused, new-made, new-count, new-none, new-len, new-frames, made-framed}
+use Rattle.history.proofs.GuardNew.{fine-create, none-staged, none-differ, new-unrefused, new-made, new-count, new-none, new-len, new-frames}
 use Rattle.history.proofs.GuardHistories.{made-history}
 use Rattle.history.proofs.GuardBook.{world-after, staging-after, append-book, open-book, commit-batches}
 use Rattle.history.proofs.GuardReached.{Reached, reached-none, reached-whole, reached-made, opening-taken, opening-returns}
@@ -53,10 +54,9 @@ module _ (d : Demand3) (t l m g : List ℕ) (salt : ℕ) (f : createFine t l m g
     all-sealed : sealedBatch body h next r .book .sealed ≡ r .book .sealed ++ (r .book .waiting ++ (batchIn body ∷ []))
     unfolding refusedBy
     all-sealed =
-        let u = made-framed (appended .world) (reached-made reached-appended (new-made t l m g salt f)) in
+        let u = reached-made reached-appended (new-made t l m g salt f) in
         let e = begun-of (commitStart (appended .staging) (appended .world) h) c in
-        let i = commit-begun (appended .staging) (appended .world) h (ap isBegun e) .idle in
-        commit-batches h next appended c (seal-idle (appended .staging) (appended .world) h next (u .0) (u .1 i) (omega arith) e few)
+        commit-batches h next appended c (seal-idle (appended .staging) (appended .world) h next (u .slots) (omega arith) e few)
         ∙ rw (append-book body r a)
 
     pub returned : Returned r body h next
@@ -146,6 +146,7 @@ module _ (h : DbHeader) (k : ℕ) (r : Run) (u : Ready h k r) (body : List ℕ) 
                 logFile = room;
                 mainFile = x .mainFile;
                 pages = x .pages;
+                compared = λ n l o i. no-test (sym (none-staged (r .world) (u .none) n) ∙ o);
                 rests = x .rests;
                 writes = x .writes;
                 header = x .header;
@@ -167,8 +168,7 @@ module _ (h : DbHeader) (k : ℕ) (r : Run) (u : Ready h k r) (body : List ℕ) 
   module _ (q : Made (r .world)) (low : k < 1024) (salt : ℕ) where
     ready-ends : Ends (r .staging) (r .world) h salt
     ready-ends =
-        let x = made-framed (r .world) q in
-        commit-ends (r .staging) (r .world) h salt (x .0) (x .1 (u .unrefused .rests)) (omega (arith, u .frames)) (ready-begun low)
+        commit-ends (r .staging) (r .world) h salt (q .slots) (omega (arith, u .frames)) (ready-begun low)
 
     ready-longer : k < 99 → LongerBy (r .world) (commitWorld (r .staging) (r .world) h salt) 1
     ready-longer e = rw none-differs at (ready-ends .below (omega (arith, u .frames, none-differs)))

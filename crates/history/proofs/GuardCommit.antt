@@ -1,5 +1,6 @@
 -- A commit that is begun, run to its end: the log is its frames longer, or a fold has emptied it. Assumes nothing.
 use mathlib.Core.Path.{_≡_, refl, sym, ap, _∙_}
+use mathlib.Core.Bool.{Bool}
 use mathlib.Core.List.{List, [], _∷_, append-nil}
 use Prim.Native.Nat.{ℕ, suc, _+_, _-_, _*_, _^_, _≤_, _<_}
 use native.Mathlib.Nat.{suc-add}
@@ -9,7 +10,7 @@ use lib.ListN.{length}
 use Rattle.header.specs.declared.DbHeader.{DbHeader}
 use Rattle.wal.specs.Write.{longer}
 use Rattle.pager_state.specs.World.{World, withJob}
-use Rattle.pager_state.specs.Overlay.{committedBytes}
+use Rattle.pager_state.specs.Overlay.{isStaged, committedBytes}
 use Rattle.pager_state.specs.Stores.{Act}
 use Rattle.pager_state.specs.Pages.{pagesFrom, differs, folds}
 use Rattle.pager_state.specs.Fold.{foldTodo, foldAdvance}
@@ -20,13 +21,13 @@ use Rattle.pager_state.specs.declared.CommitStart.{CommitStart}
 use Rattle.pager_state.specs.declared.CommitStart.the-variants as commit
 use Rattle.pager_state.proofs.Searches.{first, pages-same, pages-length}
 use Rattle.pager_state.proofs.Stored.{AllInside}
-use Rattle.pager_state.proofs.Made.{Asks, Made, Ready, ready-fine}
+use Rattle.pager_state.proofs.Made.{AsksOf, ReadyOf, ready-fine}
 use Rattle.pager_state.proofs.Next.{todo-by, advance-by}
 use Rattle.pager_state.proofs.Advance.{framed-differs}
 use Rattle.pager_state.proofs.Steps.{step-keeps}
 use Rattle.pager_state.proofs.Runs.{steps-add, steps-keep, step-inside, idle-stays}
-use Rattle.pager_state.proofs.Begun.{commit-begun, begun-commit, commit-inside, commit-ready}
-use Rattle.history.specs.Guards.{FramesInside, LongerBy, Empty, Ends}
+use Rattle.pager_state.proofs.Begun.{begun-commit, commit-inside, commit-ready}
+use Rattle.history.specs.Guards.{LongerBy, Empty, Ends}
 use Rattle.history.proofs.GuardFold.{pagesWorld, fold-run, end-empty}
 
 module _ (g : List ℕ) (h : DbHeader) (salt answer : ℕ) where
@@ -37,7 +38,7 @@ module _ (g : List ℕ) (h : DbHeader) (salt answer : ℕ) where
 
   -- ---- one step
 
-  module _ (w : World) (p : ℕ) (j : w .pager .job ≡ job.Commit h salt p answer) (ns : List ℕ) (e : pagesFrom (differs g w) p ≡ ns) (r : Ready g w)
+  module _ {P : ℕ → Bool} (w : World) (p : ℕ) (j : w .pager .job ≡ job.Commit h salt p answer) (ns : List ℕ) (e : pagesFrom (differs g w) p ≡ ns) (r : ReadyOf P g w)
       (i : AllInside (todo g w)) where
     frames-todo : todo g w ≡ framesTodo g h salt answer ns w
     unfolding commitTodo foldTodo
@@ -52,12 +53,12 @@ module _ (g : List ℕ) (h : DbHeader) (salt answer : ℕ) where
 
   -- ---- the frames
 
-  framed-left : (w : World) (p n : ℕ) (ns : List ℕ) → w .pager .job ≡ job.Commit h salt p answer → pagesFrom (differs g w) p ≡ n ∷ ns → Ready g w
+  framed-left : {P : ℕ → Bool} (w : World) (p n : ℕ) (ns : List ℕ) → w .pager .job ≡ job.Commit h salt p answer → pagesFrom (differs g w) p ≡ n ∷ ns → ReadyOf P g w
       → pagesFrom (differs g (framed g h salt answer n w)) (suc n) ≡ ns
-  framed-left w p n ns j e r =
+  framed-left {P} w p n ns j e r =
       let f = ready-fine g w (r .right) .0 .files .log in
-      let k : Asks (job.Commit h salt p answer) w = rw j at (r .made .asked) in
-      let d = pages-same (differs g (framed g h salt answer n w)) (differs g w) (suc n) (framed-differs g h salt answer w n (k .0) (omega (arith, f .area, f .len))) in
+      let k : AsksOf P (job.Commit h salt p answer) w = rw j at (r .made .asked) in
+      let d = pages-same (differs g (framed g h salt answer n w)) (differs g w) (suc n) (framed-differs g h salt answer w n (k .0) (k .1 .0) (omega (arith, f .area, f .len))) in
       let s = first (differs g w) p n ns e .split in
       d ∙ cc
 
@@ -65,15 +66,15 @@ module _ (g : List ℕ) (h : DbHeader) (salt answer : ℕ) where
   unfolding framed
   framed-job n w = refl
 
-  frames-run : (ns : List ℕ) (w : World) (p : ℕ) → w .pager .job ≡ job.Commit h salt p answer → pagesFrom (differs g w) p ≡ ns → Ready g w → AllInside (todo g w)
+  frames-run : {P : ℕ → Bool} (ns : List ℕ) (w : World) (p : ℕ) → w .pager .job ≡ job.Commit h salt p answer → pagesFrom (differs g w) p ≡ ns → ReadyOf P g w → AllInside (todo g w)
       → steps g (length ns + 1) w ≡ sealedWorld h salt answer (framesWorld ns w)
   unfolding framesWorld framesTodo steps
   frames-run [] w p j e r i = frames-step w p j [] e r i _ _ refl
-  frames-run (n ∷ ns) w p j e r i =
+  frames-run {P} (n ∷ ns) w p j e r i =
       let v : World = framed g h salt answer n w in
       let a : stepped g w ≡ v = frames-step w p j (n ∷ ns) e r i _ _ refl in
       let k : AllInside (todo g v) = rw a at (step-inside g w r i) in
-      let s : Ready g v = rw a at (step-keeps g w r) in
+      let s : ReadyOf P g v = rw a at (step-keeps g w r) in
       rw suc-add (ap (steps g (length ns + 1)) a ∙ frames-run ns v (suc n) (framed-job n w) (framed-left w p n ns j e r) s k)
 
   -- each is one frame
@@ -102,11 +103,8 @@ begun-of commit.NewHeader e = absurd (omega arith)
 begun-of (commit.Joining n) e = absurd (omega arith)
 begun-of commit.LogFull e = absurd (omega arith)
 
-module _ (g : List ℕ) (w : World) (h : DbHeader) (salt : ℕ) (slots : length (w .pager .staged .pages) ≡ 64) (i : FramesInside w)
+module _ (g : List ℕ) (w : World) (h : DbHeader) (salt : ℕ) (slots : length (w .pager .staged .pages) ≡ 64)
     (few : w .pager .wal .«frame_count» ≤ 1024) (b : commitStart g w h ≡ commit.Begun) where
-  commit-made : Made w
-  commit-made = record { slots = slots; asked = rw (commit-begun g w h (ap isBegun b) .idle) i }
-
   abbrev answer : ℕ
   answer = differing g w
 
@@ -123,8 +121,8 @@ module _ (g : List ℕ) (w : World) (h : DbHeader) (salt : ℕ) (slots : length 
   begun-is : onStore w (beginCommit g w h salt .pager) ≡ begun
   begun-is = rw (begun-commit g w h (ap isBegun b) salt)
 
-  begun-ready : Ready g begun
-  begun-ready = rw begun-is at (commit-ready g w h (ap isBegun b) salt commit-made)
+  begun-ready : ReadyOf (isStaged (w .pager .staged)) g begun
+  begun-ready = rw begun-is at (commit-ready g w h (ap isBegun b) salt slots)
 
   begun-inside : AllInside (todo g begun)
   begun-inside = rw begun-is at (commit-inside g w h (ap isBegun b) salt)
@@ -136,7 +134,7 @@ module _ (g : List ℕ) (w : World) (h : DbHeader) (salt : ℕ) (slots : length 
   seal-run : steps g (length pages + 1) begun ≡ sealed
   seal-run = frames-run g h salt answer pages begun 0 refl begun-pages begun-ready begun-inside
 
-  seal-ready : Ready g sealed
+  seal-ready : ReadyOf (isStaged (w .pager .staged)) g sealed
   seal-ready = rw seal-run at (steps-keep g (length pages + 1) begun begun-ready)
 
   -- the steps behind the seal

@@ -120,9 +120,6 @@ module _ (t l m g : List ℕ) (salt : ℕ) (f : createFine t l m g ≡ true) (by
     staged-frames : staged .world .pager .wal .«frame_count» ≡ 0
     staged-frames = rw staged-world (new-frames t l m g salt f)
 
-    staged-idle : staged .world .pager .job ≡ job.Idle
-    staged-idle = rw staged-world (new-idle t l m g salt f)
-
     committed-world : committed .world ≡ commitWorld (staged .staging) (staged .world) h next
     unfolding worldAfter
     committed-world = world-after (Commit h next) staged
@@ -132,13 +129,12 @@ module _ (t l m g : List ℕ) (salt : ℕ) (f : createFine t l m g ≡ true) (by
 
     first-longer : LongerBy (staged .world) (committed .world) (differing (staged .staging) (staged .world) + 1)
     first-longer =
-        let u = made-framed (staged .world) staged-made in
-        let e = commit-ends (staged .staging) (staged .world) h next (u .0) (u .1 staged-idle) (omega (arith, staged-frames)) first-begun in
-        rw committed-world (e .below (omega (arith, staged-frames, few-differ (staged .staging) (staged .world) (u .0))))
+        let e = commit-ends (staged .staging) (staged .world) h next (staged-made .slots) (omega (arith, staged-frames)) first-begun in
+        rw committed-world (e .below (omega (arith, staged-frames, few-differ (staged .staging) (staged .world) (staged-made .slots))))
 
     committed-fine : stepFine (committed .staging) (committed .world) ≡ true
     committed-fine =
-        rw (committed-world, committed-staging) (commit-done (staged .staging) (staged .world) h next (ap isBegun first-begun) staged-made .ready .right)
+        rw (committed-world, committed-staging) (commit-done (staged .staging) (staged .world) h next (ap isBegun first-begun) (staged-made .slots) .ready .right)
 
     committed-made : Made (committed .world)
     committed-made = made-whole (Commit h next) staged staged-made
@@ -168,8 +164,8 @@ module _ (t l m g : List ℕ) (salt : ℕ) (f : createFine t l m g ≡ true) (by
       unfolding worldAfter
       folded-world = world-after (Checkpoint last) committed
 
-      fold-done : Rests (committed .staging) (todo (committed .staging) (onStore (committed .world) (beginCheckpoint (committed .staging) (committed .world) last .pager))) (committed .world) (folded .world)
-      fold-done = rw folded-world (checkpoint-done (committed .staging) (committed .world) last (ap isFolding fold-begun) committed-made)
+      fold-done : Rests (λ (n : ℕ). false) (committed .staging) (todo (committed .staging) (onStore (committed .world) (beginCheckpoint (committed .staging) (committed .world) last .pager))) (committed .world) (folded .world)
+      fold-done = rw folded-world (checkpoint-done (committed .staging) (committed .world) last (ap isFolding fold-begun) (committed-made .slots))
 
       fold-to : FoldedTo (committed .world) (folded .world)
       fold-to =

@@ -1,6 +1,6 @@
 -- A fold that is begun, run to its end: the log has its header alone, and the pages that it had are in the main file. Assumes nothing.
 use mathlib.Core.Path.{_≡_, refl, sym, ap, _∙_}
-use mathlib.Core.Bool.{true, false}
+use mathlib.Core.Bool.{Bool, true, false}
 use mathlib.Core.List.{List, [], _∷_}
 use mathlib.Core.Logic.{_⊎_, inl, inr}
 use Prim.Native.Nat.{ℕ, zero, suc, _+_, _-_, _*_, _/_, _%_, _≤_, _<_}
@@ -29,7 +29,7 @@ use Rattle.pager_state.proofs.Searches.{First, first, pages-none, pages-length}
 use Rattle.pager_state.proofs.Stored.{Lies, AllInside, length-grown, put-lies}
 use Rattle.pager_state.proofs.Entries.{part-before, folded-none}
 use Rattle.pager_state.proofs.Inside.{fold-inside}
-use Rattle.pager_state.proofs.Made.{Fine, Made, Ready, ready-fine}
+use Rattle.pager_state.proofs.Made.{Fine, ReadyOf, ready-fine}
 use Rattle.pager_state.proofs.Next.{todo-by, advance-by}
 use Rattle.pager_state.proofs.Steps.{step-keeps}
 use Rattle.pager_state.proofs.Runs.{steps-add, idle-stays}
@@ -81,7 +81,7 @@ module _ (g : List ℕ) (salt answer : ℕ) where
 
   -- ---- one step
 
-  module _ (w : World) (r : Ready g w) where
+  module _ {P : ℕ → Bool} (w : World) (r : ReadyOf P g w) where
     fold-step : (j : Job) (a : Act) (rest : List Act) → w .pager .job ≡ j → todo g w ≡ foldTodo j w → foldTodo j w ≡ a ∷ rest
         → stepped g w ≡ foldAdvance j (commitAdvance g j w)
     unfolding stepped done
@@ -115,21 +115,21 @@ module _ (g : List ℕ) (salt answer : ℕ) where
 
   -- ---- all of them
 
-  next-ready : (w v : World) → stepped g w ≡ v → Ready g w → Ready g v
+  next-ready : {P : ℕ → Bool} (w v : World) → stepped g w ≡ v → ReadyOf P g w → ReadyOf P g v
   next-ready w v e r = rw e at (step-keeps g w r)
 
-  end-run : (w : World) (p : ℕ) → w .pager .job ≡ job.Fold salt p answer → pagesFrom (folds w) p ≡ [] → Ready g w → steps g 4 w ≡ endWorld w
+  end-run : {P : ℕ → Bool} (w : World) (p : ℕ) → w .pager .job ≡ job.Fold salt p answer → pagesFrom (folds w) p ≡ [] → ReadyOf P g w → steps g 4 w ≡ endWorld w
   unfolding steps headed lengthened emptied
-  end-run w p j e r =
+  end-run {P} w p j e r =
       let w₁ : World = headed salt answer w in
       let w₂ : World = lengthened salt answer w₁ in
       let w₃ : World = emptied salt answer w₂ in
       let a : stepped g w ≡ w₁ = header-step w r p j e in
-      let s : Ready g w₁ = next-ready w w₁ a r in
+      let s : ReadyOf P g w₁ = next-ready w w₁ a r in
       let b : stepped g w₁ ≡ w₂ = length-step w₁ s refl in
-      let t : Ready g w₂ = next-ready w₁ w₂ b s in
+      let t : ReadyOf P g w₂ = next-ready w₁ w₂ b s in
       let c : stepped g w₂ ≡ w₃ = empty-step w₂ t refl in
-      let u : Ready g w₃ = next-ready w₂ w₃ c t in
+      let u : ReadyOf P g w₃ = next-ready w₂ w₃ c t in
       rw (a, b, c) (last-step w₃ u refl)
 
   paged-job : (n : ℕ) (w : World) → paged salt answer n w .pager .job ≡ job.Fold salt (suc n) answer
@@ -146,7 +146,7 @@ module _ (g : List ℕ) (salt answer : ℕ) where
   unfolding steps
   one-more k w v u a e = ap (steps g k) a ∙ e
 
-  pages-run : (l : List ℕ) (w : World) (p : ℕ) → w .pager .job ≡ job.Fold salt p answer → pagesFrom (folds w) p ≡ l → Ready g w
+  pages-run : {P : ℕ → Bool} (l : List ℕ) (w : World) (p : ℕ) → w .pager .job ≡ job.Fold salt p answer → pagesFrom (folds w) p ≡ l → ReadyOf P g w
       → steps g (length l + 4) w ≡ endWorld (pagesWorld l w)
   unfolding pagesWorld
   pages-run [] w p j e r = end-run w p j e r
@@ -156,7 +156,7 @@ module _ (g : List ℕ) (salt answer : ℕ) where
       rw suc-add (one-more (length ns + 4) w v (endWorld (pagesWorld ns v)) a (pages-run ns v (suc n) (paged-job n w) (paged-left w p n ns e) (next-ready w v a r)))
 
   -- in as many steps or more
-  pub fold-run : (k : ℕ) (w : World) → w .pager .job ≡ job.Fold salt 0 answer → Ready g w → length (pagesFrom (folds w) 0) + 4 ≤ k
+  pub fold-run : {P : ℕ → Bool} (k : ℕ) (w : World) → w .pager .job ≡ job.Fold salt 0 answer → ReadyOf P g w → length (pagesFrom (folds w) 0) + 4 ≤ k
       → steps g k w ≡ endWorld (pagesWorld (pagesFrom (folds w) 0) w)
   unfolding folded
   fold-run k w j r h =
@@ -331,17 +331,14 @@ main-entry t n e z =
 
 module _ (g : List ℕ) (w : World) (salt : ℕ) (slots : length (w .pager .staged .pages) ≡ 64) (i : FramesInside w)
     (b : checkpointStart g w ≡ checkpoint.Begun) where
-  fold-made : Made w
-  fold-made = record { slots = slots; asked = rw (checkpoint-begun g w (ap isFolding b) .idle) i }
-
   abbrev begun : World
   begun = onStore w (withJob (w .pager) (job.Fold salt 0 (folding w)))
 
   begun-is : onStore w (beginCheckpoint g w salt .pager) ≡ begun
   begun-is = rw (begun-checkpoint g w (ap isFolding b) salt)
 
-  begun-ready : Ready g begun
-  begun-ready = rw begun-is at (checkpoint-ready g w (ap isFolding b) salt fold-made)
+  begun-ready : ReadyOf (λ (n : ℕ). false) g begun
+  begun-ready = rw begun-is at (checkpoint-ready g w (ap isFolding b) salt slots)
 
   -- after the pages
   abbrev written : World

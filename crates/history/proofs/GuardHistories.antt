@@ -15,7 +15,7 @@ use Rattle.pager_state.specs.Opened as opened
 use Rattle.pager_state.proofs.Made.{Made}
 use Rattle.pager_state.proofs.Steps.{made-keeps}
 use Rattle.pager_state.proofs.Runs.{made-steps}
-use Rattle.pager_state.proofs.Begun.{commit-ready, checkpoint-ready}
+use Rattle.pager_state.proofs.Begun.{commit-made, checkpoint-made}
 use Rattle.pager_state.proofs.Opened.{open-made}
 use Rattle.pager_state.proofs.Calls.{stage-made, clear-made, observe-made, append-made}
 use Rattle.history.specs.Calls.{Lent, Call, Open, ReadHeader, ReadMode, ReadClock, ReadPage, ReadBatch, Stage, Clear, Append, Observe, Commit, Checkpoint, BeginCommit, BeginCheckpoint, Step}
@@ -47,7 +47,7 @@ module _ (m : AccessMode) (lent : Lent) (d : Disk) (w : World) (k : Made w) wher
 module _ (g : List ℕ) (w : World) (salt : ℕ) (k : Made w) where
   made-begun : (h : DbHeader) (b : Bool) → isBegun (commitStart g w h) ≡ b → Made (onStore w (beginCommit g w h salt .pager))
   unfolding beginCommit
-  made-begun h true e = commit-ready g w h e salt k .made
+  made-begun h true e = commit-made g w h e salt k .made
   made-begun h false e = rw e k
 
   made-commit : (h : DbHeader) (b : Bool) → isBegun (commitStart g w h) ≡ b → Made (commitWorld g w h salt)
@@ -57,7 +57,7 @@ module _ (g : List ℕ) (w : World) (salt : ℕ) (k : Made w) where
 
   made-folding : (b : Bool) → isFolding (checkpointStart g w) ≡ b → Made (onStore w (beginCheckpoint g w salt .pager))
   unfolding beginCheckpoint
-  made-folding true e = checkpoint-ready g w e salt k .made
+  made-folding true e = checkpoint-made g w e salt k .made
   made-folding false e = rw e k
 
   made-fold : (b : Bool) → isFolding (checkpointStart g w) ≡ b → Made (checkpointWorld g w salt)

@@ -29,7 +29,7 @@ use Rattle.pager_state.specs.declared.CommitStart.the-variants as commit
 use Rattle.pager_state.proofs.Stored.{Areas, AllInside, all-areas}
 use Rattle.pager_state.proofs.Sizes.{empty-len}
 use Rattle.pager_state.proofs.Steps.{differs-staged}
-use Rattle.pager_state.proofs.Made.{Asks, Made}
+use Rattle.pager_state.proofs.Made.{AsksOf, Made, every}
 use Rattle.pager_state.proofs.Opened.{created-made}
 use Rattle.history.specs.Run.{start}
 use Rattle.history.specs.Guards.{newStore, GoodHeader, Joined, Unrefused, withSlots, FramesInside, CommittedAlone}
@@ -141,10 +141,21 @@ create-inside salt =
       ),
     )
 
+-- what the guards of commits and folds ask, of a store as the laws of steps ask
+pub made-framed : (w : World) → Made w → (length (w .pager .staged .pages) ≡ 64) × (w .pager .job ≡ job.Idle → FramesInside w)
+made-framed w k = (k .slots, λ e n h i. subst (λ (j : Job). AsksOf every j w) e (k .asked) n h refl i)
+
 module _ (t l m g : List ℕ) (salt : ℕ) (f : createFine t l m g ≡ true) where
   new-is : newStore t l m g salt ≡ world (createdPager salt) (tableOf firstHeader []) (createdDisk l m salt .log .area) (createdDisk l m salt .main .area)
   unfolding start createTable createLog createMain
   new-is = rw f
+
+  pub new-made : Made (newStore t l m g salt)
+  new-made = rw new-is (created-made salt _ _)
+
+  pub new-idle : newStore t l m g salt .pager .job ≡ job.Idle
+  unfolding createdPager opensAs
+  new-idle = rw new-is
 
   created-areas : Areas (createdDisk l m salt)
   unfolding createdDisk
@@ -168,6 +179,7 @@ module _ (t l m g : List ℕ) (salt : ℕ) (f : createFine t l m g ≡ true) whe
         logFile = rw n (omega (arith, empty-len (createdHeader salt)));
         mainFile = rw n (omega arith);
         pages = rw n (omega arith);
+        compared = λ i z o q. made-framed (newStore t l m g salt) new-made .1 new-idle i z q;
         rests = rw n;
         writes = rw n;
         header = k;
@@ -197,20 +209,9 @@ module _ (w : World) (z : w .pager .staged .count ≡ 0) where
   unfolding differing pagesFrom
   none-differ g = ap length (none-among (differs g w) 1024 0 (λ n e. no-test (sym (none-staged n) ∙ differs-staged g w n e)))
 
--- what the guards of commits and folds ask, of a store as the laws of steps ask
-pub made-framed : (w : World) → Made w → (length (w .pager .staged .pages) ≡ 64) × (w .pager .job ≡ job.Idle → FramesInside w)
-made-framed w k = (k .slots, λ e. subst (λ (j : Job). Asks j w) e (k .asked))
-
 module _ (t l m g : List ℕ) (salt : ℕ) (f : createFine t l m g ≡ true) where
   abbrev new : World
   new = newStore t l m g salt
-
-  pub new-made : Made new
-  new-made = rw (new-is t l m g salt f) (created-made salt _ _)
-
-  pub new-idle : new .pager .job ≡ job.Idle
-  unfolding createdPager opensAs
-  new-idle = rw (new-is t l m g salt f)
 
   pub new-writes : readOnly (new .pager) ≡ false
   unfolding createdPager opensAs
@@ -234,12 +235,11 @@ module _ (t l m g : List ℕ) (salt : ℕ) (f : createFine t l m g ≡ true) whe
   module _ (h : DbHeader) (k : GoodHeader h) (c : countOf h ≤ 2) where
     alone-begun : commitStart g new h ≡ commit.Begun
     alone-begun =
-        new-begun t l m g salt f (new .pager .staged) (new-made .slots) h k (λ n a b d. absurd (omega (arith, new-count, b, c, d))) g (fine-create t l m g f .staging)
+        new-begun t l m g salt f (new .pager .staged) (new-made t l m g salt f .slots) h k (λ n a b d. absurd (omega (arith, new-count, b, c, d))) g (fine-create t l m g f .staging)
 
     pub committed-alone : (next : ℕ) → CommittedAlone g new h next
     committed-alone next =
-        let i : FramesInside new = made-framed new new-made .1 new-idle in
-        let e = commit-ends g new h next (new-made .slots) i (omega (arith, new-frames)) alone-begun in
+        let e = commit-ends g new h next (new-made t l m g salt f .slots) (omega (arith, new-frames)) alone-begun in
         let v = e .below (omega (arith, new-frames, none-counted)) in
         record {
           begun = alone-begun;

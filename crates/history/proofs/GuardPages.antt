@@ -35,12 +35,12 @@ module _ (r : Run) (k : Made (r .world)) (salt : ℕ) where
   unfolding worldAfter refusedBy
   commit-rests h e =
       rw (world-after (Commit h salt) r)
-      (commit-done (r .staging) (r .world) h salt (commit-unrefused (commitStart (r .staging) (r .world) h) e) k .idle)
+      (commit-done (r .staging) (r .world) h salt (commit-unrefused (commitStart (r .staging) (r .world) h) e) (k .slots) .idle)
 
   fold-by : r .world .pager .job ≡ job.Idle → (b : Bool) → isFolding (checkpointStart (r .staging) (r .world)) ≡ b
       → checkpointWorld (r .staging) (r .world) salt .pager .job ≡ job.Idle
   unfolding checkpointWorld
-  fold-by i true e = checkpoint-done (r .staging) (r .world) salt e k .idle
+  fold-by i true e = checkpoint-done (r .staging) (r .world) salt e (k .slots) .idle
   fold-by i false e = rw e i
 
   fold-rests : r .world .pager .job ≡ job.Idle → Accepted (Checkpoint salt) r → whole (Checkpoint salt) r .world .pager .job ≡ job.Idle

@@ -17,10 +17,10 @@ use Rattle.header.specs.declared.DbHeader.{DbHeader}
 use Rattle.mvcc.specs.Seen.{refusalOf}
 use Rattle.wal.specs.Write.{hasRoom}
 use Rattle.pager_state.specs.World.{World, pageLimit, countOf, headerOf, logFine, busy, readOnly}
-use Rattle.pager_state.specs.Overlay.{isStaged}
+use Rattle.pager_state.specs.Overlay.{stagedPages, isStaged}
 use Rattle.pager_state.specs.Pages.{pagesFrom, firstOf, lacks}
 use Rattle.pager_state.specs.Batches.{appendAnswer, appendRefusal, decodedAs}
-use Rattle.pager_state.specs.Steps.{headerGood, differing, lacking, roomFor, commitStart, commitRefusal, stepFine}
+use Rattle.pager_state.specs.Steps.{headerGood, differing, lacking, roomFor, allBefore, commitFine, commitStart, commitRefusal, stepFine}
 use Rattle.pager_state.specs.declared.Pager.{Pager}
 use Rattle.pager_state.specs.declared.Staged.{Staged}
 use Rattle.pager_state.specs.declared.CommitStart.{CommitStart}
@@ -28,6 +28,7 @@ use Rattle.pager_state.specs.declared.CommitStart.the-variants as commit
 use Rattle.pager_state.specs.declared.BatchAnswer.the-variants as append
 use Rattle.pager_state.proofs.Searches.{no-lowest, lowest, pages-none}
 use Rattle.pager_state.proofs.Made.{Fine, ready-fine, fine-ready}
+use Rattle.pager_state.proofs.Before.{stands-frame, before-staged, staged-before}
 use Rattle.pager_state.proofs.Begun.{not-busy}
 use Rattle.history.specs.Guards.{GoodHeader, Joined, Unrefused, Full, UnrefusedBatch}
 
@@ -109,12 +110,13 @@ module _ (g : List ℕ) (w : World) (h : DbHeader) where
       → Unrefused g w h × (commitRefusal last-test ≡ k)
   unfolding commitStart last-test
   past k e n₁ n₉ n₁₀ n₁₃ n₁₄ =
-      let a = chosen commitRefusal (stepFine g w) _ commit.Area (λ z. n₁ (sym z)) e in
+      let a = chosen commitRefusal (commitFine g w) _ commit.Area (λ z. n₁ (sym z)) e in
       let b = passed commitRefusal (busy (w .pager)) _ commit.Busy (λ z. n₉ (sym z)) (a .1) in
       let c = passed commitRefusal (readOnly (w .pager)) _ commit.ReadOnly (λ z. n₁₀ (sym z)) (b .1) in
       let d = chosen commitRefusal (headerGood h) _ commit.NewHeader (λ z. n₁₃ (sym z)) (c .1) in
       let i = passed commitRefusal (ltb (lacking w h) pageLimit) _ (commit.Joining (lacking w h)) (λ z. n₁₄ (sym z)) (d .1) in
-      let f = ready-fine g w (a .0) in
+      let t = both-true (stepFine g w) (allBefore (w .table) (w .pager .wal .len) (stagedPages (w .pager .staged))) (a .0) in
+      let f = ready-fine g w (t .0) in
       let k = good-header h (d .0) in (
         record {
           table = f .0 .table;
@@ -124,6 +126,7 @@ module _ (g : List ℕ) (w : World) (h : DbHeader) where
           logFile = f .0 .files .log .len;
           mainFile = f .0 .files .main .len;
           pages = f .0 .count;
+          compared = λ n l o i. stands-frame (w .table) (w .pager .wal .len) n (before-staged (w .table) (w .pager .wal .len) (w .pager .staged) (t .1) n o) i;
           rests = not-busy (w .pager .job) (b .0);
           writes = c .0;
           header = k;
@@ -144,7 +147,7 @@ module _ (g : List ℕ) (w : World) (h : DbHeader) where
   reached : Unrefused g w h → commitStart g w h ≡ last-test
   unfolding commitStart last-test lacking differing
   reached u =
-      rw (fine-ready g w (unrefused-fine u) (u .staging), u .rests, u .writes, header-good h (u .header), by-joined w h (u .joined))
+      rw (fine-ready g w (unrefused-fine u) (u .staging), staged-before (w .table) (w .pager .wal .len) (w .pager .staged) (λ n l o i. u .compared n (omega (arith, u .table, l)) o i), u .rests, u .writes, header-good h (u .header), by-joined w h (u .joined))
 
   pub full-told : commitStart g w h ≡ commit.LogFull → Unrefused g w h × Full (w .pager) (differing g w + 1)
   unfolding last-test

@@ -64,7 +64,7 @@ new-commit t l m g salt f s z h k j staging e = new-begun t l m g salt f s z h k
 
 pub commit-end : CommitEndsGuard
 unfolding CommitEndsGuard
-commit-end g w h salt z i few b = commit-ends g w h salt z i few b
+commit-end g w h salt z few b = commit-ends g w h salt z few b
 
 pub empty-commit : EmptyCommitGuard
 unfolding EmptyCommitGuard

@@ -52,6 +52,10 @@ pub record GoodHeader (h : DbHeader) : Type 0 where
 abbrev pub Joined : World → DbHeader → Type 0
 Joined w h = (n : ℕ) → 1 ≤ n → countOf (headerOf (w .pager)) ≤ n → n < countOf h → isStaged (w .pager .staged) n ≡ true
 
+-- not 1, of the table: what staged pages are compared with lies inside the log
+abbrev pub Compared : World → Type 0
+Compared w = (n : ℕ) → n < 1024 → isStaged (w .pager .staged) n ≡ true → inLog (w .table) n ≡ true → frameOf (w .table) n + 4112 ≤ w .pager .wal .len
+
 -- of a commit's refusals 1, 9, 10, 13 and 14 none applies
 pub record Unrefused (g : List ℕ) (w : World) (h : DbHeader) : Type 0 where
   pub table : length (w .table) ≡ 1024
@@ -61,6 +65,7 @@ pub record Unrefused (g : List ℕ) (w : World) (h : DbHeader) : Type 0 where
   pub logFile : w .pager .wal .len ≤ 4210720
   pub mainFile : w .pager .storage .len ≤ 4194304
   pub pages : countOf (headerOf (w .pager)) ≤ 1024
+  pub compared : Compared w
   pub rests : w .pager .job ≡ job.Idle
   pub writes : readOnly (w .pager) ≡ false
   pub header : GoodHeader h
@@ -116,10 +121,6 @@ CommitGuard =
 
 -- ---- what a commit that is begun comes to
 
--- the frames that the table names lie inside the log
-abbrev pub FramesInside : World → Type 0
-FramesInside w = (n : ℕ) → n < 1024 → inLog (w .table) n ≡ true → frameOf (w .table) n + 4112 ≤ w .pager .wal .len
-
 -- v is w with a log longer by so many frames and nothing staged, at rest
 pub record LongerBy (w v : World) (n : ℕ) : Type 0 where
   pub rests : v .pager .job ≡ job.Idle
@@ -141,10 +142,10 @@ pub record Ends (g : List ℕ) (w : World) (h : DbHeader) (salt : ℕ) : Type 0 
   pub below : w .pager .wal .«frame_count» + (differing g w + 1) < 100 → LongerBy w (commitWorld g w h salt) (differing g w + 1)
   pub above : 100 ≤ w .pager .wal .«frame_count» + (differing g w + 1) → Empty (commitWorld g w h salt)
 
--- in any store whose table names frames of its log
+-- in any store, made up or not, whose frame count does not wrap
 unfoldable pub CommitEndsGuard : Type 0
 CommitEndsGuard =
-    (g : List ℕ) (w : World) (h : DbHeader) (salt : ℕ) → length (w .pager .staged .pages) ≡ 64 → FramesInside w → w .pager .wal .«frame_count» ≤ 1024
+    (g : List ℕ) (w : World) (h : DbHeader) (salt : ℕ) → length (w .pager .staged .pages) ≡ 64 → w .pager .wal .«frame_count» ≤ 1024
     → commitStart g w h ≡ commit.Begun → Ends g w h salt
 
 -- with nothing staged in a new store: one frame, the seal
@@ -172,6 +173,10 @@ pub record FoldedTo (w v : World) : Type 0 where
   pub stayed : (n : ℕ) → 1 ≤ n → n < countOf (headerOf (w .pager)) → inLog (w .table) n ≡ false → onMain (w .table) n ≡ true
       → 4096 * suc n ≤ w .pager .storage .len → (pageFrom (4096 * n) (v .main) ≡ pageFrom (4096 * n) (w .main)) × (onMain (v .table) n ≡ true)
 
+-- the frames that the table names lie inside the log
+abbrev pub FramesInside : World → Type 0
+FramesInside w = (n : ℕ) → n < 1024 → inLog (w .table) n ≡ true → frameOf (w .table) n + 4112 ≤ w .pager .wal .len
+
 -- "It answers the pages written"
 unfoldable pub FoldGuard : Type 0
 FoldGuard =
@@ -192,7 +197,7 @@ AtFirst P = (t l m g : List ℕ) (salt : ℕ) → createFine t l m g ≡ true �
 abbrev pub Always : (Run → Type 0) → Type 0
 Always P = AtFirst (λ (r : Run). (es : List Event) → AllTyped es → P (after es r))
 
--- what the guards of commits and folds ask
+-- what the guards of commits and folds ask, and more
 abbrev pub Sound : Run → Type 0
 Sound r = (length (r .world .pager .staged .pages) ≡ 64) × (r .world .pager .job ≡ job.Idle → FramesInside (r .world))
 

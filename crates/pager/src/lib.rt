@@ -161,7 +161,7 @@ pub fn commit<'a>(
             pager: store,
         };
     }
-    let end = run_steps(store, run.steps, table, log, main, staging);
+    let end = run_steps(store, run.pages + 1, table, log, main, staging);
     Committed { answer, pager: end }
 }
 

@@ -73,25 +73,22 @@ frame-stored l v q body n b o =
     rw (length-encodeFrame q 0 (v .header .salt) body b) (omega (arith, h, n)) in
     rw (eq-eqb (length body) 4096 b) (store-put l (v .len) (encodeFrame q 0 (v .header .salt) body) j)
 
--- a frame that was not appended had no room
-pub no-room : (r : FrameAppended) (v : Wal) (o : Bool) → r ≡ pick o (appended.Appended v) appended.LogFull → (tagOf F.the-type r ≡ 1) ⊎ (tagOf F.the-type r ≡ 2)
-    → o ≡ false
-no-room r v true e k = let z : tagOf F.the-type r ≡ 0 = ap (tagOf F.the-type) e in ⊎-elim (λ (n : tagOf F.the-type r ≡ 1). absurd (omega arith)) (λ (n : tagOf F.the-type r ≡ 2). absurd (omega arith)) k
-no-room r v false e k = refl
+-- a frame that has room is appended
+pub not-full : {A : Type 0} (r : FrameAppended) (v : Wal) → r ≡ appended.Appended v → (tagOf F.the-type r ≡ 1) ⊎ (tagOf F.the-type r ≡ 2) → A
+not-full r v e k = let z : tagOf F.the-type r ≡ 0 = ap (tagOf F.the-type) e in ⊎-elim (λ (n : tagOf F.the-type r ≡ 1). absurd (omega arith)) (λ (n : tagOf F.the-type r ≡ 2). absurd (omega arith)) k
 
-pub has-room : (r : FrameAppended) (u v : Wal) (o : Bool) → r ≡ pick o (appended.Appended v) appended.LogFull → r ≡ appended.Appended u → (o ≡ true) × (u ≡ v)
-has-room r u v true e f = (refl, cc)
-has-room r u v false e f = absurd (let z : _≡_ {A = ℕ} 0 1 = cc in omega arith)
+pub appended-is : (r : FrameAppended) (u v : Wal) → r ≡ appended.Appended v → r ≡ appended.Appended u → u ≡ v
+appended-is r u v e f = cc
 
 -- a page of the header's fields and zeros is the header's page
-pub seal-stored : (l : List ℕ) (v : Wal) (h : DbHeader) {x y : List ℕ} {r : FrameAppended} → length l ≡ 4210720 → v .len + 4112 ≤ 4210720
+pub seal-stored : (l : List ℕ) (v : Wal) (h : DbHeader) {x y : List ℕ} {r : FrameAppended} → length l ≡ 4210720 → hasRoom v ≡ true
     → x ≡ headerFields h → r ≡ appendAnswer l v 0 (frontPage x) (countOf h) → y ≡ appendAfter l v 0 (frontPage x) (countOf h)
-    → (r ≡ pick (hasRoom v) (appended.Appended (withFrame v (countOf h))) appended.LogFull) × (y ≡ pick (hasRoom v) (sealPut l v h) l)
+    → (r ≡ appended.Appended (withFrame v (countOf h))) × (y ≡ sealPut l v h)
 unfolding appendAnswer appendAfter encodeHeader
-seal-stored l v h n k e a b =
+seal-stored l v h n t e a b =
     let z : length (frontPage (headerFields h)) ≡ 4096 = length-padded (headerFields h) (length-headerFields h) in
-    let f : v .len ≤ 4210720 = omega arith in
-    let t = le-leb (v .len + 4112) 4210720 k in
+    let k : v .len + 4112 ≤ 4210720 = leb-true _ _ t in
+    let f : v .len ≤ 4210720 = omega (arith, k) in
     (a ∙ rw (e, eq-eqb _ _ z, eq-eqb _ _ n, le-leb _ _ f, t), b ∙ rw (e, eq-eqb _ _ z, eq-eqb _ _ n, le-leb _ _ f, t))
 
 -- ---- a page's frame

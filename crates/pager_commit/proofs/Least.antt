@@ -1,33 +1,22 @@
 -- The search for the lowest page of a list that is not below another. Assumes nothing.
 use mathlib.Core.Path.{_≡_, refl, sym, ap, _∙_}
 use mathlib.Core.Bool.{Bool, true, false}
-use mathlib.Core.List.{List, [], _∷_}
+use mathlib.Core.List.{List, []}
 use mathlib.Core.Logic.{⊎-elim}
-use Prim.Native.Nat.{ℕ, zero, suc, _+_, _%_, _≤_, _<_, min}
+use Prim.Native.Nat.{ℕ, _+_, _%_, _≤_, _<_, min}
 use native.Mathlib.Omega.{arith}
-use borrow.Author.Tests.{eq-eqb, lt-ltb, ltb-true}
-use lib.Dec.{ltb, eqb}
+use borrow.Author.Tests.{lt-ltb, ltb-true}
+use lib.Dec.{ltb}
 use lib.ListN.{length, take, getD, length-take}
 use lib.Seq.{getD-take}
-use Rattle.le.specs.Choice.{pick}
 use Rattle.le.proofs.Tests.{le-or-lt, eq-or-not}
 use Rattle.pager_state.specs.Overlay.{findIn}
 use Rattle.pager_state.specs.Pages.{pagesFrom, firstOf}
-use Rattle.pager_state.proofs.Slots.{find-there}
+use Rattle.pager_state.proofs.Slots.{find-there, find-most}
 use Rattle.pager_state.proofs.Walks.{first-is, none-is}
 use Rattle.pager_commit.specs.CommitStep.{isIn}
 
 -- ---- where a list has a page
-
-find-most-at : (y x : ℕ) (l : List ℕ) (j : ℕ) (b : Bool) → eqb y x ≡ b → findIn l x ≤ j → pick b 0 (suc (findIn l x)) ≤ suc j
-find-most-at y x l j true e h = omega arith
-find-most-at y x l j false e h = omega arith
-
--- it is found there or before
-pub find-most : (l : List ℕ) (j x : ℕ) → j < length l → getD l j 0 ≡ x → findIn l x ≤ j
-find-most [] j x h e = absurd (omega arith)
-find-most (y ∷ l) zero x h e = rw (eq-eqb y x e) (omega arith)
-find-most (y ∷ l) (suc j) x h e = find-most-at y x l j (eqb y x) refl (find-most l j x (omega arith) e)
 
 -- a page that stands nowhere
 not-by : (l : List ℕ) (x : ℕ) → ((j : ℕ) → j < length l → getD l j 0 ≡ x → ⊥) → (b : Bool) → ltb (findIn l x) (length l) ≡ b → b ≡ false

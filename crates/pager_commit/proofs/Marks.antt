@@ -15,11 +15,12 @@ use Rattle.le.proofs.Tests.{eq-or-not}
 use Rattle.le.proofs.Compare.{both-true}
 use Rattle.pager_state.specs.Overlay.{findIn, stagedPages, slotOf, isStaged, frameOf, inLog, onMain, entry, logBytes}
 use Rattle.pager_state.specs.Commit.{entered}
+use Rattle.pager_state.specs.Steps.{standsBefore, allBefore}
 use Rattle.pager_state.specs.declared.Staged.{Staged}
 use Rattle.pager_state.proofs.Entries.{frame-other, log-other, main-other, part-before}
-use Rattle.pager_state.proofs.Slots.{find-there}
-use Rattle.pager_commit.specs.CommitStep.{isIn, committedIn, slotDiffers, differsIn, countsAt, standsBefore, Marking}
-use Rattle.pager_commit.proofs.Least.{find-most}
+use Rattle.pager_state.proofs.Slots.{find-there, find-most}
+use Rattle.pager_state.proofs.Before.{before-staged}
+use Rattle.pager_commit.specs.CommitStep.{isIn, committedIn, slotDiffers, differsIn, countsAt, Marking}
 use Rattle.pager_commit.proofs.Differing.{counts-told}
 
 -- ---- a frame more
@@ -97,20 +98,6 @@ module _ (s : Staged) (g t l m : List ℕ) where
   unfolding slotOf
   marks-step i k h e f y b = marks-more i k h (b ∙ rw (y, f, e))
 
-  -- no frame from len on changes what the first i slots are compared with
-  abbrev pub Still : ℕ → ℕ → Type 0
-  Still len i = (j : ℕ) → j < i → standsBefore t (pageAt j) len ≡ true
-
-  pub still-none : (len : ℕ) → Still len 0
-  still-none len j h = absurd (omega (arith, h))
-
-  pub still-step : (len i : ℕ) {page : ℕ} {still yes : Bool} → page ≡ pageAt i → yes ≡ standsBefore t page len → (still ≡ true → Still len i)
-      → both still yes ≡ true → Still len (i + 1)
-  still-step len i {page} {still} {yes} e y k b j h =
-      let c = both-true still yes b in
-      let z : standsBefore t (pageAt i) len ≡ true = rw (← e) (sym y ∙ c .1) in
-      ⊎-elim (λ (n : j ≡ i). rw n z) (λ n. k (c .0) j (omega (arith, h, n))) (eq-or-not j i)
-
   -- ---- all of them
 
   module _ (i : ℕ) {marks : List ℕ} (k : Marks i marks) (e : i ≡ length (stagedPages s)) (long : length (s .pages) ≡ 64) where
@@ -176,10 +163,10 @@ module _ (s : Staged) (g t l m : List ℕ) where
     same-by n h false true x y = sym x ∙ has-mark n h y
     same-by n h false false x y = refl
 
-    pub marks-all : (len : ℕ) → Still len i → Marking g m s len t l L 0
+    pub marks-all : (len : ℕ) → allBefore t len (stagedPages s) ≡ true → Marking g m s len t l L 0
     marks-all len z =
         record {
           same = λ n a h. same-by n h (isIn L n) (differsIn s g t l m n) refl refl;
           slot = λ n h o. sym (found-mark n h o .1);
-          still = λ n a h o. rw (slot-has n o) at (z (slotOf s n) (slot-in n o));
+          still = λ n a h o. before-staged t len s z n o;
         }

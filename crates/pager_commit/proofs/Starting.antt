@@ -15,9 +15,10 @@ use Rattle.le.proofs.Compare.{both-true, no-test}
 use Rattle.header.specs.Header.{isVersion}
 use Rattle.header.specs.declared.DbHeader.{DbHeader}
 use Rattle.pager_state.specs.World.{World, countOf, headerOf, busy, readOnly, withJob}
+use Rattle.pager_state.specs.Overlay.{stagedPages}
 use Rattle.pager_state.specs.Pages.{pagesFrom, firstOf, differs, lacks}
 use Rattle.pager_state.specs.Commit.{framesTodo, framesAdvance, commitTodo, commitAdvance}
-use Rattle.pager_state.specs.Steps.{answerOf, named, done, stepFine, headerGood, differing, lacking, commitStart, isBegun, beginCommit, steps, onStore}
+use Rattle.pager_state.specs.Steps.{answerOf, named, done, stepFine, headerGood, differing, lacking, allBefore, commitFine, commitStart, isBegun, beginCommit, steps, onStore}
 use Rattle.pager_state.specs.declared.Job.{Job}
 use Rattle.pager_state.specs.declared.Job.the-variants as job
 use Rattle.pager_state.specs.declared.Pager.{Pager}
@@ -27,7 +28,7 @@ use Rattle.pager_state.specs.declared.CommitStart.{CommitStart}
 use Rattle.pager_state.specs.declared.CommitStart.the-variants as commit
 use Rattle.pager_state.proofs.Begun.{CommitBegun, commit-begun}
 use Rattle.pager_state.proofs.Job as J
-use Rattle.pager_commit.specs.CommitStep.{commitStepAnswer, commitStepped, isIn, differsIn, Marking, startedAs}
+use Rattle.pager_commit.specs.CommitStep.{commitStepAnswer, commitStepped, commitSealed, isIn, differsIn, Marking, startedAs}
 use Rattle.pager_commit.proofs.Differing.{differs-by}
 use Rattle.pager_commit.proofs.Whole.{marked-few}
 
@@ -95,15 +96,24 @@ module _ (g : List ℕ) (w : World) (h : DbHeader) where
   refused a e b k = (k .0 ∙ sym e, k .1 ∙ rw (e, b))
 
   -- of a refusal nothing is marked
-  pub not-begun : {A : Type 0} {a x : CommitStart} {n : ℕ} {still : Bool} → ((x ≡ a) × (n ≡ 0) → Judges x n) → (x ≡ a) × ((n ≡ 0) × (still ≡ false))
-      → (x ≡ commitStart g w h) × ((n ≡ pick (isBegun (commitStart g w h)) (differing g w) 0) × (still ≡ true → A))
-  not-begun f k = let j = f (k .0, k .1 .0) in (j .0, (j .1, λ z. no-test (sym (k .1 .1) ∙ z)))
+  pub not-begun : {A : Type 0} {a x : CommitStart} {n : ℕ} → isBegun a ≡ false → ((x ≡ a) × (n ≡ 0) → Judges x n) → (x ≡ a) × (n ≡ 0)
+      → (x ≡ commitStart g w h) × ((n ≡ pick (isBegun (commitStart g w h)) (differing g w) 0) × (isBegun x ≡ true → A))
+  not-begun b f k = let j = f k in (j .0, (j .1, λ z. no-test (sym b ∙ sym (ap isBegun (k .0)) ∙ z)))
 
+  -- 1, of the lengths and of the table
   pub start-area : {x : CommitStart} {n : ℕ} → stepFine g w ≡ false → (x ≡ commit.Area) × (n ≡ 0) → Judges x n
   unfolding commitStart
   start-area a k = refused commit.Area (rw a) refl k
 
-  module _ (a : stepFine g w ≡ true) where
+  pub start-table : {x : CommitStart} {n : ℕ} → stepFine g w ≡ true → allBefore (w .table) (w .pager .wal .len) (stagedPages (w .pager .staged)) ≡ false
+      → (x ≡ commit.Area) × (n ≡ 0) → Judges x n
+  unfolding commitStart
+  start-table a b k = refused commit.Area (rw (a, b)) refl k
+
+  pub both-fine : stepFine g w ≡ true → allBefore (w .table) (w .pager .wal .len) (stagedPages (w .pager .staged)) ≡ true → commitFine g w ≡ true
+  both-fine a b = rw (a, b)
+
+  module _ (a : commitFine g w ≡ true) where
     pub start-busy : {x : CommitStart} {n : ℕ} → busy (w .pager) ≡ true → (x ≡ commit.Busy) × (n ≡ 0) → Judges x n
     unfolding commitStart
     start-busy b k = refused commit.Busy (rw (a, b)) refl k
@@ -160,27 +170,29 @@ module _ (g : List ℕ) (w : World) (h : DbHeader) where
         let k : n ≡ differing g w = j .1 ∙ rw e in
         rw (j .0, f, k, e)
 
-    -- and in one call, k steps on
-    abbrev After : ℕ → World
-    After k = pick (isBegun (commitStart g w h)) (steps g k (onStore w (beginCommit g w h salt .pager))) w
-
-    pub run-refused : isBegun x ≡ false → w ≡ After 0
+    -- and in one call, up to the seal
+    pub run-refused : isBegun x ≡ false → w ≡ commitSealed g w h salt
+    unfolding commitSealed
     run-refused b = let e : isBegun (commitStart g w h) ≡ false = sym (ap isBegun (j .0)) ∙ b in rw e
 
-    pub run-begun : (k : ℕ) {v : World} → isBegun x ≡ true → v ≡ steps g k (onStore w (withJob (w .pager) (job.Commit h salt 0 n))) → v ≡ After k
-    unfolding beginCommit
-    run-begun k b f =
+    pub run-begun : (k : ℕ) {v : World} → isBegun x ≡ true → k ≡ differing g w → v ≡ steps g (k + 1) (onStore w (withJob (w .pager) (job.Commit h salt 0 n)))
+        → v ≡ commitSealed g w h salt
+    unfolding commitSealed beginCommit
+    run-begun k b q f =
         let e : isBegun (commitStart g w h) ≡ true = sym (ap isBegun (j .0)) ∙ b in
         let d : n ≡ differing g w = j .1 ∙ rw e in
-        f ∙ rw (d, e)
+        f ∙ rw (q, d, e)
 
     pub begun-told : isBegun x ≡ true → CommitBegun g w h
     begun-told b = commit-begun g w h (sym (ap isBegun (j .0)) ∙ b)
 
-    -- the frames of the marked pages and the seal have room
+    -- as many are marked as differ
+    pub marked-all : {marks : List ℕ} → Marking g (w .main) (w .pager .staged) (w .pager .wal .len) (w .table) (w .log) marks 0
+        → length (pagesFrom (isIn marks) 0) ≡ differing g w
+    unfolding differing
+    marked-all k = marked-few 0 k ∙ ap length (differs-by g w 0)
+
+    -- their frames and the seal have room
     pub begun-room : {marks : List ℕ} → isBegun x ≡ true → Marking g (w .main) (w .pager .staged) (w .pager .wal .len) (w .table) (w .log) marks 0
         → w .pager .wal .len + 4112 * (length (pagesFrom (isIn marks) 0) + 1) ≤ 4210720
-    unfolding differing
-    begun-room b k =
-        let e = marked-few 0 k ∙ ap length (differs-by g w 0) in
-        rw e (begun-told b .room)
+    begun-room b k = rw (marked-all k) (begun-told b .room)

@@ -59,10 +59,6 @@ module _ (g m : List ℕ) (s : Staged) (u : Wal) (t l : List ℕ) where
   unfolding steps
   run-none p h salt n es ev f = rw (← ev) refl
 
-  -- areas that stay as they are
-  pub run-still : (k page : ℕ) {v : Wal} {t′ l′ t″ l″ : List ℕ} → FramesRun g m s u t l k page v t′ l′ → t″ ≡ t′ → l″ ≡ l′ → FramesRun g m s u t l k page v t″ l″
-  run-still k page r et el p h salt n es ev f = rw (et, el) (r p h salt n es ev f)
-
   module _ (k page : ℕ) {v : Wal} {t′ l′ : List ℕ} (r : FramesRun g m s u t l k page v t′ l′) (nt : length t′ ≡ 1024) (nl : length l′ ≡ 4210720) (nv : v .len ≤ 4210720) where
     -- a page's frame
     pub run-frame : (q index : ℕ) {v″ : Wal} {t″ l″ : List ℕ} → length g ≡ 262144
@@ -89,6 +85,13 @@ room-left f len {page} {q} {next} p e h =
     let n = ap length (p .split) in
     let z = ap (λ (i : ℕ). length (pagesFrom f i)) (add-one q) in
     omega (arith, n, z, e, h)
+
+-- and is counted
+pub counted : (f : ℕ → Bool) (count : ℕ) {page q n : ℕ} → First f page q → count + length (pagesFrom f page) ≡ n → count + 1 + length (pagesFrom f (q + 1)) ≡ n
+counted f count {page} {q} p e =
+    let n = ap length (p .split) in
+    let z = ap (λ (i : ℕ). length (pagesFrom f i)) (add-one q) in
+    omega (arith, n, z, e)
 
 module _ {g m : List ℕ} {s : Staged} {len : ℕ} {t l marks : List ℕ} (page : ℕ) (k : Marking g m s len t l marks page) where
   -- the marked pages are those that differ
@@ -122,11 +125,6 @@ run-mark g m s u t l k page {v} {t′} {l′} {marks} r nt nl nv q index ng z p 
 
 module _ (g m : List ℕ) (p : Pager) (h : DbHeader) (salt n : ℕ) (t l : List ℕ) (f : stepFine g (world p t l m) ≡ true) (k page : ℕ) {v : Wal} {t′ l′ : List ℕ}
     (r : FramesRun g m (p .staged) (p .wal) t l k page v t′ l′) where
-  -- the frames alone: the commit is still under way
-  pub run-open : {q : Pager} → q ≡ withJob (withWal p v) (job.Commit h salt page n)
-      → world q t′ l′ m ≡ steps g k (world (withJob p (job.Commit h salt 0 n)) t l m)
-  run-open e = rw e (r p h salt n refl refl f)
-
   pub run-sealed : {q : Pager} {v″ : Wal} {t″ l″ : List ℕ} → length t′ ≡ 1024 → length l′ ≡ 4210720 → v .len ≤ 4210720
       → pagesFrom (differsIn (p .staged) g t′ l′ m) page ≡ [] → hasRoom v ≡ true → v″ ≡ withFrame v (countOf h) → q ≡ sealedWith h salt n v″ p
       → t″ ≡ entered t′ 0 (v .len) → l″ ≡ sealPut l′ v h

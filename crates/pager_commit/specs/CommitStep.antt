@@ -3,20 +3,20 @@ use mathlib.Core.Path.{_≡_}
 use mathlib.Core.Bool.{Bool, true, not}
 use mathlib.Core.List.{List, []}
 use Prim.Native.Nat.{ℕ, _+_, _*_, _≤_, _<_}
-use lib.Dec.{leb, ltb, eqb}
+use lib.Dec.{ltb, eqb}
 use lib.ListN.{length}
 use Rattle.le.specs.Choice.{pick, both}
 use Rattle.le.specs.Le.{sameBytes, put}
 use Rattle.page.specs.Page.{pageSize}
 use Rattle.header.specs.Header.{encodeHeader}
 use Rattle.header.specs.declared.DbHeader.{DbHeader}
-use Rattle.frame.specs.Frame.{frameSize, encodeFrame}
+use Rattle.frame.specs.Frame.{encodeFrame}
 use Rattle.wal.specs.declared.Wal.{Wal}
 use Rattle.pager_state.specs.World.{World, world, pageLimit, countOf, withJob, withWal, noneStaged}
-use Rattle.pager_state.specs.Overlay.{pageFrom, findIn, slotOf, isStaged, frameOf, inLog, onMain, mainAt, logBytes}
+use Rattle.pager_state.specs.Overlay.{pageFrom, findIn, slotOf, isStaged, inLog, onMain, mainAt, logBytes}
 use Rattle.pager_state.specs.Pages.{pagesFrom}
 use Rattle.pager_state.specs.Commit.{jobAfter, commitTodo, commitAdvance}
-use Rattle.pager_state.specs.Steps.{answerOf, named, done, stepFine, steps}
+use Rattle.pager_state.specs.Steps.{standsBefore, commitStart, isBegun, differing, beginCommit, answerOf, named, done, stepFine, steps, onStore}
 use Rattle.pager_state.specs.declared.Job.the-variants as job
 use Rattle.pager_state.specs.declared.Staged.{Staged}
 use Rattle.pager_state.specs.declared.Pager.{Pager}
@@ -32,6 +32,12 @@ commitStepAnswer g w = pick (stepFine g w) (named (answerOf (w .pager .job)) (co
 
 unfoldable pub commitStepped : List ℕ → World → World
 commitStepped g w = pick (stepFine g w) (done (commitTodo g (w .pager .job) w) (commitAdvance g (w .pager .job) w) w) w
+
+-- ---- a commit up to its seal
+
+-- begun, and as many steps as pages differ, and one; a refusal leaves the world
+unfoldable pub commitSealed : List ℕ → World → DbHeader → ℕ → World
+commitSealed g w h salt = pick (isBegun (commitStart g w h)) (steps g (differing g w + 1) (onStore w (beginCommit g w h salt .pager))) w
 
 -- ---- its parts
 
@@ -78,14 +84,10 @@ sealPut l v h = put l (v .len) (encodeFrame 0 (countOf h) (v .header .salt) (enc
 abbrev pub startedAs : CommitStart → Pager → CommitStarted
 startedAs a p = record { answer = a; pager = p }
 
-abbrev pub ranAs : CommitStart → ℕ → Pager → ℕ → CommitRun
-ranAs a n p k = record { answer = a; pages = n; pager = p; steps = k }
+abbrev pub ranAs : CommitStart → ℕ → Pager → CommitRun
+ranAs a n p = record { answer = a; pages = n; pager = p }
 
 -- ---- a commit's steps in one call
-
--- a page's frame in the log, if it has one, ends at len or before
-abbrev pub standsBefore : List ℕ → ℕ → ℕ → Bool
-standsBefore t n len = pick (inLog t n) (leb (frameOf t n + frameSize) len) true
 
 -- among the marks stand just the pages from `page` on that differ, each in its slot; and a frame stored at len or behind changes no
 -- bytes that a staged page from there on is compared with

@@ -10,12 +10,12 @@ ghost use Rattle.header.specs.Header.{encodeHeader};
 ghost use Rattle.frame.specs.Frame.{encodeFrame};
 ghost use Rattle.wal.specs.Write.{withFrame, hasRoom};
 ghost use Rattle.pager_state.specs.World.{world, countOf, headerOf, busyWith, withJob, withWal, noneStaged};
-ghost use Rattle.pager_state.specs.Overlay.{pageFrom, findIn, slotOf, entry};
+ghost use Rattle.pager_state.specs.Overlay.{pageFrom, findIn, stagedPages, slotOf, entry};
 ghost use Rattle.pager_state.specs.Stores.{Put, Sealed, Other, placeOf};
 ghost use Rattle.pager_state.specs.Pages.{pagesFrom, firstOf, differs, lacks};
 ghost use Rattle.pager_state.specs.Commit.{entered, jobAfter, framesTodo, framesAdvance};
-ghost use Rattle.pager_state.specs.Steps.{named, done, headerGood, differing, commitStart, isBegun, beginCommit, stepFine, steps, onStore};
-ghost use Rattle.pager_commit.specs.CommitStep.{commitStepAnswer, commitStepped, isIn, committedIn, slotDiffers, differsIn, countsAt, standsBefore, Marking, sealedWith, framePut, sealPut, startedAs, ranAs, FramesStored};
+ghost use Rattle.pager_state.specs.Steps.{named, done, headerGood, differing, standsBefore, allBefore, commitStart, isBegun, beginCommit, stepFine, steps};
+ghost use Rattle.pager_commit.specs.CommitStep.{commitStepAnswer, commitStepped, isIn, committedIn, slotDiffers, differsIn, countsAt, commitSealed, Marking, sealedWith, framePut, sealPut, startedAs, ranAs, FramesStored};
 use frame::FRAME_SIZE;
 use header::DbHeader;
 use page::PAGE_SIZE;
@@ -242,18 +242,30 @@ fn stands_before(table: &[u32], page: usize, len: usize) -> bool
     le::fits_in(len, at, FRAME_SIZE)
 }
 
-// The staged pages that differ, each in its slot, and in the other slots a number that is no page's; how many they are; and whether
-// no frame stored at `len` or behind changes what a staged page is compared with.
+// Whether those of all staged pages do: then no frame stored at `len` or behind changes what a staged page is compared with.
+fn all_stand_before(staged: Staged, table: &[u32], len: usize) -> bool
+    ensures { λ r. ⌜ r ≡ allBefore (now (table .entry)) len (stagedPages staged) ⌝ }
+{
+    let end = lower(staged.count, STAGED_PAGES);
+    let mut all = true;
+    let mut i: usize = 0;
+    while i < end {
+        let page = wide(staged.pages[i]);
+        all = both(all, stands_before(table, page, len));
+        i += 1;
+    }
+    all
+}
+
+// The staged pages that differ, each in its slot, and in the other slots a number that is no page's; and how many they are.
 struct Marked {
     pages: [u16; 64],
     count: usize,
-    still: bool,
 }
 
 // Compares every staged page, once.
 fn mark_differing<'a>(
     staged: Staged,
-    len: usize,
     table: &[u32],
     log: &'a [u8],
     main: &'a [u8],
@@ -261,13 +273,12 @@ fn mark_differing<'a>(
 ) -> Marked
     ensures { λ r. ⌜ r .count ≡ length (pagesFrom (differsIn staged (now (staging .entry)) (now (table .entry)) (now (log .entry)) (now (main .entry))) 0) ⌝ }
     ensures { λ r. ⌜ (r .count ≤ 64) × (length (r .pages) ≡ 64) ⌝ }
-    ensures { λ r. ⌜ (r .still ≡ true → Marking (now (staging .entry)) (now (main .entry)) staged len (now (table .entry)) (now (log .entry)) (take (staged .count) (r .pages)) 0) ⌝ }
+    ensures { λ r. ⌜ ((len : ℕ) → allBefore (now (table .entry)) len (stagedPages staged) ≡ true → Marking (now (staging .entry)) (now (main .entry)) staged len (now (table .entry)) (now (log .entry)) (take (staged .count) (r .pages)) 0) ⌝ }
 {
     let count = staged.count;
     let end = lower(count, STAGED_PAGES);
     let mut pages = [u16::MAX; 64];
     let mut n: usize = 0;
-    let mut still = true;
     let mut i: usize = 0;
     while i < end {
         let number = staged.pages[i];
@@ -276,14 +287,9 @@ fn mark_differing<'a>(
         let yes = is_counted(first, table, log, main, staging, page, i);
         pages[i] = mark(number, yes);
         n = tally(n, yes);
-        still = both(still, stands_before(table, page, len));
         i += 1;
     }
-    Marked {
-        pages,
-        count: n,
-        still,
-    }
+    Marked { pages, count: n }
 }
 
 // The first page that joins and isn't staged; 1,024 if there is none.
@@ -383,20 +389,20 @@ fn frame_step(
     }
 }
 
-// Stores the seal at the log's length, and enters it.
-fn store_seal(table: &mut [u32], log: &mut [u8], wal: Wal, header: DbHeader) -> FrameAppended
-    requires { ⌜ (length (now table) ≡ 1024) × ((length (now log) ≡ 4210720) × (wal .len ≤ 4210720)) ⌝ }
-    ensures { λ r. ⌜ r ≡ pick (hasRoom wal) (FrameAppended.Appended (withFrame wal (countOf header))) FrameAppended.LogFull ⌝ }
-    ensures { λ _. ⌜ now (table .exit) ≡ pick (hasRoom wal) (entered (now (table .entry)) 0 (wal .len)) (now (table .entry)) ⌝ }
-    ensures { λ _. ⌜ now (log .exit) ≡ pick (hasRoom wal) (sealPut (now (log .entry)) wal header) (now (log .entry)) ⌝ }
+// Stores the seal at the log's length, where there is room for it, and enters it.
+fn store_seal(table: &mut [u32], log: &mut [u8], wal: Wal, header: DbHeader) -> Wal
+    requires { ⌜ (length (now table) ≡ 1024) × ((length (now log) ≡ 4210720) × (hasRoom wal ≡ true)) ⌝ }
+    ensures { λ r. ⌜ r ≡ withFrame wal (countOf header) ⌝ }
+    ensures { λ _. ⌜ now (table .exit) ≡ entered (now (table .entry)) 0 (wal .len) ⌝ }
+    ensures { λ _. ⌜ now (log .exit) ≡ sealPut (now (log .entry)) wal header ⌝ }
 {
-    let at = wal.len;
-    if WAL_AREA - at < FRAME_SIZE {
-        return FrameAppended::LogFull;
-    }
-    enter(table, 0, at);
+    enter(table, 0, wal.len);
     let fields = header::encode_fields(header);
-    wal::append_page_zero(log, wal, &fields, header.page_count)
+    let appended = wal::append_page_zero(log, wal, &fields, header.page_count);
+    let FrameAppended::Appended(later) = appended else {
+        return wal;
+    };
+    later
 }
 
 // What a commit has left after its seal.
@@ -458,13 +464,13 @@ fn seal_step(
     ensures { λ _. ⌜ now (log .exit) ≡ pick (hasRoom (pager .wal)) (sealPut (now (log .entry)) (pager .wal) header) (now (log .entry)) ⌝ }
 {
     let old = pager.wal;
-    let appended = store_seal(table, log, old, header);
-    let FrameAppended::Appended(wal) = appended else {
+    if WAL_AREA - old.len < FRAME_SIZE {
         return Stepped {
             answer: StepAnswer::Area,
             pager,
         };
-    };
+    }
+    let wal = store_seal(table, log, old, header);
     let next = sealed(pager, header, salt, answer, wal);
     let place = Place {
         file: FileKind::Log,
@@ -565,18 +571,16 @@ struct Judged {
     pages: usize,
     // As `Marked` has them.
     marks: [u16; 64],
-    still: bool,
 }
 
 fn refused(answer: CommitStart) -> Judged
-    ensures { λ r. ⌜ (r .answer ≡ answer) × ((r .pages ≡ 0) × (r .still ≡ false)) ⌝ }
+    ensures { λ r. ⌜ (r .answer ≡ answer) × (r .pages ≡ 0) ⌝ }
 {
     let marks = [u16::MAX; 64];
     Judged {
         answer,
         pages: 0,
         marks,
-        still: false,
     }
 }
 
@@ -591,9 +595,14 @@ fn judge<'a>(
 ) -> Judged
     ensures { λ r. ⌜ r .answer ≡ commitStart (now (staging .entry)) (world pager (now (table .entry)) (now (log .entry)) (now (main .entry))) «new_header» ⌝ }
     ensures { λ r. ⌜ r .pages ≡ pick (isBegun (commitStart (now (staging .entry)) (world pager (now (table .entry)) (now (log .entry)) (now (main .entry))) «new_header»)) (differing (now (staging .entry)) (world pager (now (table .entry)) (now (log .entry)) (now (main .entry)))) 0 ⌝ }
-    ensures { λ r. ⌜ (r .still ≡ true → (length (r .marks) ≡ 64) × Marking (now (staging .entry)) (now (main .entry)) (pager .staged) (pager .wal .len) (now (table .entry)) (now (log .entry)) (take (pager .staged .count) (r .marks)) 0) ⌝ }
+    ensures { λ r. ⌜ (isBegun (r .answer) ≡ true → (length (r .marks) ≡ 64) × Marking (now (staging .entry)) (now (main .entry)) (pager .staged) (pager .wal .len) (now (table .entry)) (now (log .entry)) (take (pager .staged .count) (r .marks)) 0) ⌝ }
 {
     if !pager_state::are_fine(pager, table.len(), log.len(), main.len(), staging.len()) {
+        return refused(CommitStart::Area);
+    }
+    let staged = pager.staged;
+    let wal = pager.wal;
+    if !all_stand_before(staged, table, wal.len) {
         return refused(CommitStart::Area);
     }
     let job = pager.job;
@@ -607,14 +616,12 @@ fn judge<'a>(
     if !is_header_good(new_header) {
         return refused(CommitStart::NewHeader);
     }
-    let staged = pager.staged;
     let old = pager.current_header;
     let lacking = first_lacking(staged, old.page_count, new_header.page_count);
     if lacking < PAGES {
         return refused(CommitStart::Joining(lacking));
     }
-    let wal = pager.wal;
-    let found = mark_differing(staged, wal.len, table, log, main, staging);
+    let found = mark_differing(staged, table, log, main, staging);
     if WAL_AREA < wal.len + FRAME_SIZE * (found.count + 1) {
         return refused(CommitStart::LogFull);
     }
@@ -623,7 +630,6 @@ fn judge<'a>(
         answer: CommitStart::Begun,
         pages: found.count,
         marks,
-        still: found.still,
     }
 }
 
@@ -705,7 +711,7 @@ fn store_frames(
 ) -> FrameRun
     requires { ⌜ (length (now marks) ≡ 64) × ((length (now table) ≡ 1024) × ((length (now log) ≡ 4210720) × ((length (now staging) ≡ 262144) × (first .len + 4112 * (length (pagesFrom (isIn (take n (now marks))) 0) + 1) ≤ 4210720)))) ⌝ }
     ensures { λ r. ⌜ FramesStored (take n (now (marks .entry))) (now (staging .entry)) first (now (table .entry)) (now (log .entry)) (r .count) (r .page) (r .wal) (now (table .exit)) (now (log .exit)) ⌝ }
-    ensures { λ r. ⌜ (r .count ≤ 1024) × (r .wal .len ≤ 4210720) ⌝ }
+    ensures { λ r. ⌜ (r .count ≡ length (pagesFrom (isIn (take n (now (marks .entry)))) 0)) × (r .wal .len + 4112 ≤ 4210720) ⌝ }
 {
     let mut wal = first;
     let mut page: usize = 0;
@@ -722,12 +728,6 @@ fn store_frames(
     FrameRun { wal, page, count }
 }
 
-// A store, and the steps of a commit that led to it.
-struct Run {
-    pager: Pager,
-    steps: usize,
-}
-
 // Runs a commit that was begun up to its seal.
 fn run_frames(
     pager: Pager,
@@ -738,25 +738,15 @@ fn run_frames(
     table: &mut [u32],
     log: &mut [u8],
     staging: &[u8],
-) -> Run
+) -> Pager
     requires { ⌜ (length (now marks) ≡ 64) × ((length (now table) ≡ 1024) × ((length (now log) ≡ 4210720) × ((length (now staging) ≡ 262144) × (pager .wal .len + 4112 * (length (pagesFrom (isIn (take (pager .staged .count) (now marks))) 0) + 1) ≤ 4210720)))) ⌝ }
-    ensures { λ r. ⌜ ((m : List ℕ) → stepFine (now (staging .entry)) (world pager (now (table .entry)) (now (log .entry)) m) ≡ true → Marking (now (staging .entry)) m (pager .staged) (pager .wal .len) (now (table .entry)) (now (log .entry)) (take (pager .staged .count) (now (marks .entry))) 0 → world (r .pager) (now (table .exit)) (now (log .exit)) m ≡ steps (now (staging .entry)) (r .steps) (world (withJob pager (Job.Commit header salt 0 answer)) (now (table .entry)) (now (log .entry)) m)) ⌝ }
-    ensures { λ r. ⌜ r .steps ≤ 1025 ⌝ }
+    ensures { λ r. ⌜ ((m : List ℕ) → stepFine (now (staging .entry)) (world pager (now (table .entry)) (now (log .entry)) m) ≡ true → Marking (now (staging .entry)) m (pager .staged) (pager .wal .len) (now (table .entry)) (now (log .entry)) (take (pager .staged .count) (now (marks .entry))) 0 → world r (now (table .exit)) (now (log .exit)) m ≡ steps (now (staging .entry)) (length (pagesFrom (isIn (take (pager .staged .count) (now (marks .entry)))) 0) + 1) (world (withJob pager (Job.Commit header salt 0 answer)) (now (table .entry)) (now (log .entry)) m)) ⌝ }
 {
     let first = pager.wal;
     let staged = pager.staged;
     let run = store_frames(marks, staged.count, first, table, log, staging);
-    let wal = run.wal;
-    let FrameAppended::Appended(next) = store_seal(table, log, wal, header) else {
-        return Run {
-            pager: under_way(pager, wal, header, salt, run.page, answer),
-            steps: run.count,
-        };
-    };
-    Run {
-        pager: sealed(pager, header, salt, answer, next),
-        steps: run.count + 1,
-    }
+    let wal = store_seal(table, log, run.wal, header);
+    sealed(pager, header, salt, answer, wal)
 }
 
 // What a commit in one call comes to, but for the fold that it may bring on.
@@ -765,22 +755,19 @@ pub struct CommitRun {
     // The number of differing pages, if it has begun.
     pub pages: usize,
     pub pager: Pager,
-    // The steps that it took so far.
-    pub steps: usize,
 }
 
-fn ran(answer: CommitStart, pages: usize, pager: Pager, steps: usize) -> CommitRun
-    ensures { λ r. ⌜ r ≡ ranAs answer pages pager steps ⌝ }
+fn ran(answer: CommitStart, pages: usize, pager: Pager) -> CommitRun
+    ensures { λ r. ⌜ r ≡ ranAs answer pages pager ⌝ }
 {
     CommitRun {
         answer,
         pages,
         pager,
-        steps,
     }
 }
 
-// Judges a commit and runs it up to its seal. Where a made-up table lets a frame overwrite what a page is compared with, it is only begun.
+// Judges a commit and runs it up to its seal: a step for each differing page, and one.
 pub fn commit_frames<'a>(
     pager: Pager,
     table: &mut [u32],
@@ -792,21 +779,15 @@ pub fn commit_frames<'a>(
 ) -> CommitRun
     ensures { λ r. ⌜ r .answer ≡ commitStart (now (staging .entry)) (world pager (now (table .entry)) (now (log .entry)) (now (main .entry))) «new_header» ⌝ }
     ensures { λ r. ⌜ r .pages ≡ pick (isBegun (commitStart (now (staging .entry)) (world pager (now (table .entry)) (now (log .entry)) (now (main .entry))) «new_header»)) (differing (now (staging .entry)) (world pager (now (table .entry)) (now (log .entry)) (now (main .entry)))) 0 ⌝ }
-    ensures { λ r. ⌜ world (r .pager) (now (table .exit)) (now (log .exit)) (now (main .entry)) ≡ pick (isBegun (commitStart (now (staging .entry)) (world pager (now (table .entry)) (now (log .entry)) (now (main .entry))) «new_header»)) (steps (now (staging .entry)) (r .steps) (onStore (world pager (now (table .entry)) (now (log .entry)) (now (main .entry))) (beginCommit (now (staging .entry)) (world pager (now (table .entry)) (now (log .entry)) (now (main .entry))) «new_header» salt .pager))) (world pager (now (table .entry)) (now (log .entry)) (now (main .entry))) ⌝ }
-    ensures { λ r. ⌜ r .steps ≤ 1025 ⌝ }
+    ensures { λ r. ⌜ world (r .pager) (now (table .exit)) (now (log .exit)) (now (main .entry)) ≡ commitSealed (now (staging .entry)) (world pager (now (table .entry)) (now (log .entry)) (now (main .entry))) «new_header» salt ⌝ }
 {
     let judged = judge(pager, table, log, main, staging, new_header);
     let answer = judged.answer;
     let pages = judged.pages;
     if !is_begun(answer) {
-        return ran(answer, pages, pager, 0);
+        return ran(answer, pages, pager);
     }
-    if !judged.still {
-        let wal = pager.wal;
-        let begun = under_way(pager, wal, new_header, salt, 0, pages);
-        return ran(answer, pages, begun, 0);
-    }
-    let run = run_frames(
+    let store = run_frames(
         pager,
         new_header,
         salt,
@@ -816,6 +797,5 @@ pub fn commit_frames<'a>(
         log,
         staging,
     );
-    let store = run.pager;
-    ran(answer, pages, store, run.steps)
+    ran(answer, pages, store)
 }

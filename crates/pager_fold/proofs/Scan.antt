@@ -14,12 +14,8 @@ use Rattle.le.proofs.Tests.{le-or-lt}
 use Rattle.pager_state.specs.Overlay.{frameOf, inLog}
 use Rattle.pager_state.specs.Pages.{pagesFrom}
 use Rattle.pager_state.proofs.Searches.{pages-miss, pages-end}
+use Rattle.pager_state.proofs.Entries.{getD-past}
 use Rattle.pager_fold.specs.FoldStep.{foldsBy, foldingEnd}
-
-getD-past : (l : List ℕ) (n : ℕ) → length l ≤ n → getD l n 0 ≡ 0
-getD-past [] n h = refl
-getD-past (a ∷ l) zero h = absurd (omega arith)
-getD-past (a ∷ l) (suc n) h = getD-past l n (omega arith)
 
 both-false : (a b : Bool) → b ≡ false → both a b ≡ false
 both-false true b e = e

@@ -1,13 +1,13 @@
 -- What each store of a commit or fold leaves: the files, the stores then left, and what the laws of steps ask. Assumes nothing.
 use mathlib.Core.Path.{_≡_, refl, sym, ap, _∙_}
-use mathlib.Core.Bool.{Bool, true, false}
+use mathlib.Core.Bool.{Bool, true, false, not}
 use mathlib.Core.List.{List, [], append-nil}
 use Prim.Native.Nat.{ℕ, suc, _+_, _≤_, _<_, max}
 use native.Mathlib.Omega.{arith}
 use lib.Dec.{leb}
 use lib.ListN.{length}
-use Rattle.le.specs.Choice.{pick}
-use Rattle.le.specs.Le.{put}
+use Rattle.le.specs.Choice.{pick, both}
+use Rattle.le.specs.Le.{put, sameBytes}
 use Rattle.le.proofs.Compare.{no-test}
 use Rattle.header.specs.Header.{encodeHeader}
 use Rattle.header.specs.declared.DbHeader.{DbHeader}
@@ -17,7 +17,7 @@ use Rattle.wal.specs.Header.{encodeWalHeader}
 use Rattle.wal.specs.Write.{emptyWal, withFrame}
 use Rattle.wal.proofs.Encoding.{length-encodeWalHeader}
 use Rattle.pager_state.specs.World.{World, pageLimit, stagingArea, countOf, headerOf, busyWith, busy}
-use Rattle.pager_state.specs.Overlay.{isStaged, stagedBytes, entry, onMain}
+use Rattle.pager_state.specs.Overlay.{isStaged, stagedBytes, entry, onMain, committedBytes}
 use Rattle.pager_state.specs.Stores.{File, diskOf, Act, putFile, lenFile, stored}
 use Rattle.pager_state.specs.Pages.{pagesFrom, differs, folds}
 use Rattle.pager_state.specs.Fold.{pageAct, mainHeaderAct, mainLengthAct, logLengthAct, logHeaderAct, nextHeader, paged, headed, lengthened, emptied, folded, pagesTodo, lengthTodo, emptyTodo, headerTodo, foldTodo}
@@ -28,15 +28,15 @@ use Rattle.pager_state.proofs.Searches.{pages-same}
 use Rattle.pager_state.proofs.Stored.{put-end}
 use Rattle.pager_state.proofs.Sizes.{staged-size, seal-size, frame-len, empty-len}
 use Rattle.pager_state.proofs.Entries.{bytes-other, below-entered, length-entered, folded-below, length-folded}
-use Rattle.pager_state.proofs.Made.{Fine, Placed, Asks, Made}
+use Rattle.pager_state.proofs.Made.{Fine, PlacedOf, Names, AsksOf, MadeOf}
 
 -- v is a world like w in which the store a is done and the rest is left
-pub record After (g : List ℕ) (w : World) (a : Act) (rest : List Act) (v : World) : Type 0 where
+pub record After (P : ℕ → Bool) (g : List ℕ) (w : World) (a : Act) (rest : List Act) (v : World) : Type 0 where
   pub disk : diskOf v ≡ stored a (diskOf w)
   pub left : todo g v ≡ rest
   pub table : length (v .table) ≡ length (w .table)
   pub count : countOf (headerOf (v .pager)) ≤ pageLimit
-  pub made : Made v
+  pub made : MadeOf P v
   pub answer : busy (v .pager) ≡ true → answerOf (v .pager .job) ≡ answerOf (w .pager .job)
 
 -- ---- a page's frame
@@ -48,20 +48,28 @@ module _ (g : List ℕ) (h : DbHeader) (salt answer : ℕ) (w : World) (n : ℕ)
       let f : File = record { area = w .log; len = w .pager .wal .len } in
       put-end f (encodeFrame n 0 (saltOf w) (stagedBytes (w .pager .staged) g n))
 
-  pub framed-differs : Placed w → w .pager .wal .len ≤ length (w .log) → (m : ℕ) → suc n ≤ m → m < pageLimit
-      → differs g (framed g h salt answer n w) m ≡ differs g w m
-  unfolding differs framed
-  framed-differs p l m a b =
+  -- what a staged page is compared with stays
+  framed-bytes : {P : ℕ → Bool} → PlacedOf P w → Names P w → w .pager .wal .len ≤ length (w .log) → (m : ℕ) → suc n ≤ m → m < pageLimit → (s : Bool) → isStaged (w .pager .staged) m ≡ s
+      → both s (not (sameBytes (stagedBytes (w .pager .staged) g m) (committedBytes (framed g h salt answer n w) m)))
+      ≡ both s (not (sameBytes (stagedBytes (w .pager .staged) g m) (committedBytes w m)))
+  unfolding framed
+  framed-bytes p c l m a b true e =
       let x : ℕ = entry (w .pager .wal .len) (onMain (w .table) n) in
       rw (bytes-other (framed g h salt answer n w) w n x (w .pager .wal .len) (encodeFrame n 0 (saltOf w) (stagedBytes (w .pager .staged) g n))
-      refl framed-log refl l p m b (λ e. omega (arith, e, a)))
+      refl framed-log refl l m (λ q. omega (arith, q, a)) (p m b (c m e)))
+  framed-bytes p c l m a b false e = refl
 
-  framed-left : Placed w → w .pager .wal .len ≤ length (w .log)
+  pub framed-differs : {P : ℕ → Bool} → PlacedOf P w → Names P w → w .pager .wal .len ≤ length (w .log) → (m : ℕ) → suc n ≤ m → m < pageLimit
+      → differs g (framed g h salt answer n w) m ≡ differs g w m
+  unfolding differs framed
+  framed-differs p c l m a b = framed-bytes p c l m a b (isStaged (w .pager .staged) m) refl
+
+  framed-left : {P : ℕ → Bool} → PlacedOf P w → Names P w → w .pager .wal .len ≤ length (w .log)
       → todo g (framed g h salt answer n w) ≡ framesTodo g h salt answer (pagesFrom (differs g w) (suc n)) (framed g h salt answer n w)
   unfolding todo commitTodo foldTodo framed
-  framed-left p l =
+  framed-left p c l =
       append-nil _ ∙ ap (λ (l : List ℕ). framesTodo g h salt answer l (framed g h salt answer n w))
-      (pages-same (differs g (framed g h salt answer n w)) (differs g w) (suc n) (framed-differs p l))
+      (pages-same (differs g (framed g h salt answer n w)) (differs g w) (suc n) (framed-differs p c l))
 
   framed-disk : length (encodeFrame n 0 (saltOf w) (stagedBytes (w .pager .staged) g n)) ≡ 4112
       → diskOf (framed g h salt answer n w) ≡ stored (frameAct g w n) (diskOf w)
@@ -71,26 +79,26 @@ module _ (g : List ℕ) (h : DbHeader) (salt answer : ℕ) (w : World) (n : ℕ)
       omega arith in
       rw (e, frame-len (w .pager .wal) 0)
 
-  framed-made : Made w → Placed w → countOf h ≤ pageLimit → n < length (w .table) → Made (framed g h salt answer n w)
+  framed-made : {P : ℕ → Bool} → MadeOf P w → PlacedOf P w → Names P w → countOf h ≤ pageLimit → n < length (w .table) → MadeOf P (framed g h salt answer n w)
   unfolding framed
-  framed-made m p c l =
+  framed-made {P} m p i c l =
       record {
         slots = m .slots;
-        asked = (rw (frame-len (w .pager .wal) 0) (below-entered (w .table) n (w .pager .wal .len) l p), c);
+        asked = (rw (frame-len (w .pager .wal) 0) (below-entered P (w .table) n (w .pager .wal .len) l p), (i, c));
       }
 
-  pub after-framed : Fine w → length g ≡ stagingArea → Made w → Placed w → countOf h ≤ pageLimit → isStaged (w .pager .staged) n ≡ true → n < pageLimit
+  pub after-framed : {P : ℕ → Bool} → Fine w → length g ≡ stagingArea → MadeOf P w → PlacedOf P w → Names P w → countOf h ≤ pageLimit → isStaged (w .pager .staged) n ≡ true → n < pageLimit
       → answerOf (w .pager .job) ≡ answer
-      → After g w (frameAct g w n) (framesTodo g h salt answer (pagesFrom (differs g w) (suc n)) (framed g h salt answer n w)) (framed g h salt answer n w)
+      → After P g w (frameAct g w n) (framesTodo g h salt answer (pagesFrom (differs g w) (suc n)) (framed g h salt answer n w)) (framed g h salt answer n w)
   unfolding framed
-  after-framed f k m p c s l q =
+  after-framed f k m p i c s l q =
       let b = staged-size (w .pager .staged) g n (m .slots) k s in
       record {
         disk = framed-disk (length-encodeFrame n 0 (saltOf w) (stagedBytes (w .pager .staged) g n) b);
-        left = framed-left p (omega (arith, f .files .log .len, f .files .log .area));
+        left = framed-left p i (omega (arith, f .files .log .len, f .files .log .area));
         table = length-entered (w .table) n (w .pager .wal .len);
         count = f .count;
-        made = framed-made m p c (omega (arith, f .table));
+        made = framed-made m p i c (omega (arith, f .table));
         answer = λ z. sym q;
       }
 
@@ -101,9 +109,9 @@ unfolding commitTodo
 after-job g salt answer true v = refl
 after-job g salt answer false v = refl
 
-job-asks : (salt answer : ℕ) (b : Bool) (v : World) → Placed v → Asks (pick b (job.Fold salt 0 answer) job.Idle) v
-job-asks salt answer true v p = p
-job-asks salt answer false v p = p
+job-asks : (P : ℕ → Bool) (salt answer : ℕ) (b : Bool) (v : World) → PlacedOf P v → AsksOf P (pick b (job.Fold salt 0 answer) job.Idle) v
+job-asks P salt answer true v p = p
+job-asks P salt answer false v p = p
 
 job-answer : (salt answer : ℕ) (b : Bool) → busyWith (pick b (job.Fold salt 0 answer) job.Idle) ≡ true → answerOf (pick b (job.Fold salt 0 answer) job.Idle) ≡ answer
 job-answer salt answer true e = refl
@@ -122,14 +130,14 @@ module _ (g : List ℕ) (h : DbHeader) (salt answer : ℕ) (w : World) where
       omega arith in
       rw (e, frame-len (w .pager .wal) (countOf h))
 
-  sealed-placed : Placed w → 0 < length (w .table) → Placed (sealedWorld h salt answer w)
+  sealed-placed : {P : ℕ → Bool} → PlacedOf P w → 0 < length (w .table) → PlacedOf P (sealedWorld h salt answer w)
   unfolding sealedWorld sealedPager
-  sealed-placed p l = rw (frame-len (w .pager .wal) (countOf h)) (below-entered (w .table) 0 (w .pager .wal .len) l p)
+  sealed-placed {P} p l = rw (frame-len (w .pager .wal) (countOf h)) (below-entered P (w .table) 0 (w .pager .wal .len) l p)
 
-  pub after-sealed : Fine w → Made w → Placed w → countOf h ≤ pageLimit → answerOf (w .pager .job) ≡ answer
-      → After g w (sealAct h w) (foldTodo (sealedWorld h salt answer w .pager .job) (sealedWorld h salt answer w)) (sealedWorld h salt answer w)
+  pub after-sealed : {P : ℕ → Bool} → Fine w → MadeOf P w → PlacedOf P w → countOf h ≤ pageLimit → answerOf (w .pager .job) ≡ answer
+      → After P g w (sealAct h w) (foldTodo (sealedWorld h salt answer w .pager .job) (sealedWorld h salt answer w)) (sealedWorld h salt answer w)
   unfolding sealedWorld sealedPager
-  after-sealed f m p c q =
+  after-sealed {P} f m p c q =
       record {
         disk = sealed-disk;
         left = sealed-left;
@@ -137,26 +145,26 @@ module _ (g : List ℕ) (h : DbHeader) (salt answer : ℕ) (w : World) where
         count = c;
         made = record {
           slots = m .slots;
-          asked = job-asks salt answer (leb 100 (withFrame (w .pager .wal) (countOf h) .«frame_count»)) (sealedWorld h salt answer w) (sealed-placed p (omega (arith, f .table)));
+          asked = job-asks P salt answer (leb 100 (withFrame (w .pager .wal) (countOf h) .«frame_count»)) (sealedWorld h salt answer w) (sealed-placed p (omega (arith, f .table)));
         };
         answer = λ z. job-answer salt answer (leb 100 (withFrame (w .pager .wal) (countOf h) .«frame_count»)) z ∙ sym q;
       }
 
 -- ---- a fold's stores
 
-module _ (g : List ℕ) (salt answer : ℕ) (w : World) (f : Fine w) (m : Made w) (q : answerOf (w .pager .job) ≡ answer) where
-  pub after-paged : Placed w → (n : ℕ) (last : Bool)
-      → After g w (pageAct w n last) (pagesTodo salt answer (pagesFrom (folds w) (suc n)) (paged salt answer n w)) (paged salt answer n w)
+module _ {P : ℕ → Bool} (g : List ℕ) (salt answer : ℕ) (w : World) (f : Fine w) (m : MadeOf P w) (q : answerOf (w .pager .job) ≡ answer) where
+  pub after-paged : PlacedOf P w → (n : ℕ) (last : Bool)
+      → After P g w (pageAct w n last) (pagesTodo salt answer (pagesFrom (folds w) (suc n)) (paged salt answer n w)) (paged salt answer n w)
   unfolding paged todo commitTodo foldTodo folds
   after-paged p n last =
       record { disk = refl; left = refl; table = refl; count = f .count; made = record { slots = m .slots; asked = p }; answer = λ z. sym q }
 
-  pub after-headed : Placed w → After g w (mainHeaderAct w) (lengthTodo salt answer (headed salt answer w)) (headed salt answer w)
+  pub after-headed : PlacedOf P w → After P g w (mainHeaderAct w) (lengthTodo salt answer (headed salt answer w)) (headed salt answer w)
   unfolding headed todo commitTodo foldTodo
   after-headed p =
       record { disk = refl; left = refl; table = refl; count = f .count; made = record { slots = m .slots; asked = p }; answer = λ z. sym q }
 
-  pub after-lengthened : Placed w → After g w (mainLengthAct w) (emptyTodo salt answer (lengthened salt answer w)) (lengthened salt answer w)
+  pub after-lengthened : PlacedOf P w → After P g w (mainLengthAct w) (emptyTodo salt answer (lengthened salt answer w)) (lengthened salt answer w)
   unfolding lengthened todo commitTodo foldTodo
   after-lengthened p =
       record { disk = refl; left = refl; table = refl; count = f .count; made = record { slots = m .slots; asked = p }; answer = λ z. sym q }
@@ -165,7 +173,7 @@ module _ (g : List ℕ) (salt answer : ℕ) (w : World) (f : Fine w) (m : Made w
   unfolding emptied lenFile
   emptied-disk = rw (empty-len (w .pager .wal .header))
 
-  pub after-emptied : After g w logLengthAct (headerTodo salt (emptied salt answer w)) (emptied salt answer w)
+  pub after-emptied : After P g w logLengthAct (headerTodo salt (emptied salt answer w)) (emptied salt answer w)
   unfolding emptied todo commitTodo foldTodo
   after-emptied =
       record {
@@ -184,7 +192,7 @@ module _ (g : List ℕ) (salt answer : ℕ) (w : World) (f : Fine w) (m : Made w
       let k : max (w .pager .wal .len) (0 + length (encodeWalHeader (nextHeader w salt))) ≡ 32 = omega arith in
       rw (k, empty-len (nextHeader w salt))
 
-  pub after-folded : w .pager .wal .len ≡ 32 → After g w (logHeaderAct w salt) [] (folded salt w)
+  pub after-folded : w .pager .wal .len ≡ 32 → After P g w (logHeaderAct w salt) [] (folded salt w)
   unfolding folded todo commitTodo foldTodo
   after-folded e =
       record {
@@ -192,6 +200,6 @@ module _ (g : List ℕ) (salt answer : ℕ) (w : World) (f : Fine w) (m : Made w
         left = refl;
         table = length-folded (countOf (headerOf (w .pager))) 0 (w .table);
         count = f .count;
-        made = record { slots = m .slots; asked = folded-below (countOf (headerOf (w .pager))) 0 (w .table) (emptyWal (nextHeader w salt) .len) };
+        made = record { slots = m .slots; asked = folded-below P (countOf (headerOf (w .pager))) 0 (w .table) (emptyWal (nextHeader w salt) .len) };
         answer = λ z. no-test z;
       }

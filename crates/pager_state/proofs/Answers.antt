@@ -1,6 +1,6 @@
 -- What a step answers: the place of the first store left; the last also the number fixed when the commit or fold began. Assumes nothing.
 use mathlib.Core.Path.{_≡_, refl, sym, ap, _∙_}
-use mathlib.Core.Bool.{true, false}
+use mathlib.Core.Bool.{Bool, true, false}
 use mathlib.Core.List.{List, [], _∷_}
 use Prim.Native.Nat.{ℕ, zero, suc}
 use native.Mathlib.Omega.{arith}
@@ -13,7 +13,7 @@ use Rattle.pager_state.specs.declared.Job.{Job}
 use Rattle.pager_state.specs.declared.Job.the-variants as job
 use Rattle.pager_state.specs.declared.StepAnswer.the-variants as step
 use Rattle.pager_state.proofs.Stored.{AllInside}
-use Rattle.pager_state.proofs.Made.{Ready}
+use Rattle.pager_state.proofs.Made.{ReadyOf}
 use Rattle.pager_state.proofs.Steps.{idle-todo, step-after, step-rest, step-keeps}
 use Rattle.pager_state.proofs.Runs.{steps-rest, steps-keep}
 use Rattle.pager_state.proofs.Begun.{begun-commit, begun-checkpoint}
@@ -65,7 +65,7 @@ pub todo-busy : (g : List ℕ) (w : World) (a : Act) (rest : List Act) → todo 
 todo-busy g w a rest t =
     is-busy (w .pager .job) (λ (j : w .pager .job ≡ job.Idle). let z = ap length (sym t ∙ idle-todo g w j) in omega (arith, z))
 
-pub answer-stays : (g : List ℕ) (w : World) (a b : Act) (rest : List Act) → todo g w ≡ a ∷ b ∷ rest → inside a ≡ true → Ready g w
+pub answer-stays : {P : ℕ → Bool} (g : List ℕ) (w : World) (a b : Act) (rest : List Act) → todo g w ≡ a ∷ b ∷ rest → inside a ≡ true → ReadyOf P g w
     → answerOf (stepped g w .pager .job) ≡ answerOf (w .pager .job)
 answer-stays g w a b rest t i r =
     let x = step-after g w a (b ∷ rest) t i r in
@@ -80,13 +80,13 @@ module _ (g : List ℕ) where
   drop-none zero b rest e = absurd (let z = ap length e in omega (arith, z))
   drop-none (suc k) b rest e = absurd (let z = ap length e in omega (arith, z))
 
-  stays-more : (k : ℕ) (w : World) (a : Act) (l : List Act) → Ready g w → inside a ≡ true → todo g w ≡ a ∷ l → todo g (stepped g w) ≡ l → Stays k (stepped g w)
+  stays-more : {P : ℕ → Bool} → (k : ℕ) (w : World) (a : Act) (l : List Act) → ReadyOf P g w → inside a ≡ true → todo g w ≡ a ∷ l → todo g (stepped g w) ≡ l → Stays k (stepped g w)
       → (b : Act) (rest : List Act) → drop k l ≡ b ∷ rest → answerOf (steps g k (stepped g w) .pager .job) ≡ answerOf (w .pager .job)
   unfolding Stays
   stays-more k w a [] r i t n s b rest e = drop-none k b rest e
   stays-more k w a (c ∷ l) r i t n s b rest e = s b rest (rw n e) ∙ answer-stays g w a c l t i r
 
-  stays-at : (k : ℕ) (w : World) → Ready g w → AllInside (todo g w) → (Ready g (stepped g w) → AllInside (todo g (stepped g w)) → Stays k (stepped g w))
+  stays-at : {P : ℕ → Bool} → (k : ℕ) (w : World) → ReadyOf P g w → AllInside (todo g w) → (ReadyOf P g (stepped g w) → AllInside (todo g (stepped g w)) → Stays k (stepped g w))
       → (l : List Act) → todo g w ≡ l → Stays (suc k) w
   unfolding Stays steps
   stays-at k w r h more [] t b rest e = drop-none (suc k) b rest (rw t at e)
@@ -96,14 +96,14 @@ module _ (g : List ℕ) where
       let d : drop k l ≡ b ∷ rest = rw t at e in
       stays-more k w a l r (i .0) t n (more (step-keeps g w r) (rw n (i .1))) b rest d
 
-  stays : (k : ℕ) (w : World) → Ready g w → AllInside (todo g w) → Stays k w
+  stays : {P : ℕ → Bool} → (k : ℕ) (w : World) → ReadyOf P g w → AllInside (todo g w) → Stays k w
   unfolding Stays steps
   stays zero w r h b rest e = refl
-  stays (suc k) w r h b rest e =
-      stays-at k w r h (λ (x : Ready g (stepped g w)) (y : AllInside (todo g (stepped g w))). stays k (stepped g w) x y) (todo g w) refl b rest e
+  stays {P} (suc k) w r h b rest e =
+      stays-at k w r h (λ (x : ReadyOf P g (stepped g w)) (y : AllInside (todo g (stepped g w))). stays k (stepped g w) x y) (todo g w) refl b rest e
 
   -- as long as a store is left
-  pub answer-travels : (k : ℕ) (w : World) → Ready g w → AllInside (todo g w) → (b : Act) (rest : List Act) → drop k (todo g w) ≡ b ∷ rest
+  pub answer-travels : {P : ℕ → Bool} → (k : ℕ) (w : World) → ReadyOf P g w → AllInside (todo g w) → (b : Act) (rest : List Act) → drop k (todo g w) ≡ b ∷ rest
       → answerOf (steps g k w .pager .job) ≡ answerOf (w .pager .job)
   unfolding Stays
   answer-travels k w r h = stays k w r h
@@ -114,7 +114,7 @@ module _ (g : List ℕ) where
   named-same m n (a ∷ rest) e = rw (e a rest refl)
 
   -- the step behind k of them names the store behind k of them
-  pub steps-named : (k : ℕ) (w : World) → Ready g w → AllInside (todo g w)
+  pub steps-named : {P : ℕ → Bool} → (k : ℕ) (w : World) → ReadyOf P g w → AllInside (todo g w)
       → stepAnswer g (steps g k w) ≡ named (answerOf (w .pager .job)) (drop k (todo g w))
   steps-named k w r h =
       answer-fine g (steps g k w) (steps-keep g k w r .right) ∙ ap (named (answerOf (steps g k w .pager .job))) (steps-rest g k w r h)

@@ -13,12 +13,12 @@ use Rattle.header.specs.Header.{isVersion}
 use Rattle.header.specs.declared.DbHeader.{DbHeader}
 use Rattle.frame.specs.Frame.{frameSize}
 use Rattle.wal.specs.Recovery.{walArea}
-use Rattle.pager_state.specs.World.{World, pageLimit, stagingArea, countOf, fine, busyWith, busy, readOnly, withJob}
-use Rattle.pager_state.specs.Overlay.{committedBytes}
+use Rattle.pager_state.specs.World.{World, pageLimit, stagingArea, stagedLimit, countOf, fine, busyWith, busy, readOnly, withJob}
+use Rattle.pager_state.specs.Overlay.{stagedPages, isStaged, committedBytes}
 use Rattle.pager_state.specs.Pages.{pagesFrom, differs}
 use Rattle.pager_state.specs.Fold.{foldTodo}
 use Rattle.pager_state.specs.Commit.{framesTodo, commitTodo}
-use Rattle.pager_state.specs.Steps.{headerGood, differing, lacking, roomFor, commitStart, isBegun, beginCommit, commitRefusal, nothingToFold, checkpointStart, checkpointRefusal, isFolding, folding, beginCheckpoint, todo, stepFine, onStore}
+use Rattle.pager_state.specs.Steps.{headerGood, differing, lacking, roomFor, standsBefore, allBefore, commitFine, commitStart, isBegun, beginCommit, commitRefusal, nothingToFold, checkpointStart, checkpointRefusal, isFolding, folding, beginCheckpoint, todo, stepFine, onStore}
 use Rattle.pager_state.specs.declared.Job.{Job}
 use Rattle.pager_state.specs.declared.Job.the-variants as job
 use Rattle.pager_state.specs.declared.CommitStart.{CommitStart}
@@ -26,7 +26,8 @@ use Rattle.pager_state.specs.declared.CommitStart.the-variants as commit
 use Rattle.pager_state.specs.declared.CheckpointStart.{CheckpointStart}
 use Rattle.pager_state.specs.declared.CheckpointStart.the-variants as checkpoint
 use Rattle.pager_state.proofs.Stored.{AllInside}
-use Rattle.pager_state.proofs.Made.{ready-fine, Placed, Made, Ready}
+use Rattle.pager_state.proofs.Made.{ready-fine, PlacedOf, Names, Made, Ready, ReadyOf}
+use Rattle.pager_state.proofs.Before.{stands-frame, before-staged}
 use Rattle.pager_state.proofs.Inside.{fold-inside, frames-inside}
 
 -- ---- choices that came out as begun
@@ -53,6 +54,7 @@ not-busy (job.LogHeader salt answer) e = no-test (sym e)
 
 pub record CommitBegun (g : List ℕ) (w : World) (h : DbHeader) : Type 0 where
   pub right : stepFine g w ≡ true
+  pub before : allBefore (w .table) (w .pager .wal .len) (stagedPages (w .pager .staged)) ≡ true
   pub idle : w .pager .job ≡ job.Idle
   pub writes : readOnly (w .pager) ≡ false
   pub low : 1 ≤ countOf h
@@ -75,7 +77,8 @@ module _ (g : List ℕ) (w : World) (h : DbHeader) (e : isBegun (commitStart g w
   pub commit-begun : CommitBegun g w h
   unfolding commitStart
   commit-begun =
-      let a = chosen isBegun (stepFine g w) _ commit.Area refl e in
+      let a = chosen isBegun (commitFine g w) _ commit.Area refl e in
+      let f = both-true (stepFine g w) (allBefore (w .table) (w .pager .wal .len) (stagedPages (w .pager .staged))) (a .0) in
       let b = passed isBegun (busy (w .pager)) _ commit.Busy refl (a .1) in
       let c = passed isBegun (readOnly (w .pager)) _ commit.ReadOnly refl (b .1) in
       let d = chosen isBegun (headerGood h) _ commit.NewHeader refl (c .1) in
@@ -84,7 +87,8 @@ module _ (g : List ℕ) (w : World) (h : DbHeader) (e : isBegun (commitStart g w
       let x = both-true (leb 1 (countOf h)) (both (leb (countOf h) pageLimit) (isVersion (h .«format_version»))) (d .0) in
       let y = both-true (leb (countOf h) pageLimit) (isVersion (h .«format_version»)) (x .1) in
       record {
-        right = a .0;
+        right = f .0;
+        before = f .1;
         idle = not-busy (w .pager .job) (b .0);
         writes = c .0;
         low = leb-true 1 (countOf h) (x .0);
@@ -112,12 +116,22 @@ module _ (g : List ℕ) (w : World) (h : DbHeader) (e : isBegun (commitStart g w
       rw (begun-commit salt, commit-todo salt (differing g w))
       (frames-inside g h salt (differing g w) (pagesFrom (differs g w) 0) (onStore w (withJob (w .pager) (job.Commit h salt 0 (differing g w)))) (b .high) (b .room))
 
-  pub commit-ready : (salt : ℕ) → Made w → Ready g (onStore w (beginCommit g w h salt .pager))
+  ready-by : {P : ℕ → Bool} → (salt : ℕ) → length (w .pager .staged .pages) ≡ stagedLimit → PlacedOf P w → Names P w → ReadyOf P g (onStore w (beginCommit g w h salt .pager))
   unfolding fine
-  commit-ready salt m =
+  ready-by salt s p n =
       let b = commit-begun in
-      let p : Placed w = rw (b .idle) at (m .asked) in
-      rw (begun-commit salt) (record { right = b .right; made = record { slots = m .slots; asked = (p, b .high) } })
+      rw (begun-commit salt) (record { right = b .right; made = record { slots = s; asked = (p, (n, b .high)) } })
+
+  -- in any store: the start has judged what the laws of steps ask of the staged pages
+  pub commit-ready : (salt : ℕ) → length (w .pager .staged .pages) ≡ stagedLimit → ReadyOf (isStaged (w .pager .staged)) g (onStore w (beginCommit g w h salt .pager))
+  commit-ready salt s =
+      ready-by salt s
+      (λ n l o i. stands-frame (w .table) (w .pager .wal .len) n (before-staged (w .table) (w .pager .wal .len) (w .pager .staged) (commit-begun .before) n o) i)
+      (λ n o. o)
+
+  -- in a store that the calls make
+  pub commit-made : (salt : ℕ) → Made w → Ready g (onStore w (beginCommit g w h salt .pager))
+  commit-made salt m = ready-by salt (m .slots) (rw (commit-begun .idle) at (m .asked)) (λ n o. refl)
 
 -- ---- a fold
 
@@ -151,12 +165,17 @@ module _ (g : List ℕ) (w : World) (e : isFolding (checkpointStart g w) ≡ tru
       rw (begun-checkpoint salt, checkpoint-todo salt (folding w))
       (fold-inside (job.Fold salt 0 (folding w)) (onStore w (withJob (w .pager) (job.Fold salt 0 (folding w)))) (ready-fine g w (checkpoint-begun .right) .0 .count))
 
-  pub checkpoint-ready : (salt : ℕ) → Made w → Ready g (onStore w (beginCheckpoint g w salt .pager))
+  fold-ready : {P : ℕ → Bool} → (salt : ℕ) → length (w .pager .staged .pages) ≡ stagedLimit → PlacedOf P w → ReadyOf P g (onStore w (beginCheckpoint g w salt .pager))
   unfolding fine
-  checkpoint-ready salt m =
-      let b = checkpoint-begun in
-      let p : Placed w = rw (b .idle) at (m .asked) in
-      rw (begun-checkpoint salt) (record { right = b .right; made = record { slots = m .slots; asked = p } })
+  fold-ready salt s p = rw (begun-checkpoint salt) (record { right = checkpoint-begun .right; made = record { slots = s; asked = p } })
+
+  -- in any store: of the table nothing is asked
+  pub checkpoint-ready : (salt : ℕ) → length (w .pager .staged .pages) ≡ stagedLimit → ReadyOf (λ (n : ℕ). false) g (onStore w (beginCheckpoint g w salt .pager))
+  checkpoint-ready salt s = fold-ready salt s (λ n l o i. no-test o)
+
+  -- in a store that the calls make
+  pub checkpoint-made : (salt : ℕ) → Made w → Ready g (onStore w (beginCheckpoint g w salt .pager))
+  checkpoint-made salt m = fold-ready salt (m .slots) (rw (checkpoint-begun .idle) at (m .asked))
 
 -- no refusal stores anything
 pub checkpoint-unrefused : (a : CheckpointStart) → checkpointRefusal a ≡ 0 → isFolding a ≡ false → a ≡ checkpoint.Nothing

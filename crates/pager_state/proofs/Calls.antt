@@ -28,13 +28,13 @@ use Rattle.pager_state.specs.declared.BatchAnswer.{BatchAnswer}
 use Rattle.pager_state.specs.declared.BatchAnswer.the-variants as append
 use Rattle.pager_state.specs.declared.Pager.{Pager}
 use Rattle.pager_state.proofs.Sizes.{frame-len}
-use Rattle.pager_state.proofs.Made.{Placed, Asks, Made}
+use Rattle.pager_state.proofs.Made.{PlacedOf, AsksOf, Made, every}
 use Rattle.pager_state.proofs.Begun.{not-busy}
 
 -- what is asked of a store goes by the table and the log's length
-asks-same : (j : Job) (w v : World) → v .table ≡ w .table → v .pager .wal .len ≡ w .pager .wal .len → Asks j w → Asks j v
+asks-same : (j : Job) (w v : World) → v .table ≡ w .table → v .pager .wal .len ≡ w .pager .wal .len → AsksOf every j w → AsksOf every j v
 asks-same job.Idle w v t l a = rw (t, l) a
-asks-same (job.Commit h salt page answer) w v t l a = (rw (t, l) (a .0), a .1)
+asks-same (job.Commit h salt page answer) w v t l a = (rw (t, l) (a .0), (λ n e. refl, a .1 .1))
 asks-same (job.Fold salt page answer) w v t l a = rw (t, l) a
 asks-same (job.MainLength salt answer) w v t l a = rw (t, l) a
 asks-same (job.LogLength salt answer) w v t l a = rw (t, l) a
@@ -115,8 +115,8 @@ append-idle p l body e =
     let d = pick-passes (busy p) _ append.Busy refl (c .1) in
     not-busy (p .job) (d .0)
 
-longer-placed : (w : World) (l : List ℕ) → Placed w → Placed (world (withWal (w .pager) (withFrame (w .pager .wal) 0)) (w .table) l (w .main))
-longer-placed w l p n h i = omega (arith, p n h i, frame-len (w .pager .wal) 0)
+longer-placed : (w : World) (l : List ℕ) → PlacedOf every w → PlacedOf every (world (withWal (w .pager) (withFrame (w .pager .wal) 0)) (w .table) l (w .main))
+longer-placed w l p n h o i = omega (arith, p n h o i, frame-len (w .pager .wal) 0)
 
 appended-made : (w : World) (body : List ℕ) → Made w → (b : Bool) → appends (appendAnswer (w .pager) (w .log) body) ≡ b
     → Made (world (appendBatch (w .pager) (w .log) body .pager) (w .table) (appendAfter (w .pager) (w .log) body) (w .main))
@@ -125,8 +125,8 @@ appended-made w body m true e =
     let j : w .pager .job ≡ job.Idle = append-idle (w .pager) (w .log) body e in
     let l : List ℕ = put (w .log) (w .pager .wal .len) (batchFrame (w .pager) body) in
     let v : World = world (withWal (w .pager) (withFrame (w .pager .wal) 0)) (w .table) l (w .main) in
-    let p : Placed w = subst (λ (x : Job). Asks x w) j (m .asked) in
-    let q : Asks (w .pager .job) v = subst (λ (x : Job). Asks x v) (sym j) (longer-placed w l p) in
+    let p : PlacedOf every w = subst (λ (x : Job). AsksOf every x w) j (m .asked) in
+    let q : AsksOf every (w .pager .job) v = subst (λ (x : Job). AsksOf every x v) (sym j) (longer-placed w l p) in
     rw e (record { slots = m .slots; asked = q })
 appended-made w body m false e = rw e (record { slots = m .slots; asked = asks-same (w .pager .job) w w refl refl (m .asked) })
 

@@ -1,13 +1,14 @@
 -- What was begun is done in 2,200 steps: there are no more stores than that, and then nothing is under way. Assumes nothing.
 use mathlib.Core.Path.{_≡_, refl, sym, ap, _∙_}
-use mathlib.Core.Bool.{true}
+use mathlib.Core.Bool.{Bool, true, false}
 use mathlib.Core.List.{List, [], _∷_, _++_, append-nil}
 use Prim.Native.Nat.{ℕ, _+_, _≤_, _<_}
 use native.Mathlib.Omega.{arith}
 use lib.ListN.{length, take, drop, drop-of-length-le}
 use lib.Seq.{take-all}
 use Rattle.header.specs.declared.DbHeader.{DbHeader}
-use Rattle.pager_state.specs.World.{World, stagingArea}
+use Rattle.pager_state.specs.World.{World, stagedLimit}
+use Rattle.pager_state.specs.Overlay.{isStaged}
 use Rattle.pager_state.specs.Stores.{diskOf, Act, storedAll}
 use Rattle.pager_state.specs.Pages.{pagesFrom, differs, folds}
 use Rattle.pager_state.specs.Fold.{paged, pagesTodo, foldTodo}
@@ -17,7 +18,7 @@ use Rattle.pager_state.specs.declared.Job.{Job}
 use Rattle.pager_state.specs.declared.Job.the-variants as job
 use Rattle.pager_state.proofs.Searches.{pages-length}
 use Rattle.pager_state.proofs.Stored.{AllInside}
-use Rattle.pager_state.proofs.Made.{Made, Ready}
+use Rattle.pager_state.proofs.Made.{MadeOf, ReadyOf}
 use Rattle.pager_state.proofs.Next.{todo-by}
 use Rattle.pager_state.proofs.Runs.{steps-disk, steps-rest, steps-keep}
 use Rattle.pager_state.proofs.Begun.{commit-inside, commit-ready, checkpoint-inside, checkpoint-ready, begun-commit, begun-checkpoint}
@@ -86,14 +87,14 @@ none-idle g w e = none-by g (w .pager .job) w (ap length (sym (todo-by g w (w .p
 -- ---- all is done
 
 -- v is at rest, and its files are those that the stores leave in w
-pub record Rests (g : List ℕ) (acts : List Act) (w v : World) : Type 0 where
+pub record Rests (P : ℕ → Bool) (g : List ℕ) (acts : List Act) (w v : World) : Type 0 where
   pub idle : v .pager .job ≡ job.Idle
   pub disk : diskOf v ≡ storedAll acts (diskOf w)
-  pub ready : Ready g v
+  pub ready : ReadyOf P g v
 
-module _ (g : List ℕ) (w : World) (r : Ready g w) (h : AllInside (todo g w)) where
+module _ {P : ℕ → Bool} (g : List ℕ) (w : World) (r : ReadyOf P g w) (h : AllInside (todo g w)) where
   -- after as many steps as there are stores, or more
-  pub done-after : (k : ℕ) → length (todo g w) ≤ k → Rests g (todo g w) w (steps g k w)
+  pub done-after : (k : ℕ) → length (todo g w) ≤ k → Rests P g (todo g w) w (steps g k w)
   done-after k l =
       let n : drop k (todo g w) ≡ [] = drop-of-length-le (todo g w) l in
       let t : take k (todo g w) ≡ todo g w = take-all k (todo g w) l in
@@ -103,29 +104,36 @@ module _ (g : List ℕ) (w : World) (r : Ready g w) (h : AllInside (todo g w)) w
         ready = steps-keep g k w r;
       }
 
-  pub all-done : Rests g (todo g w) w (steps g mostSteps w)
+  pub all-done : Rests P g (todo g w) w (steps g mostSteps w)
   all-done = done-after mostSteps (todo-length g w)
 
 -- ---- in one call
 
-module _ (g : List ℕ) (w : World) (h : DbHeader) (salt : ℕ) (e : isBegun (commitStart g w h) ≡ true) (m : Made w) where
+-- in any store; P says of which pages what the laws of steps ask is known
+module _ (g : List ℕ) (w : World) (h : DbHeader) (salt : ℕ) (e : isBegun (commitStart g w h) ≡ true) where
   begun-disk : diskOf (onStore w (beginCommit g w h salt .pager)) ≡ diskOf w
   begun-disk = rw (begun-commit g w h e salt)
 
-  pub commit-done : Rests g (todo g (onStore w (beginCommit g w h salt .pager))) w (commitWorld g w h salt)
+  pub commit-ended : {P : ℕ → Bool} → ReadyOf P g (onStore w (beginCommit g w h salt .pager))
+      → Rests P g (todo g (onStore w (beginCommit g w h salt .pager))) w (commitWorld g w h salt)
   unfolding commitWorld
-  commit-done =
-      let d = all-done g (onStore w (beginCommit g w h salt .pager)) (commit-ready g w h e salt m) (commit-inside g w h e salt) in
+  commit-ended r =
+      let d = all-done g (onStore w (beginCommit g w h salt .pager)) r (commit-inside g w h e salt) in
       let x : commitWorld g w h salt ≡ steps g mostSteps (onStore w (beginCommit g w h salt .pager)) = rw e in
       rw x (record { idle = d .idle; disk = d .disk ∙ ap (storedAll (todo g (onStore w (beginCommit g w h salt .pager)))) begun-disk; ready = d .ready })
 
-module _ (g : List ℕ) (w : World) (salt : ℕ) (e : isFolding (checkpointStart g w) ≡ true) (m : Made w) where
+  pub commit-done : length (w .pager .staged .pages) ≡ stagedLimit
+      → Rests (isStaged (w .pager .staged)) g (todo g (onStore w (beginCommit g w h salt .pager))) w (commitWorld g w h salt)
+  commit-done s = commit-ended (commit-ready g w h e salt s)
+
+module _ (g : List ℕ) (w : World) (salt : ℕ) (e : isFolding (checkpointStart g w) ≡ true) where
   fold-disk : diskOf (onStore w (beginCheckpoint g w salt .pager)) ≡ diskOf w
   fold-disk = rw (begun-checkpoint g w e salt)
 
-  pub checkpoint-done : Rests g (todo g (onStore w (beginCheckpoint g w salt .pager))) w (checkpointWorld g w salt)
+  pub checkpoint-done : length (w .pager .staged .pages) ≡ stagedLimit
+      → Rests (λ (n : ℕ). false) g (todo g (onStore w (beginCheckpoint g w salt .pager))) w (checkpointWorld g w salt)
   unfolding checkpointWorld
-  checkpoint-done =
-      let d = all-done g (onStore w (beginCheckpoint g w salt .pager)) (checkpoint-ready g w e salt m) (checkpoint-inside g w e salt) in
+  checkpoint-done s =
+      let d = all-done g (onStore w (beginCheckpoint g w salt .pager)) (checkpoint-ready g w e salt s) (checkpoint-inside g w e salt) in
       let x : checkpointWorld g w salt ≡ steps g mostSteps (onStore w (beginCheckpoint g w salt .pager)) = rw e in
       rw x (record { idle = d .idle; disk = d .disk ∙ ap (storedAll (todo g (onStore w (beginCheckpoint g w salt .pager)))) fold-disk; ready = d .ready })

@@ -34,6 +34,16 @@ module _ (t : List ℕ) (q x n : ℕ) (d : n ≡ q → ⊥) where
   unfolding onMain
   main-other = rw (getD-set-other t q n x 0 d)
 
+pub getD-past : (l : List ℕ) (n : ℕ) → length l ≤ n → getD l n 0 ≡ 0
+getD-past [] n h = refl
+getD-past (a ∷ l) zero h = absurd (omega arith)
+getD-past (a ∷ l) (suc n) h = getD-past l n (omega arith)
+
+-- behind the table's end no page has one
+pub log-past : (t : List ℕ) (n : ℕ) → length t ≤ n → inLog t n ≡ false
+unfolding inLog frameOf
+log-past t n h = rw (getD-past t n h)
+
 -- an entry's flag is 0 or 1
 pub flag-small : (b : Bool) → pick b 1 0 < 2
 flag-small true = omega arith
@@ -61,23 +71,24 @@ main-own t q at h =
 pub length-entered : (t : List ℕ) (q at : ℕ) → length (entered t q at) ≡ length t
 length-entered t q at = length-set t q (entry at (onMain t q))
 
--- the frames that the table names lie below `at`
-abbrev pub Below : List ℕ → ℕ → Type 0
-Below t at = (n : ℕ) → n < pageLimit → inLog t n ≡ true → frameOf t n + 4112 ≤ at
+-- the frames that the table names for the pages that P names lie below `at`
+abbrev pub Below : (ℕ → Bool) → List ℕ → ℕ → Type 0
+Below P t at = (n : ℕ) → n < pageLimit → P n ≡ true → inLog t n ≡ true → frameOf t n + 4112 ≤ at
 
 -- .. and with one entered there, below its end
-module _ (t : List ℕ) (q at : ℕ) (l : q < length t) (b : Below t at) where
-  below-at : (n : ℕ) → n < pageLimit → inLog (entered t q at) n ≡ true → (s : Bool) → eqb n q ≡ s → frameOf (entered t q at) n + 4112 ≤ at + 4112
-  below-at n h i true s =
+module _ (P : ℕ → Bool) (t : List ℕ) (q at : ℕ) (l : q < length t) (b : Below P t at) where
+  below-at : (n : ℕ) → n < pageLimit → P n ≡ true → inLog (entered t q at) n ≡ true → (s : Bool) → eqb n q ≡ s
+      → frameOf (entered t q at) n + 4112 ≤ at + 4112
+  below-at n h o i true s =
       let e : frameOf (entered t q at) n ≡ at = rw (eqb-true n q s) (frame-own t q at l) in
       omega arith
-  below-at n h i false s =
+  below-at n h o i false s =
       let d = eqb-false n q s in
-      let y : frameOf t n + 4112 ≤ at = b n h (sym (log-other t q (entry at (onMain t q)) n d) ∙ i) in
+      let y : frameOf t n + 4112 ≤ at = b n h o (sym (log-other t q (entry at (onMain t q)) n d) ∙ i) in
       omega (arith, frame-other t q (entry at (onMain t q)) n d)
 
-  pub below-entered : Below (entered t q at) (at + 4112)
-  below-entered n h i = below-at n h i (eqb n q) refl
+  pub below-entered : Below P (entered t q at) (at + 4112)
+  below-entered n h o i = below-at n h o i (eqb n q) refl
 
 -- ---- the bytes of another page after a frame
 
@@ -86,16 +97,16 @@ pub part-before : (l : List ℕ) (at : ℕ) (bs : List ℕ) (i k : ℕ) → i + 
 part-before l at bs i k h e = sym (drop-take i k (put l at bs)) ∙ ap (drop i) (take-put (i + k) l at bs h e) ∙ drop-take i k l
 
 module _ (v w : World) (q x at : ℕ) (bs : List ℕ) (t : v .table ≡ set (w .table) q x) (l : v .log ≡ put (w .log) at bs) (m : v .main ≡ w .main)
-    (a : at ≤ length (w .log)) (b : Below (w .table) at) where
-  bytes-at : (n : ℕ) → n < pageLimit → (n ≡ q → ⊥) → (s : Bool) → inLog (w .table) n ≡ s → committedBytes v n ≡ committedBytes w n
+    (a : at ≤ length (w .log)) (n : ℕ) (d : n ≡ q → ⊥) (b : inLog (w .table) n ≡ true → frameOf (w .table) n + 4112 ≤ at) where
+  bytes-at : (s : Bool) → inLog (w .table) n ≡ s → committedBytes v n ≡ committedBytes w n
   unfolding committedBytes logBytes
-  bytes-at n h d true s =
+  bytes-at true s =
       rw (t, l, log-other (w .table) q x n d, s, frame-other (w .table) q x n d)
-      (part-before (w .log) at bs (frameOf (w .table) n + 16) 4096 (omega (arith, b n h s)) a)
-  bytes-at n h d false s = rw (t, m, log-other (w .table) q x n d, s, main-other (w .table) q x n d)
+      (part-before (w .log) at bs (frameOf (w .table) n + 16) 4096 (omega (arith, b s)) a)
+  bytes-at false s = rw (t, m, log-other (w .table) q x n d, s, main-other (w .table) q x n d)
 
-  pub bytes-other : (n : ℕ) → n < pageLimit → (n ≡ q → ⊥) → committedBytes v n ≡ committedBytes w n
-  bytes-other n h d = bytes-at n h d (inLog (w .table) n) refl
+  pub bytes-other : committedBytes v n ≡ committedBytes w n
+  bytes-other = bytes-at (inLog (w .table) n) refl
 
 -- ---- folding
 
@@ -118,8 +129,8 @@ folded-none count k t n =
     let e : getD (foldedFrom count k t) n 0 / 2 ≡ 0 = omega (arith, folded-small count k t n) in
     rw e
 
-pub folded-below : (count k : ℕ) (t : List ℕ) (at : ℕ) → Below (foldedFrom count k t) at
-folded-below count k t at n h i = no-test (sym (folded-none count k t n) ∙ i)
+pub folded-below : (P : ℕ → Bool) (count k : ℕ) (t : List ℕ) (at : ℕ) → Below P (foldedFrom count k t) at
+folded-below P count k t at n h o i = no-test (sym (folded-none count k t n) ∙ i)
 
 pub length-folded : (count k : ℕ) (t : List ℕ) → length (foldedFrom count k t) ≡ length t
 unfolding foldedFrom

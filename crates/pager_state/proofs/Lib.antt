@@ -11,6 +11,7 @@ pub mod Advance
 pub mod Steps
 pub mod Runs
 pub mod Inside
+pub mod Before
 pub mod Begun
 pub mod Done
 pub mod Answers

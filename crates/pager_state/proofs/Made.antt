@@ -12,7 +12,7 @@ use Rattle.frame.specs.Frame.{frameSize}
 use Rattle.wal.specs.Header.{headerSize}
 use Rattle.wal.specs.Recovery.{walArea}
 use Rattle.pager_state.specs.World.{World, mainArea, stagingArea, stagedLimit, pageLimit, countOf, headerOf, tableFine, logFine, mainFine, countFine, stagingFine, fine}
-use Rattle.pager_state.specs.Overlay.{frameOf, inLog}
+use Rattle.pager_state.specs.Overlay.{isStaged, frameOf, inLog}
 use Rattle.pager_state.specs.Stores.{diskOf}
 use Rattle.pager_state.specs.Steps.{stepFine}
 use Rattle.pager_state.specs.declared.Job.{Job}
@@ -58,27 +58,41 @@ fine-whole w s =
 
 -- ---- what the calls see to
 
--- the frames that the table names lie inside the log
-abbrev pub Placed : World → Type 0
-Placed w = (n : ℕ) → n < pageLimit → inLog (w .table) n ≡ true → frameOf (w .table) n + frameSize ≤ w .pager .wal .len
+-- of the pages that P names: the frames that the table names for them lie inside the log
+abbrev pub PlacedOf : (ℕ → Bool) → World → Type 0
+PlacedOf P w = (n : ℕ) → n < pageLimit → P n ≡ true → inLog (w .table) n ≡ true → frameOf (w .table) n + frameSize ≤ w .pager .wal .len
+
+-- P names all staged pages
+abbrev pub Names : (ℕ → Bool) → World → Type 0
+Names P w = (n : ℕ) → isStaged (w .pager .staged) n ≡ true → P n ≡ true
 
 -- by the job: a commit's header can count; before a fold's last store the log is emptied and the table's places are void
-abbrev pub Asks : Job → World → Type 0
-Asks job.Idle w = Placed w
-Asks (job.Commit h salt page answer) w = Placed w × (countOf h ≤ pageLimit)
-Asks (job.Fold salt page answer) w = Placed w
-Asks (job.MainLength salt answer) w = Placed w
-Asks (job.LogLength salt answer) w = Placed w
-Asks (job.LogHeader salt answer) w = w .pager .wal .len ≡ headerSize
+abbrev pub AsksOf : (ℕ → Bool) → Job → World → Type 0
+AsksOf P job.Idle w = PlacedOf P w
+AsksOf P (job.Commit h salt page answer) w = PlacedOf P w × (Names P w × (countOf h ≤ pageLimit))
+AsksOf P (job.Fold salt page answer) w = PlacedOf P w
+AsksOf P (job.MainLength salt answer) w = PlacedOf P w
+AsksOf P (job.LogLength salt answer) w = PlacedOf P w
+AsksOf P (job.LogHeader salt answer) w = w .pager .wal .len ≡ headerSize
 
-pub record Made (w : World) : Type 0 where
+pub record MadeOf (P : ℕ → Bool) (w : World) : Type 0 where
   pub slots : length (w .pager .staged .pages) ≡ stagedLimit
-  pub asked : Asks (w .pager .job) w
+  pub asked : AsksOf P (w .pager .job) w
 
 -- a store whose next step is not refused for its areas
-pub record Ready (g : List ℕ) (w : World) : Type 0 where
+pub record ReadyOf (P : ℕ → Bool) (g : List ℕ) (w : World) : Type 0 where
   pub right : stepFine g w ≡ true
-  pub made : Made w
+  pub made : MadeOf P w
+
+-- of every page: so are the stores that the calls make
+abbrev pub every : ℕ → Bool
+every n = true
+
+abbrev pub Made : World → Type 0
+Made w = MadeOf every w
+
+abbrev pub Ready : List ℕ → World → Type 0
+Ready g w = ReadyOf every g w
 
 pub ready-fine : (g : List ℕ) (w : World) → stepFine g w ≡ true → Fine w × (length g ≡ stagingArea)
 ready-fine g w e =

@@ -33,7 +33,7 @@ use Rattle.pager_state.specs.Opened.{Opens}
 use Rattle.pager_state.specs.Opened as opened
 use Rattle.pager_state.proofs.Sizes.{empty-len}
 use Rattle.pager_state.proofs.Entries.{flag-small, Below}
-use Rattle.pager_state.proofs.Made.{Made}
+use Rattle.pager_state.proofs.Made.{Made, every}
 
 -- ---- the table of an opening
 
@@ -72,8 +72,8 @@ unfolding inLog
 in-log t n e = eqb-false (frameOf t n) 0 (not-true (eqb (frameOf t n) 0) e)
 
 -- a log of at bytes has room for the frames
-pub table-below : (h : DbHeader) (fs : List (List ℕ)) (at : ℕ) → length fs ≤ (at - 32) / 4112 → Below (tableOf h fs) at
-table-below h fs at l n b i = by (place-inside n 0 fs)
+pub table-below : (h : DbHeader) (fs : List (List ℕ)) (at : ℕ) → length fs ≤ (at - 32) / 4112 → Below every (tableOf h fs) at
+table-below h fs at l n b o i = by (place-inside n 0 fs)
   where
     by : (placeFrom n 0 fs ≡ 0) ⊎ (placeFrom n 0 fs + 4112 ≤ chunkAt (0 + length fs)) → frameOf (tableOf h fs) n + 4112 ≤ at
     by (inl e) = absurd (in-log (tableOf h fs) n i (table-frame h fs n b ∙ e))

@@ -51,6 +51,16 @@ pub find-there : (l : List ℕ) (p : ℕ) → findIn l p < length l → getD l (
 find-there [] p h = absurd (omega arith)
 find-there (x ∷ l) p h = there-next x p l (eqb x p) refl (find-there l p) h
 
+find-most-at : (y x : ℕ) (l : List ℕ) (j : ℕ) (b : Bool) → eqb y x ≡ b → findIn l x ≤ j → pick b 0 (suc (findIn l x)) ≤ suc j
+find-most-at y x l j true e h = omega arith
+find-most-at y x l j false e h = omega arith
+
+-- it is found there or before
+pub find-most : (l : List ℕ) (j x : ℕ) → j < length l → getD l j 0 ≡ x → findIn l x ≤ j
+find-most [] j x h e = absurd (omega arith)
+find-most (y ∷ l) zero x h e = rw (eq-eqb y x e) (omega arith)
+find-most (y ∷ l) (suc j) x h e = find-most-at y x l j (eqb y x) refl (find-most l j x (omega arith) e)
+
 pub find-take : (l : List ℕ) (n p : ℕ) → findIn (take n l) p ≡ min n (findIn l p)
 find-take [] zero p = omega arith
 find-take [] (suc n) p = omega arith

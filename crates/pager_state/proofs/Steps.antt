@@ -17,7 +17,7 @@ use Rattle.pager_state.specs.declared.Job.{Job}
 use Rattle.pager_state.specs.declared.Job.the-variants as job
 use Rattle.pager_state.proofs.Stored.{stored-areas}
 use Rattle.pager_state.proofs.Next.{todo-by, Next, Frame, Seal, Page, MainHeader, MainLength, LogLength, LogHeader, next}
-use Rattle.pager_state.proofs.Made.{Fine, Asks, Made, Ready, ready-fine, fine-ready}
+use Rattle.pager_state.proofs.Made.{Fine, AsksOf, MadeOf, ReadyOf, ready-fine, fine-ready}
 use Rattle.pager_state.proofs.Advance.{After, after-framed, after-sealed, after-paged, after-headed, after-lengthened, after-emptied, after-folded}
 
 -- a page that differs is staged
@@ -27,17 +27,17 @@ differs-staged g w n e = both-true (isStaged (w .pager .staged) n) _ e .0
 
 -- ---- the next store, done
 
-module _ (g : List ℕ) (w : World) (a : Act) (rest : List Act) (v : World) (f : Fine w) (k : length g ≡ stagingArea) (m : Made w) where
-  asked-by : (j : Job) → w .pager .job ≡ j → Asks j w
-  asked-by j e = subst (λ (x : Job). Asks x w) e (m .asked)
+module _ {P : ℕ → Bool} (g : List ℕ) (w : World) (a : Act) (rest : List Act) (v : World) (f : Fine w) (k : length g ≡ stagingArea) (m : MadeOf P w) where
+  asked-by : (j : Job) → w .pager .job ≡ j → AsksOf P j w
+  asked-by j e = subst (λ (x : Job). AsksOf P x w) e (m .asked)
 
-  after-next : Next g w a rest v → After g w a rest v
+  after-next : Next g w a rest v → After P g w a rest v
   after-next (Frame h salt page answer n j r x y z) =
       let p = asked-by (job.Commit h salt page answer) j in
-      rw (x, y, z) (after-framed g h salt answer w n f k m (p .0) (p .1) (differs-staged g w n (r .holds)) (r .below) (ap answerOf j))
+      rw (x, y, z) (after-framed g h salt answer w n f k m (p .0) (p .1 .0) (p .1 .1) (differs-staged g w n (r .holds)) (r .below) (ap answerOf j))
   after-next (Seal h salt page answer j r x y z) =
       let p = asked-by (job.Commit h salt page answer) j in
-      rw (x, y, z) (after-sealed g h salt answer w f m (p .0) (p .1) (ap answerOf j))
+      rw (x, y, z) (after-sealed g h salt answer w f m (p .0) (p .1 .1) (ap answerOf j))
   after-next (Page salt page answer n j r x y z) =
       rw (x, y, z)
       (after-paged g salt answer w f m (ap answerOf j) (asked-by (job.Fold salt page answer) j) n (none (pagesFrom (folds w) (suc n))))
@@ -60,20 +60,20 @@ module _ (g : List ℕ) (w : World) (a : Act) (rest : List Act) (t : todo g w �
   pub step-next : stepFine g w ≡ true → Next g w a rest (stepped g w)
   step-next e = rw (done-by e) (next g w a rest t)
 
-  pub step-after : Ready g w → After g w a rest (stepped g w)
+  pub step-after : {P : ℕ → Bool} → ReadyOf P g w → After P g w a rest (stepped g w)
   step-after r =
       let p = ready-fine g w (r .right) in
       after-next g w a rest (stepped g w) (p .0) (p .1) (r .made) (step-next (r .right))
 
   -- the files are those of the first store
-  pub step-disk : Ready g w → diskOf (stepped g w) ≡ stored a (diskOf w)
+  pub step-disk : {P : ℕ → Bool} → ReadyOf P g w → diskOf (stepped g w) ≡ stored a (diskOf w)
   step-disk r = step-after r .disk
 
   -- the rest is left to do
-  pub step-rest : Ready g w → todo g (stepped g w) ≡ rest
+  pub step-rest : {P : ℕ → Bool} → ReadyOf P g w → todo g (stepped g w) ≡ rest
   step-rest r = step-after r .left
 
-  done-ready : Ready g w → Ready g (stepped g w)
+  done-ready : {P : ℕ → Bool} → ReadyOf P g w → ReadyOf P g (stepped g w)
   done-ready r =
       let p = ready-fine g w (r .right) in
       let x = step-after r in
@@ -112,20 +112,20 @@ module _ (g : List ℕ) (w : World) where
 
   -- ---- what the laws ask stays, whether the step is done or not
 
-  keeps-at : Ready g w → (l : List Act) → todo g w ≡ l → Ready g (stepped g w)
+  keeps-at : {P : ℕ → Bool} → ReadyOf P g w → (l : List Act) → todo g w ≡ l → ReadyOf P g (stepped g w)
   keeps-at r [] t = rw (step-none t) r
-  keeps-at r (a ∷ rest) t = by (inside a) refl
+  keeps-at {P} r (a ∷ rest) t = by (inside a) refl
     where
-      by : (b : Bool) → inside a ≡ b → Ready g (stepped g w)
+      by : (b : Bool) → inside a ≡ b → ReadyOf P g (stepped g w)
       by true i = done-ready g w a rest t i r
       by false i = rw (step-outside a rest t i) r
 
-  pub step-keeps : Ready g w → Ready g (stepped g w)
+  pub step-keeps : {P : ℕ → Bool} → ReadyOf P g w → ReadyOf P g (stepped g w)
   step-keeps r = keeps-at r (todo g w) refl
 
-  made-at : Made w → (b : Bool) → stepFine g w ≡ b → Made (stepped g w)
+  made-at : {P : ℕ → Bool} → MadeOf P w → (b : Bool) → stepFine g w ≡ b → MadeOf P (stepped g w)
   made-at m true e = step-keeps (record { right = e; made = m }) .made
   made-at m false e = rw (step-unfine e) m
 
-  pub made-keeps : Made w → Made (stepped g w)
+  pub made-keeps : {P : ℕ → Bool} → MadeOf P w → MadeOf P (stepped g w)
   made-keeps m = made-at m (stepFine g w) refl

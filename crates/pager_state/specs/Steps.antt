@@ -10,7 +10,7 @@ use Rattle.header.specs.declared.DbHeader.{DbHeader}
 use Rattle.frame.specs.Frame.{frameSize}
 use Rattle.wal.specs.Recovery.{walArea}
 use Rattle.pager_state.specs.World.{World, world, pageLimit, countOf, headerOf, fine, stagingFine, busy, readOnly, withJob}
-use Rattle.pager_state.specs.Overlay.{frameOf}
+use Rattle.pager_state.specs.Overlay.{stagedPages, frameOf, inLog}
 use Rattle.pager_state.specs.Stores.{Act, placeOf, inside}
 use Rattle.pager_state.specs.Pages.{pagesFrom, firstOf, differs, folds, lacks}
 use Rattle.pager_state.specs.Fold.{foldTodo, foldAdvance}
@@ -49,10 +49,24 @@ lacking w h = firstOf (pagesFrom (lacks (w .pager .staged) (countOf (headerOf (w
 abbrev pub roomFor : World → ℕ → Bool
 roomFor w n = leb (w .pager .wal .len + frameSize * n) walArea
 
+-- a page's frame in the log, if the table names one, ends at len or before
+abbrev pub standsBefore : List ℕ → ℕ → ℕ → Bool
+standsBefore t n len = pick (inLog t n) (leb (frameOf t n + frameSize) len) true
+
+-- each of these pages' does
+unfoldable pub allBefore : List ℕ → ℕ → List ℕ → Bool
+allBefore t len [] = true
+allBefore t len (n ∷ ns) = both (standsBefore t n len) (allBefore t len ns)
+
+-- the first of them, 1, is of the lengths; and of the table: all that staged pages are compared with ends at the log's length or before,
+-- so that no frame of the commit is stored over it. Only a made-up table names another place.
+abbrev pub commitFine : List ℕ → World → Bool
+commitFine g w = both (both (fine w) (stagingFine g)) (allBefore (w .table) (w .pager .wal .len) (stagedPages (w .pager .staged)))
+
 -- refusals in the order of their numbers: 1, 9, 10, 13, 14, 15
 unfoldable pub commitStart : List ℕ → World → DbHeader → CommitStart
 commitStart g w h =
-    pick (both (fine w) (stagingFine g))
+    pick (commitFine g w)
     (pick (busy (w .pager)) commit.Busy
     (pick (readOnly (w .pager)) commit.ReadOnly
     (pick (headerGood h)

@@ -1,6 +1,5 @@
 use native.Mathlib.Omega.{arith}
-use mathlib.Core.Path.{_≡_, sym, _∙_}
-use mathlib.Core.Bool.{true}
+use mathlib.Core.Path.{_≡_, _∙_}
 use denote.Ref.{now}
 use borrow.Author.Needs.{needs}
 use Prim.Native.Nat.{_-_, _≤_, _<_, min}
@@ -10,16 +9,16 @@ use Rattle.pager_state.specs.Pages.{pagesFrom}
 use Rattle.pager_state.specs.Overlay.{stagedPages}
 use Rattle.pager_state.proofs.Held.{slots}
 use Rattle.pager_commit.proofs.Differing.{Upto, count-none, count-step, count-all, tally-most}
-use Rattle.pager_commit.proofs.Marks.{Marks, marks-none, marks-step, Still, still-none, still-step, marks-all}
+use Rattle.pager_commit.proofs.Marks.{Marks, marks-none, marks-step, marks-all}
 use Rattle.pager_commit.proofs.mark_differing.Statement.{statement}
 use Rattle.pager_commit.proofs.mark_differing.Tie as tie
 
 abbrev Inv-loop : tie.InvT-loop
-Inv-loop len table log main staging staged count end pages₀ n₀ still₀ i₀ pages n still i =
-    (end ≡ min (staged .count) 64) × ((i ≤ end) × ((n ≤ i) × ((n ≡ length (pagesFrom (Upto staged staging table log main i) 0)) × (Marks staged staging table log main i pages × (still ≡ true → Still staged staging table log main len i)))))
+Inv-loop table log main staging staged count end pages₀ n₀ i₀ pages n i =
+    (end ≡ min (staged .count) 64) × ((i ≤ end) × ((n ≤ i) × ((n ≡ length (pagesFrom (Upto staged staging table log main i) 0)) × Marks staged staging table log main i pages)))
 
 abbrev μ-loop : tie.MeasureT-loop
-μ-loop len table log main staging staged count end pages₀ n₀ still₀ i₀ pages n still i = end - i
+μ-loop table log main staging staged count end pages₀ n₀ i₀ pages n i = end - i
 
 loop-holds : tie.Need-loop-holds Inv-loop μ-loop
 loop-holds c =
@@ -28,7 +27,7 @@ loop-holds c =
     let t = now (a .table) in
     let l = now (a .log) in
     let m = now (a .main) in
-    (c .lower .ensures, (omega arith, (omega arith, (count-none (a .t1) g t l m, (marks-none (a .t1) g t l m, λ z. still-none (a .t1) g t l m (a .len))))))
+    (c .lower .ensures, (omega arith, (omega arith, (count-none (a .t1) g t l m, marks-none (a .t1) g t l m))))
 
 element-copy-out-number : tie.Need-element-copy-out-number Inv-loop μ-loop
 element-copy-out-number c = omega arith
@@ -53,40 +52,24 @@ loop-again c =
     let c1 = c .before in
     let c2 = c1 .before in
     let c3 = c2 .before in
-    let c4 = c3 .before in
-    let c5 = c4 .before in
-    let c9 = c5 .before .before .before .before in
-    let c12 = c9 .before .before .before in
-    let c18 = c12 .before .before .before .before .before .before in
-    let s = c18 .args .t1 in
-    let g = now (c18 .args .staging) in
-    let t = now (c18 .args .table) in
-    let l = now (c18 .args .log) in
-    let m = now (c18 .args .main) in
-    let v = c12 .loop .inv in
-    let z : length (s .pages) ≡ 64 = slots s _ (c18 .good .0) in
+    let c7 = c3 .before .before .before .before in
+    let c10 = c7 .before .before .before in
+    let c16 = c10 .before .before .before .before .before .before in
+    let s = c16 .args .t1 in
+    let g = now (c16 .args .staging) in
+    let t = now (c16 .args .table) in
+    let l = now (c16 .args .log) in
+    let m = now (c16 .args .main) in
+    let v = c10 .loop .inv in
+    let z : length (s .pages) ≡ 64 = slots s _ (c16 .good .0) in
     let y : length (stagedPages s) ≡ min (s .count) 64 = simp (length-take, z) in
-    let h : c12 .loop .i < length (stagedPages s) = omega arith in
-    let b : c12 .loop .i < 64 = omega arith in
-    let e = c9 .wide .ensures in
-    let d : c3 .mark .result ≡ pick (c4 .is-counted .result) (c9 .wide .result) 65535 = c3 .mark .ensures ∙ rw e in
-    let k = count-step s g t l m (c12 .loop .i) (c9 .wide .result) h e (c5 .find-in .ensures) (c4 .is-counted .ensures) (c2 .tally .ensures) (v .1 .1 .1 .0) in
-    let p = marks-step s g t l m (c12 .loop .i) (v .1 .1 .1 .1 .0) b e (c5 .find-in .ensures) (c4 .is-counted .ensures) d in (
-      v .0,
-      (
-        omega arith,
-        (
-          tally-most (c12 .loop .n) (c4 .is-counted .result) (c2 .tally .ensures) (v .1 .1 .0),
-          (
-            k,
-            (
-              p,
-              λ x. still-step s g t l m (c18 .args .len) (c12 .loop .i) e (c1 .stands-before .ensures) (v .1 .1 .1 .1 .1) (sym (c .both .ensures) ∙ x),
-            ),
-          ),
-        ),
-      ),
-    )
+    let h : c10 .loop .i < length (stagedPages s) = omega arith in
+    let b : c10 .loop .i < 64 = omega arith in
+    let e = c7 .wide .ensures in
+    let d : c1 .mark .result ≡ pick (c2 .is-counted .result) (c7 .wide .result) 65535 = c1 .mark .ensures ∙ rw e in
+    let k = count-step s g t l m (c10 .loop .i) (c7 .wide .result) h e (c3 .find-in .ensures) (c2 .is-counted .ensures) (c .tally .ensures) (v .1 .1 .1 .0) in
+    let p = marks-step s g t l m (c10 .loop .i) (v .1 .1 .1 .1) b e (c3 .find-in .ensures) (c2 .is-counted .ensures) d in
+    (v .0, (omega arith, (tally-most (c10 .loop .n) (c2 .is-counted .result) (c .tally .ensures) (v .1 .1 .0), (k, p))))
 
 returns : tie.Need-returns Inv-loop μ-loop
 returns c =
@@ -101,9 +84,9 @@ returns c =
     let z : length (s .pages) ≡ 64 = slots s _ (c7 .good .0) in
     let y : length (stagedPages s) ≡ min (s .count) 64 = simp (length-take, z) in
     let e : c1 .loop .i ≡ length (stagedPages s) = omega arith in
-    (v .0 ∙ count-all s g t l m (c1 .loop .i) e, ((omega arith, v .1 .0 .long), λ x. marks-all s g t l m (c1 .loop .i) (v .1 .0) e z (c7 .args .len) (v .1 .1 x)))
+    (v .0 ∙ count-all s g t l m (c1 .loop .i) e, ((omega arith, v .1 .long), λ len x. marks-all s g t l m (c1 .loop .i) (v .1) e z len x))
 
 pub mark-differing-spec : {M : Type 1} → statement M
 mark-differing-spec =
     tie.close
-    (tie.spec Inv-loop μ-loop (search needs) loop-holds (search needs) element-copy-out-number (search needs) (search needs) is-counted-requires (search needs) (search needs) array-write-pages tally-requires (search needs) (search needs) add-i loop-less loop-again returns)
+    (tie.spec Inv-loop μ-loop (search needs) loop-holds (search needs) element-copy-out-number (search needs) (search needs) is-counted-requires (search needs) (search needs) array-write-pages tally-requires add-i loop-less loop-again returns)

@@ -10,17 +10,17 @@ use Rattle.wal.specs.Write.{hasRoom}
 use Rattle.wal.specs.declared.Wal.{Wal}
 use Rattle.pager_state.specs.Pages.{pagesFrom}
 use Rattle.pager_state.specs.declared.Staged.{Staged}
-use Rattle.pager_state.proofs.Searches.{First, lowest, pages-end}
+use Rattle.pager_state.proofs.Searches.{First, lowest, pages-end, pages-length}
 use Rattle.pager_state.proofs.Sizes.{frame-len}
 use Rattle.pager_state.proofs.Walks.{none-found}
 use Rattle.pager_commit.specs.CommitStep.{isIn, FramesRun, Marking}
-use Rattle.pager_commit.proofs.Whole.{run-none, run-mark, none-marked, room-left}
+use Rattle.pager_commit.proofs.Whole.{run-none, run-mark, none-marked, room-left, counted}
 use Rattle.pager_commit.proofs.store_frames.Statement.{statement}
 use Rattle.pager_commit.proofs.store_frames.Tie as tie
 
 abbrev Inv-loop : tie.InvT-loop
 Inv-loop marks n table₀ log₀ staging wal₀ page₀ count₀ table log wal page count =
-    (length table ≡ length table₀) × ((length log ≡ length log₀) × ((wal₀ .len ≤ wal .len) × ((wal .len + 4112 * (length (pagesFrom (isIn (take n marks)) page) + 1) ≤ 4210720) × ((count ≤ page) × ((page ≤ 1024) × ((s : Staged) (m : List ℕ) → Marking staging m s (wal₀ .len) table₀ log₀ (take n marks) 0 → FramesRun staging m s wal₀ table₀ log₀ count page wal table log × Marking staging m s (wal₀ .len) table log (take n marks) page))))))
+    (length table ≡ length table₀) × ((length log ≡ length log₀) × ((wal₀ .len ≤ wal .len) × ((wal .len + 4112 * (length (pagesFrom (isIn (take n marks)) page) + 1) ≤ 4210720) × ((count + length (pagesFrom (isIn (take n marks)) page) ≡ length (pagesFrom (isIn (take n marks)) 0)) × ((page ≤ 1024) × ((s : Staged) (m : List ℕ) → Marking staging m s (wal₀ .len) table₀ log₀ (take n marks) 0 → FramesRun staging m s wal₀ table₀ log₀ count page wal table log × Marking staging m s (wal₀ .len) table log (take n marks) page))))))
 
 abbrev μ-loop : tie.MeasureT-loop
 μ-loop marks n table₀ log₀ staging wal₀ page₀ count₀ table log wal page count = 1024 - page
@@ -47,7 +47,8 @@ returns c =
     let M = take (c9 .args .n) (now (c9 .args .marks)) in
     let i = c4 .loop .inv .1 .1 .1 in
     let z = none-found (isIn M) (c4 .loop .page) (c2 .next-of .result .page) (c2 .next-of .ensures .0) (c .if1 .taken) in
-    (λ s m k. (i .1 .1 .1 s m k .0, none-marked (c4 .loop .page) (i .1 .1 .1 s m k .1) z), (omega (arith, i .1 .0, i .1 .1 .0), omega (arith, i .0)))
+    let e = ap length z in
+    (λ s m k. (i .1 .1 .1 s m k .0, none-marked (c4 .loop .page) (i .1 .1 .1 s m k .1) z), (omega (arith, i .1 .0, e), omega (arith, i .0)))
 
 -- the page that was found, and that there is room for its frame
 found : (c : tie.After-store-frame-arg Inv-loop μ-loop) → First (isIn (take (c .before .before .before .before .before .before .before .before .before .before .args .n) (now (c .before .before .before .before .before .before .before .before .before .before .args .marks)))) (c .before .before .before .before .before .loop .page) (c .before .before .before .next-of .result .page)
@@ -78,8 +79,9 @@ add-page c = omega (arith, c .before .before .before .before .before .before .be
 
 add-count : tie.Need-add-count Inv-loop μ-loop
 add-count c =
-    let i = c .before .before .before .before .before .before .before .before .before .before .before .before .loop .inv .1 .1 .1 .1 in
-    omega (arith, i .0, i .1 .0)
+    let l = c .before .before .before .before .before .before .before .before .before .before .before .before in
+    let a = l .before .before .before .before .before .args in
+    omega (arith, l .loop .inv .1 .1 .1 .1 .0, pages-length (isIn (take (a .n) (now (a .marks)))) 0)
 
 loop-less : tie.Need-loop-less Inv-loop μ-loop
 loop-less c =
@@ -105,7 +107,7 @@ loop-again c =
     let o = room c7 in
     let x = c10 .next-of .ensures .1 .0 (c8 .if1 .left) in
     let u : c5 .store-frame .result .len ≡ v .len + 4112 = ap (λ (w : Wal). w .len) (s .0) ∙ frame-len v 0 in
-    (c5 .store-frame .kept .1 .1 .0 ∙ i .0, (c5 .store-frame .kept .1 .1 .1 .0 ∙ i .1 .0, (omega (arith, u, i .1 .1 .0), (room-left (isIn M) (v .len) p u (i .1 .1 .1 .0), (omega (arith, i .1 .1 .1 .1 .0, p .from), (omega (arith, p .below), λ t m k. run-mark g m t (a .first) (now (a .table)) (now (a .log)) (c12 .loop .count) (c12 .loop .page) (i .1 .1 .1 .1 .1 .1 t m k .0) (i .0 ∙ c17 .pre .1 .0) (i .1 .0 ∙ c17 .pre .1 .1 .0) (i .1 .1 .0) q (c10 .next-of .result .index) (c17 .pre .1 .1 .1 .0) (i .1 .1 .1 .1 .1 .1 t m k .1) p x (c10 .next-of .ensures .1 .1) o (s .0) (s .1 .0) (s .1 .1)))))))
+    (c5 .store-frame .kept .1 .1 .0 ∙ i .0, (c5 .store-frame .kept .1 .1 .1 .0 ∙ i .1 .0, (omega (arith, u, i .1 .1 .0), (room-left (isIn M) (v .len) p u (i .1 .1 .1 .0), (counted (isIn M) (c12 .loop .count) p (i .1 .1 .1 .1 .0), (omega (arith, p .below), λ t m k. run-mark g m t (a .first) (now (a .table)) (now (a .log)) (c12 .loop .count) (c12 .loop .page) (i .1 .1 .1 .1 .1 .1 t m k .0) (i .0 ∙ c17 .pre .1 .0) (i .1 .0 ∙ c17 .pre .1 .1 .0) (i .1 .1 .0) q (c10 .next-of .result .index) (c17 .pre .1 .1 .1 .0) (i .1 .1 .1 .1 .1 .1 t m k .1) p x (c10 .next-of .ensures .1 .1) o (s .0) (s .1 .0) (s .1 .1)))))))
 
 same-length-3 : tie.Need-same-length-3 Inv-loop μ-loop
 same-length-3 c = c .before .loop .inv .0
@@ -119,7 +121,8 @@ returns-2 c =
     let c6 = c1 .before .before .before .before .before in
     let i = c1 .loop .inv .1 .1 .1 in
     let z = pages-end (isIn (take (c6 .args .n) (now (c6 .args .marks)))) (c1 .loop .page) (c .loop-test .left) in
-    (λ s m k. (i .1 .1 .1 s m k .0, none-marked (c1 .loop .page) (i .1 .1 .1 s m k .1) z), (omega (arith, i .1 .0, i .1 .1 .0), omega (arith, i .0)))
+    let e = ap length z in
+    (λ s m k. (i .1 .1 .1 s m k .0, none-marked (c1 .loop .page) (i .1 .1 .1 s m k .1) z), (omega (arith, i .1 .0, e), omega (arith, i .0)))
 
 pub store-frames-spec : {M : Type 1} → statement M
 store-frames-spec =
