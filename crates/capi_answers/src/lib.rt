@@ -44,7 +44,8 @@ use pager_state::StepAnswer;
 use pager_state::Stepped;
 use wal::WAL_AREA;
 
-// What a call answers that may change the store: where it is refused, the store that was given.
+// What a call answers that may change the store. Where it is refused, the store that was given; creation and openings are given none, and
+// tell one without pages that writes nothing.
 #[repr(C)]
 pub struct Answered {
     pub refusal: u32,

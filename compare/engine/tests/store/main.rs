@@ -4,4 +4,5 @@
 mod common;
 mod cuts;
 mod listing;
+mod log;
 mod salts;
