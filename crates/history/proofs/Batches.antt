@@ -100,7 +100,7 @@ module _ (w : World) (g : List ℕ) (b : Book) (z : List ℕ) (i : Inv w g b z) 
   room : w .pager .wal .len + 4112 ≤ 4210720
   room = leb-true (w .pager .wal .len + 4112) 4210720 (appending-ok .room)
 
-  abbrev f : List ℕ
+  abbrev pub f : List ℕ
   f = encodeFrame 4294967295 0 (w .pager .wal .header .salt) (canonical body)
 
   f-long : length f ≡ 4112
@@ -125,16 +125,16 @@ module _ (w : World) (g : List ℕ) (b : Book) (z : List ℕ) (i : Inv w g b z) 
   f-batch =
       rw (body-back 4294967295 0 (w .pager .wal .header .salt) (canonical body), canonical-commitTs body bs does, canonical-records body bs does)
 
-  abbrev v : World
+  abbrev pub v : World
   v = world (withWal (w .pager) (withFrame (w .pager .wal) 0)) (w .table) (put (w .log) (w .pager .wal .len) f) (w .main)
 
-  abbrev act : Act
+  abbrev pub act : Act
   act = Put Batched file.Log (w .pager .wal .len) f false
 
   stored-is : stored act (diskOf w) ≡ longer (k .it .held .on) f f-long f-good room f
   stored-is = whole-store (k .it .held .on) f f-long f-good room Batched false
 
-  disk-is : diskOf v ≡ stored act (diskOf w)
+  pub disk-is : diskOf v ≡ stored act (diskOf w)
   disk-is =
       let e : withFrame (w .pager .wal) 0 .len ≡ max (w .pager .wal .len) (w .pager .wal .len + length f) = framed-len (w .pager .wal) 0 ∙ omega (arith, f-long) in
       let q : diskOf v ≡ longer (k .it .held .on) f f-long f-good room f =
@@ -171,11 +171,11 @@ module _ (w : World) (g : List ℕ) (b : Book) (z : List ℕ) (i : Inv w g b z) 
         loose = λ n h. last-other n (k .P) f (other n h) ∙ k .it .loose n h;
       }
 
-  world-is : worldAfter (Append body) w g ≡ v
+  pub world-is : worldAfter (Append body) w g ≡ v
   unfolding worldAfter appendBatch appendAfter batchFrame
   world-is = rw answer-is
 
-  stores-is : storesOf (Append body) w g ≡ act ∷ []
+  pub stores-is : storesOf (Append body) w g ≡ act ∷ []
   unfolding storesOf batchFrame
   stores-is = refl
 

@@ -49,21 +49,21 @@ module _ (w : World) (g : List ℕ) (b : Book) (z : List ℕ) (i : Inv w g b z) 
   k : Some (Resting w g b) z
   k = at-rest w g b z i idle
 
-  abbrev u : Wal
+  abbrev pub u : Wal
   u = raised (w .pager .wal) c
 
   raised-ok : Raised (w .pager .wal) u
   unfolding raised
   raised-ok = raised-by (w .pager .wal) c (k .it .held .clock) small (leb c (w .pager .wal .header .«clock_high_water»))
 
-  abbrev v : World
+  abbrev pub v : World
   v = onStore w (withWal (w .pager) u)
 
-  pager-is : observeClock (w .pager) c .pager ≡ withWal (w .pager) u
+  pub pager-is : observeClock (w .pager) c .pager ≡ withWal (w .pager) u
   unfolding observeClock
   pager-is = rw rests (ap (λ (o : Opening). withWal (w .pager) (observedBy o (w .pager .wal) c)) (k .it .held .clean))
 
-  disk-is : diskOf v ≡ diskOf w
+  pub disk-is : diskOf v ≡ diskOf w
   disk-is = λ j. record { main = diskOf w .main; log = record { area = w .log; len = raised-ok .len j } }
 
   resting : Resting v g b (k .l) (k .S) (k .P) (k .mh)

@@ -8,7 +8,7 @@ use Prim.Native.Nat.{ℕ, _+_, _*_, _^_, max, _≤_, _<_}
 use native.Mathlib.Omega.{arith}
 use borrow.Author.Tests.{le-leb, lt-ltb, le-ltb, ne-eqb}
 use lib.Dec.{leb}
-use lib.ListN.{length, take, drop, length-set}
+use lib.ListN.{length, take, length-append, length-set}
 use lib.Seq.{take-all, drop-at}
 use Rattle.le.specs.Choice.{pick}
 use Rattle.le.proofs.Tests.{le-or-lt}
@@ -27,7 +27,7 @@ use Rattle.wal.specs.Write.{withFrame}
 use Rattle.wal.specs.declared.WalHeader.{WalHeader}
 use Rattle.wal.proofs.Encoding.{length-encodeWalHeader}
 use Rattle.wal.proofs.Frames.{page-encoded, count-encoded, good-page}
-use Rattle.wal.proofs.Laid.{joined}
+use Rattle.wal.proofs.Laid.{joined, joined-append}
 use Rattle.pager_state.specs.World.{World, countOf, noneStaged}
 use Rattle.pager_state.specs.Overlay.{isStaged, stagedBytes, slotOf}
 use Rattle.pager_state.specs.Pages.{pagesFrom, differs}
@@ -226,10 +226,13 @@ module _ (g : List ℕ) (w : World) (b : Book) (z : List ℕ) (h : DbHeader) (sa
       let m : d .log .len ≡ w .pager .wal .len + 4112 = ap (λ (x : Disk). x .log .len) stored-is ∙ omega (arith, f-long) in
       let t : take (w .pager .wal .len + length f) (content (d .log)) ≡ content (d .log) =
       take-all (w .pager .wal .len + length f) (content (d .log)) (omega (arith, f-long, n, m)) in
-      let a : joined (S′ ++ []) ++ [] ≡ joined S′ = append-nil (joined (S′ ++ [])) ∙ ap joined (append-nil S′) in
-      let e : drop 32 (encodeWalHeader (k .l) ++ (joined (S′ ++ []) ++ [])) ≡ joined S′ =
-      drop-at (encodeWalHeader (k .l)) (joined (S′ ++ []) ++ []) 32 (length-encodeWalHeader (k .l)) ∙ a in
-      sym (rw (t, o .log .bytes) e)
+      let R : List ℕ = joined (k .P ++ (f ∷ [])) in
+      let a : joined S′ ≡ z ++ R = joined-append (k .S) (k .P ++ (f ∷ [])) ∙ ap (λ (x : List ℕ). x ++ R) (k .kept) in
+      let b : encodeWalHeader (k .l) ++ (joined (S′ ++ []) ++ []) ≡ encodeWalHeader (k .l) ++ z ++ R =
+      ap (λ (x : List ℕ). encodeWalHeader (k .l) ++ x) (append-nil (joined (S′ ++ [])) ∙ ap joined (append-nil S′) ∙ a) ∙ sym (append-assoc (encodeWalHeader (k .l)) z R) in
+      let front : length (encodeWalHeader (k .l) ++ z) ≡ 32 + length z =
+      length-append (encodeWalHeader (k .l)) z ∙ omega (arith, length-encodeWalHeader (k .l)) in
+      a ∙ ap (λ (x : List ℕ). z ++ x) (sym (rw (t, o .log .bytes, b) (drop-at (encodeWalHeader (k .l) ++ z) R (32 + length z) front)))
 
   -- ---- after the seal
 

@@ -39,14 +39,14 @@ use Rattle.history.proofs.Creation.{created-inv}
 -- ---- openings that are not refused
 
 module _ (w : World) (g : List ℕ) (b : Book) (z : List ℕ) (i : Inv w g b z) (lent : Lent) where
-  disk-now : DiskOk (diskOf w) b z
+  pub disk-now : DiskOk (diskOf w) b z
   disk-now = inv-disk (w .pager .job) w g b z i
 
-  areas-of : (m : AccessMode) → refusedBy (Open m lent) w g ≡ 0 → Areas lent (diskOf w)
+  pub areas-of : (m : AccessMode) → refusedBy (Open m lent) w g ≡ 0 → Areas lent (diskOf w)
   unfolding refusedBy openPager
   areas-of m e = fine-areas lent (diskOf w) (took openRefusal (openFine (lent .table) (laid lent (diskOf w)) (lent .staging)) _ opened.Area e (λ q. omega arith) .0)
 
-  never : {A : Type 0} → refusedBy (Open mode.ReadOnly lent) w g ≡ 0 → A
+  pub never : {A : Type 0} → refusedBy (Open mode.ReadOnly lent) w g ≡ 0 → A
   unfolding refusedBy
   never e =
       let a = areas-of mode.ReadOnly e in
@@ -54,7 +54,7 @@ module _ (w : World) (g : List ℕ) (b : Book) (z : List ℕ) (i : Inv w g b z) 
       let z : _≡_ {A = ℕ} 10 0 = sym (refuses o (lent .table) (lent .staging) (a .table) (a .staging)) ∙ e in
       absurd (omega arith)
 
-  open-stores : (m : AccessMode) → Areas lent (diskOf w) → storesOf (Open m lent) w g ≡ SetLen Other file.Log (chunkAt (length (disk-now .S))) true ∷ []
+  pub open-stores : (m : AccessMode) → Areas lent (diskOf w) → storesOf (Open m lent) w g ≡ SetLen Other file.Log (chunkAt (length (disk-now .S))) true ∷ []
   unfolding storesOf
   open-stores m a = stores-is (laid-on (disk-now .on) lent a) m
 
@@ -164,7 +164,7 @@ answers (Whole c) r t i = (intact c r t i, opened-whole c r i)
 answers (Cut c j k attempts lent) r t i =
     (intact c r (t .0) i, reopens-ok attempts lent (t .1 .0) (t .1 .1) (r .world) (cutCall c j k r) (cut-ok c r (t .0) i j k))
 
-goes-on : (e : Event) (r : Run) → TypedEvent e → InvRun r → InvRun (next e r)
+pub goes-on : (e : Event) (r : Run) → TypedEvent e → InvRun r → InvRun (next e r)
 unfolding next
 goes-on (Whole c) r t i = whole-ok c r t i
 goes-on (Cut c j k attempts lent) r t i =

@@ -43,7 +43,7 @@ module _ (w : World) (g : List ℕ) (b : Book) (z : List ℕ) (i : Inv w g b z) 
   unfolding checkpointStart
   start-is t e = rw (starts .areas, starts .rests, starts .writes, e)
 
-  idle : w .pager .job ≡ job.Idle
+  pub idle : w .pager .job ≡ job.Idle
   idle = idle-of (w .pager .job) (starts .rests)
 
   k : Some (Resting w g b) z

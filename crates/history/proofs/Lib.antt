@@ -40,3 +40,4 @@ pub mod GuardFirst
 pub mod GuardBatches
 pub mod GuardBody
 pub mod Guards
+pub mod FilesAfter

@@ -139,7 +139,7 @@ pub record Areas (lent : Lent) (d : Disk) : Type 0 where
   pub log : length (laid lent d .log .area) ≡ 4210720
   pub main : length (laid lent d .main .area) ≡ 4194304
 
-laid-content : (f : File) (a : List ℕ) → f .len ≤ length (f .area) → content (laidIn a f) ≡ content f
+pub laid-content : (f : File) (a : List ℕ) → f .len ≤ length (f .area) → content (laidIn a f) ≡ content f
 laid-content f a h = take-at (content f) (drop (f .len) a) (f .len) (length-content f h)
 
 laid-long : (f : File) (a : List ℕ) (n : ℕ) → f .len ≤ length (f .area) → f .len ≤ n → length a ≡ n → length (content f ++ drop (f .len) a) ≡ n

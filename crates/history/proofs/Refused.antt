@@ -51,7 +51,7 @@ staging-stays stage.Busy p g n bytes r = refl
 staging-stays stage.Page p g n bytes r = refl
 staging-stays stage.Staging p g n bytes r = refl
 
-commit-stays : (a : CommitStart) → (commitRefusal a ≡ 0 → ⊥) → isBegun a ≡ false
+pub commit-stays : (a : CommitStart) → (commitRefusal a ≡ 0 → ⊥) → isBegun a ≡ false
 commit-stays commit.Begun n = absurd (n refl)
 commit-stays commit.Area n = refl
 commit-stays commit.Busy n = refl

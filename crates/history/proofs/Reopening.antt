@@ -104,13 +104,13 @@ module _ (w : World) (S : List (List ℕ)) (fine : logFine (w .pager .wal .len) 
 -- ---- after the opening
 
 module _ {d : Disk} {b : Book} {z : List ℕ} (k : DiskOk d b z) (lent : Lent) (a : Areas lent d) (w : World) where
-  on : OnDisk (laid lent d) b (k .l) (k .S) (k .P) (k .t) (k .mh)
+  pub on : OnDisk (laid lent d) b (k .l) (k .S) (k .P) (k .t) (k .mh)
   on = laid-on (k .on) lent a
 
-  abbrev opensTo : World
+  abbrev pub opensTo : World
   opensTo = world (openStore on) (tableOf (k .mh) (k .S)) (laid lent d .log .area) (laid lent d .main .area)
 
-  world-is : openedWorld mode.ReadWrite lent d w ≡ opensTo
+  pub world-is : openedWorld mode.ReadWrite lent d w ≡ opensTo
   unfolding openedWorld
   world-is =
       rw (opens on (lent .table) (lent .staging) (a .table) (a .staging), table-is on (lent .table) (lent .staging) (a .table) (a .staging), area-is on (lent .table) (lent .staging) (a .table) (a .staging))

@@ -4,3 +4,4 @@ pub mod Calls
 pub mod Run
 pub mod Demand3
 pub mod Guards
+pub mod FilesAfter

@@ -136,9 +136,10 @@ stagingAfter Step w g = g
 
 -- ---- "Sealed log bytes: from 32 to the last whole seal's end, until a fold's log length 32"
 
--- after a whole store; d are the files then
+-- after a whole store; d are the files then. "no sealed log byte alters between folds": the bytes sealed before stay in front, and a seal
+-- adds those up to its end
 abbrev pub keptBy : Act → Disk → List ℕ → List ℕ
-keptBy (Put Sealed f at bs flush) d z = drop 32 (take (at + length bs) (content (d .log)))
+keptBy (Put Sealed f at bs flush) d z = z ++ drop (32 + length z) (take (at + length bs) (content (d .log)))
 keptBy (Put Batched f at bs flush) d z = z
 keptBy (Put Emptied f at bs flush) d z = []
 keptBy (Put Other f at bs flush) d z = z

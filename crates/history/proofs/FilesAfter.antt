@@ -1,0 +1,172 @@
+-- The files after any call that is not refused, and the sealed bytes between folds. Assumes nothing.
+use mathlib.Core.Path.{_≡_, refl, sym, ap, _∙_}
+use mathlib.Core.Bool.{Bool, true, false}
+use mathlib.Core.List.{List, [], _∷_, _++_, append-assoc, append-nil}
+use mathlib.Core.Logic.{_⊎_, inl, inr}
+use Prim.Native.Nat.{ℕ, _+_, _^_, _<_}
+use native.Mathlib.Omega.{arith}
+use lib.ListN.{length, take, drop}
+use Rattle.header.specs.declared.DbHeader.{DbHeader}
+use Rattle.wal.specs.Recovery.{chunkAt}
+use Rattle.pager_state.specs.World.{World, busy}
+use Rattle.pager_state.specs.Staging.{stageAnswer, stagedBy, stagePage, clearStaged}
+use Rattle.pager_state.specs.Stores.{Disk, content, diskOf, Batched, Sealed, Emptied, Other, Act, Put, SetLen, kindOf, stored, storedAll}
+use Rattle.pager_state.specs.Opening.{opensAs}
+use Rattle.pager_state.specs.Steps.{commitStart, isBegun, beginCommit, checkpointStart, isFolding, beginCheckpoint, todo, onStore, checkpointWorld}
+use Rattle.pager_state.specs.declared.AccessMode.{AccessMode}
+use Rattle.pager_state.specs.declared.AccessMode.the-variants as mode
+use Rattle.pager_state.specs.declared.StageAnswer.{StageAnswer}
+use Rattle.pager_state.specs.declared.StageAnswer.the-variants as stage
+use Rattle.pager_state.proofs.Made.{Made}
+use Rattle.pager_state.proofs.Begun.{commit-unrefused}
+use Rattle.pager_state.proofs.Done.{commit-done, checkpoint-done}
+use Rattle.pager_state.proofs.Steps.{idle-todo}
+use Rattle.history.specs.Book.{Book}
+use Rattle.history.specs.Calls.{Lent, Call, Open, ReadHeader, ReadMode, ReadClock, ReadPage, ReadBatch, Stage, Clear, Append, Observe, Commit, Checkpoint, BeginCommit, BeginCheckpoint, Step}
+use Rattle.history.specs.Run.{Run, laid, refusedBy, storesOf, worldAfter, keptBy, keptAfter, Event, next, start}
+use Rattle.history.specs.Demand3.{AllBytes, Typed, AllTyped}
+use Rattle.history.specs.Guards.{after}
+use Rattle.history.specs.FilesAfter.{SameFiles, FilesAfter, Unemptied, SealedGrow}
+use Rattle.history.proofs.Files.{len-file}
+use Rattle.history.proofs.Disk.{DiskOk, log-inside, sealed-len}
+use Rattle.history.proofs.Rest.{Inv}
+use Rattle.history.proofs.Opening.{Areas, part-same, laid-content, main-inside, open-len}
+use Rattle.history.proofs.Reopening.{InvRun, on}
+use Rattle.history.proofs.Reopening as opening
+use Rattle.history.proofs.Running.{next-step, stepped-is, stepped-none}
+use Rattle.history.proofs.Stepping.{StepOk}
+use Rattle.history.proofs.Clock as clock
+use Rattle.history.proofs.Batches as batches
+use Rattle.history.proofs.Folds as folds
+use Rattle.history.proofs.Creation.{created-inv}
+use Rattle.history.proofs.Demand3Holds.{disk-now, areas-of, never, open-stores, goes-on}
+use Rattle.history.proofs.GuardNew.{new-made}
+use Rattle.history.proofs.GuardHistories.{made-history}
+use Rattle.history.proofs.GuardBook.{world-after}
+
+-- ---- calls that store nothing
+
+stage-files : (a : StageAnswer) (w : World) (n : ℕ) → diskOf (onStore w (stagedBy a (w .pager) n)) ≡ diskOf w
+stage-files stage.Staged w n = refl
+stage-files stage.Area w n = refl
+stage-files stage.Busy w n = refl
+stage-files stage.Page w n = refl
+stage-files stage.Staging w n = refl
+
+clear-files : (w : World) (b : Bool) → busy (w .pager) ≡ b → diskOf (onStore w (clearStaged (w .pager) .pager)) ≡ diskOf w
+unfolding clearStaged
+clear-files w true e = rw e
+clear-files w false e = rw e
+
+begin-files : (g : List ℕ) (w : World) (h : DbHeader) (salt : ℕ) (b : Bool) → isBegun (commitStart g w h) ≡ b
+    → diskOf (onStore w (beginCommit g w h salt .pager)) ≡ diskOf w
+unfolding beginCommit
+begin-files g w h salt true e = rw e
+begin-files g w h salt false e = rw e
+
+fold-files : (g : List ℕ) (w : World) (salt : ℕ) (b : Bool) → isFolding (checkpointStart g w) ≡ b
+    → diskOf (onStore w (beginCheckpoint g w salt .pager)) ≡ diskOf w
+unfolding beginCheckpoint
+fold-files g w salt true e = rw e
+fold-files g w salt false e = rw e
+
+-- ---- any call
+
+same : {d e : Disk} → d ≡ e → SameFiles d e
+same q = rw q (record { main = record { len = refl; bytes = refl }; log = record { len = refl; bytes = refl } })
+
+module _ (w : World) (g : List ℕ) (b : Book) (z : List ℕ) (i : Inv w g b z) (m : Made w) where
+  abbrev Leaves : Call → Type 0
+  Leaves c = SameFiles (diskOf (worldAfter c w g)) (storedAll (storesOf c w g) (diskOf w))
+
+  fold-by : (salt : ℕ) → salt < 2 ^ 32 → refusedBy (Checkpoint salt) w g ≡ 0 → (t : Bool) → isFolding (checkpointStart g w) ≡ t
+      → diskOf (worldAfter (Checkpoint salt) w g) ≡ storedAll (storesOf (Checkpoint salt) w g) (diskOf w)
+  unfolding refusedBy storesOf worldAfter storedAll checkpointWorld beginCheckpoint
+  fold-by salt small e true t = checkpoint-done g w salt t (m .slots) .disk
+  fold-by salt small e false t = rw (t, idle-todo g w (folds.idle w g b z i salt small e))
+
+  step-by : (StepOk g w b z) ⊎ (todo g w ≡ []) → diskOf (worldAfter Step w g) ≡ storedAll (storesOf Step w g) (diskOf w)
+  unfolding storesOf worldAfter storedAll
+  step-by (inl s) = rw (stepped-is g w b z s, s .todoIs) (s .disk)
+  step-by (inr e) = rw (stepped-none g w e, e)
+
+  append-files : (body : List ℕ) → AllBytes body → refusedBy (Append body) w g ≡ 0 → Leaves (Append body)
+  unfolding storedAll
+  append-files body t e = rw (batches.world-is w g b z i body t e, batches.stores-is w g b z i body t e) (same (batches.disk-is w g b z i body t e))
+
+  open-files : (lent : Lent) (o : AccessMode) → refusedBy (Open o lent) w g ≡ 0 → Leaves (Open o lent)
+  unfolding worldAfter storedAll opensAs
+  open-files lent mode.ReadOnly e = never w g b z i lent e
+  open-files lent mode.ReadWrite e =
+      let k : DiskOk (diskOf w) b z = disk-now w g b z i lent in
+      let a : Areas lent (diskOf w) = areas-of w g b z i lent mode.ReadWrite e in
+      let n : ℕ = chunkAt (length (k .S)) in
+      let l : content (laid lent (diskOf w) .log) ≡ content (diskOf w .log) = laid-content (diskOf w .log) (lent .log) (log-inside (k .on)) in
+      rw (opening.world-is k lent a w, open-stores w g b z i lent mode.ReadWrite a, len-file (diskOf w .log) n (sealed-len (k .on))) (record {
+        main = record { len = refl; bytes = laid-content (diskOf w .main) (lent .main) (main-inside (k .on)) };
+        log =
+            record {
+              len = open-len (on k lent a w);
+              bytes =
+                  ap (λ (x : ℕ). take x (laid lent (diskOf w) .log .area)) (open-len (on k lent a w))
+                  ∙ part-same (laid lent (diskOf w) .log .area) (w .log) (w .pager .wal .len) 0 n l (omega (arith, sealed-len (k .on)));
+            };
+      })
+
+  leaves : (c : Call) → Typed c → refusedBy c w g ≡ 0 → Leaves c
+  unfolding refusedBy storesOf worldAfter storedAll stagePage
+  leaves (Open o lent) t e = open-files lent o e
+  leaves ReadHeader t e = same refl
+  leaves ReadMode t e = same refl
+  leaves ReadClock t e = same refl
+  leaves (ReadPage n) t e = same refl
+  leaves (ReadBatch n) t e = same refl
+  leaves (Stage n bytes) t e = same (stage-files (stageAnswer (w .pager) g n bytes) w n)
+  leaves Clear t e = same (clear-files w (busy (w .pager)) refl)
+  leaves (Append body) t e = append-files body t e
+  leaves (Observe c) t e = same (rw (clock.pager-is w g b z i c t e) (clock.disk-is w g b z i c t e))
+  leaves (Commit h salt) t e = same (commit-done g w h salt (commit-unrefused (commitStart g w h) e) (m .slots) .disk)
+  leaves (Checkpoint salt) t e = same (fold-by salt t e (isFolding (checkpointStart g w)) refl)
+  leaves (BeginCommit h salt) t e = same (begin-files g w h salt (isBegun (commitStart g w h)) refl)
+  leaves (BeginCheckpoint salt) t e = same (fold-files g w salt (isFolding (checkpointStart g w)) refl)
+  leaves Step t e = same (step-by (next-step g w b z (w .pager .job) refl i))
+
+-- ---- in any history
+
+inv-history : (es : List Event) (r : Run) → AllTyped es → InvRun r → InvRun (after es r)
+unfolding after
+inv-history [] r t i = i
+inv-history (e ∷ es) r t i = inv-history es (next e r) (t .1) (goes-on e r (t .0) i)
+
+pub files-after : FilesAfter
+unfolding FilesAfter
+files-after t l m g salt f small es typed c k e =
+    let r : Run = after es (start t l m g salt) in
+    rw (world-after c r)
+    (leaves (r .world) (r .staging) (r .book) (r .kept) (inv-history es (start t l m g salt) typed (created-inv t l m g salt f small))
+    (made-history es (start t l m g salt) (new-made t l m g salt f)) c k e)
+
+-- ---- the sealed bytes
+
+-- one store
+grows : (a : Act) (d : Disk) (z : List ℕ) → (kindOf a ≡ Emptied → ⊥) → (more : List ℕ) × (keptBy a d z ≡ z ++ more)
+grows (Put Sealed f at bs flush) d z n = (drop (32 + length z) (take (at + length bs) (content (d .log))), refl)
+grows (Put Batched f at bs flush) d z n = ([], sym (append-nil z))
+grows (Put Emptied f at bs flush) d z n = absurd (n refl)
+grows (Put Other f at bs flush) d z n = ([], sym (append-nil z))
+grows (SetLen Sealed f at flush) d z n = ([], sym (append-nil z))
+grows (SetLen Batched f at flush) d z n = ([], sym (append-nil z))
+grows (SetLen Emptied f at flush) d z n = absurd (n refl)
+grows (SetLen Other f at flush) d z n = ([], sym (append-nil z))
+
+all-grow : (acts : List Act) (d : Disk) (z : List ℕ) → Unemptied acts → (more : List ℕ) × (keptAfter acts d z ≡ z ++ more)
+unfolding keptAfter
+all-grow [] d z u = ([], sym (append-nil z))
+all-grow (a ∷ acts) d z u =
+    let x = grows a (stored a d) z (u .0) in
+    let y = all-grow acts (stored a d) (keptBy a (stored a d) z) (u .1) in
+    (x .0 ++ y .0, y .1 ∙ ap (λ (k : List ℕ). k ++ y .0) (x .1) ∙ append-assoc z (x .0) (y .0))
+
+pub sealed-grow : SealedGrow
+unfolding SealedGrow
+sealed-grow acts d z u = all-grow acts d z u
