@@ -10,9 +10,8 @@ use lib.Dec.{eqb, leb}
 use lib.ListN.{length, take, drop, getD}
 use lib.Seq.{take-all, take-take, length-take-le}
 use Rattle.le.specs.Choice.{pick}
-use Rattle.le.specs.Le.{put}
+use Rattle.le.specs.Le.{Bytes, put}
 use Rattle.le.proofs.Compare.{both-true}
-use Rattle.le.proofs.Fields.{Bytes}
 use Rattle.le.proofs.Tests.{le-or-lt}
 use Rattle.mvcc.proofs.Bytes.{bytes-take}
 use Rattle.frame.specs.Frame.{encodeFrame, bodyOf}

@@ -4,7 +4,7 @@ use mathlib.Core.Path.{_≡_}
 use mathlib.Core.List.{List}
 use Prim.Native.Nat.{ℕ, _^_, _<_}
 use lib.ListN.{take}
-use Rattle.le.proofs.Fields.{Bytes}
+use Rattle.le.specs.Le.{Bytes}
 use Rattle.wal.specs.Recovery.{openLog}
 use Rattle.wal.specs.Write.{createAnswer, createAfter, truncateAnswer, truncateAfter, appendAnswer, appendAfter, clockAnswer}
 use Rattle.wal.specs.declared.Wal.{Wal}
