@@ -19,7 +19,7 @@ use Rattle.frame.proofs.Stores.{length-encodeFrame}
 use Rattle.wal.specs.Header.{encodeWalHeader}
 use Rattle.wal.specs.Recovery.{readableAs, good, pageIn, recovered, sealedFrames, walOf, openLog}
 use Rattle.wal.specs.Read.{committed, readPage, batchFrom, nextBatch}
-use Rattle.wal.specs.Write.{emptyWal, headed, createdHeader, createAnswer, truncatedHeader, truncateAnswer, longer, joins, appendable, hasRoom, appendAnswer, appendAfter, withClock, clockAnswer}
+use Rattle.wal.specs.Write.{emptyWal, headed, createdHeader, createAnswer, areaFine, truncatedHeader, truncateAnswer, truncateAfter, longer, joins, appendable, hasRoom, appendAnswer, appendAfter, withClock, clockAnswer}
 use Rattle.wal.specs.Reached.{fileOf, Reached, by-open, by-create, by-truncate, by-append, by-clock}
 use Rattle.wal.specs.declared.WalHeader.{WalHeader}
 use Rattle.wal.specs.declared.Wal.{Wal}
@@ -115,11 +115,12 @@ module _ (area : List ℕ) (w v : Wal) (k : Kept (fileOf area w) w) where
       file-longer 4112 area (w .len) f (length-encodeFrame page count (w .header .salt) body (a .paged)) (omega (arith, a .area, a .room)) in
       rw (a .is, a .bytes, t) (kept-frame (fileOf area w) w k page count body (a .paged) hp hc)
 
-  truncated-kept : (salt : ℕ) → salt < 2 ^ 32 → truncateAnswer area w salt ≡ truncated.Truncated v → Kept (fileOf (headed area (truncatedHeader (w .header) salt)) v) v
-  unfolding truncateAnswer
+  truncated-kept : (salt : ℕ) → salt < 2 ^ 32 → truncateAnswer area w salt ≡ truncated.Truncated v → Kept (fileOf (truncateAfter area w salt) v) v
+  unfolding truncateAnswer truncateAfter
   truncated-kept salt h e =
-      let p = truncated-as (eqb (length area) 4210720) (emptyWal (truncatedHeader (w .header) salt)) v e in
-      rw (← p .1) (headed-kept area (truncatedHeader (w .header) salt) (eqb-true _ _ (p .0)) (truncated-written (w .header) salt h (k .header .clock)))
+      let p = truncated-as (areaFine area w) (emptyWal (truncatedHeader (w .header) salt)) v e in
+      let n : length area ≡ 4210720 = eqb-true _ _ (both-true (eqb (length area) 4210720) (leb (w .len) 4210720) (p .0) .0) in
+      rw (← p .1, p .0) (headed-kept area (truncatedHeader (w .header) salt) n (truncated-written (w .header) salt h (k .header .clock)))
 
   clock-kept : (value : ℕ) → value < 2 ^ 64 → clockAnswer w value ≡ clock.Set v → Kept (fileOf area v) v
   unfolding clockAnswer withClock

@@ -386,6 +386,9 @@ pub fn truncate(log: &mut [u8], wal: Wal, salt: u32) -> WalTruncated
     if log.len() != WAL_AREA {
         return WalTruncated::Area;
     }
+    if WAL_AREA < wal.len {
+        return WalTruncated::Area;
+    }
     let old = wal.header;
     let header = WalHeader {
         version: WAL_FORMAT_VERSION,
