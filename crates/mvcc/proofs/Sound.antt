@@ -109,7 +109,7 @@ module _ (s : List ℕ) (sb : Bytes s) where
   words-length zero at = refl
   words-length (suc n) at = ap suc (words-length n (at + 4))
 
-  words-small : (n at : ℕ) → Each (λ (w : ℕ). w < 256 ^ 4) (words s n at)
+  pub words-small : (n at : ℕ) → Each (λ (w : ℕ). w < 256 ^ 4) (words s n at)
   unfolding words Each
   words-small zero at = tt
   words-small (suc n) at = (field-small 4 at s sb, words-small n (at + 4))
