@@ -1,5 +1,5 @@
--- Document 01's cases of batches: how many records and columns fit, and a bool byte that is neither 0 nor 1. Assumes nothing.
-use mathlib.Core.Path.{_≡_, refl}
+-- Document 01's cases of batches being built: how many records and columns fit. Assumes nothing.
+use mathlib.Core.Path.{_≡_, refl, ap}
 use mathlib.Core.Bool.{true}
 use mathlib.Core.List.{List, [], _∷_, _++_, map}
 use Prim.Native.Nat.{ℕ, zero, suc, _+_, _*_, _≤_, _<_}
@@ -11,17 +11,15 @@ use Rattle.le.specs.Le.{leBytes}
 use Rattle.le.proofs.Fields.{length-leBytes}
 use Rattle.text.specs.Utf8.{wellFormed, after}
 use Rattle.mvcc.specs.Batch.{null, Col, Rec, tombstone, present, all, encodeText, encodeValue, encodeColumn, encodeRecord, encodeBatch}
 use Rattle.mvcc_build.specs.Build.{recordAdded, columnAdded, column, addedNumber}
-use Rattle.mvcc_build.specs.Built.{Built, builderOf}
+use Rattle.mvcc_build.specs.Built.{Built, builderOf, endsPresent, withIn, withColumn}
 use Rattle.mvcc_build.specs.declared.BatchBuilder.{BatchBuilder}
 use Rattle.mvcc_build.specs.declared.Added.the-variants.{Done}
 use Rattle.mvcc_build.proofs.Grow.{batch-size, record-size}
 use Rattle.mvcc_build.proofs.Built.{record-answer, column-answer}
+use Rattle.cases.specs.Cases.{tombstones, nulls, nullRow}
 
 -- ---- tombstones with empty table names
-
-abbrev pub tombstones : List ℤ → List Rec
-tombstones rows = map (tombstone []) rows
 
 tombstone-size : (row : ℤ) → length (encodeRecord (tombstone [] row)) ≡ 11
 unfolding encodeRecord encodeText leBytes
@@ -46,25 +44,19 @@ empty-text : wellFormed [] ≡ true
 unfolding wellFormed after
 empty-text = refl
 
-module _ {t : ℕ} (rows : List ℤ) {b : BatchBuilder} {body : List ℕ} (h : Built t (tombstones rows) b body) (row : ℤ) where
+module _ (t : ℕ) (rows : List ℤ) (b : BatchBuilder) (body : List ℕ) (h : Built t (tombstones rows) b body) where
   -- the 370th is added, and the 371st is refused with 20
-  pub tombstone-370th : length rows ≡ 369 → recordAdded b body (tombstone [] row) ≡ Done (builderOf t (tombstones rows ++ (tombstone [] row ∷ [])))
-  tombstone-370th e =
+  pub tombstone-370th : length rows ≡ 369 → (row : ℤ) → addedNumber (recordAdded b body (tombstone [] row)) ≡ 0
+  tombstone-370th e row =
       let k : length (encodeBatch t (tombstones rows)) + 11 ≤ 4096 = rw (tombstones-size, e) (omega arith) in
       rw (record-answer h (tombstone [] row), empty-text, record-size, tombstone-size, le-leb _ _ k)
 
-  pub tombstone-371st : length rows ≡ 370 → addedNumber (recordAdded b body (tombstone [] row)) ≡ 20
-  tombstone-371st e =
+  pub tombstone-371st : length rows ≡ 370 → (row : ℤ) → addedNumber (recordAdded b body (tombstone [] row)) ≡ 20
+  tombstone-371st e row =
       let k : 4096 < length (encodeBatch t (tombstones rows)) + 11 = rw (tombstones-size, e) (omega arith) in
       rw (record-answer h (tombstone [] row), empty-text, record-size, tombstone-size, lt-leb _ _ k)
 
 -- ---- one present record with an empty table name and null columns with empty names
-
-abbrev pub nulls : ℕ → List Col
-nulls n = replicate n (column [] null)
-
-abbrev pub nullRow : ℤ → ℕ → List Rec
-nullRow row n = present [] row (nulls n) ∷ []
 
 null-size : length (encodeColumn (column [] null)) ≡ 3
 unfolding encodeColumn encodeText encodeValue leBytes
@@ -86,9 +78,25 @@ nulls-1355 t row = nulls-size t row 1355
 pub nulls-1356 : (t : ℕ) (row : ℤ) → 4096 < length (encodeBatch t (nullRow row 1356))
 nulls-1356 t row = rw (nulls-size t row 1356) (omega arith)
 
--- the 1,356th is refused with 20
-pub null-1356th : {t : ℕ} (row : ℤ) {b : BatchBuilder} {body : List ℕ} → Built t (nullRow row 1355) b body
+-- one null column more
+nulls-more : (n : ℕ) → nulls n ++ (column [] null ∷ []) ≡ nulls (suc n)
+nulls-more zero = refl
+nulls-more (suc n) = ap (λ (cs : List Col). column [] null ∷ cs) (nulls-more n)
+
+-- the 1,355th is added, the batch then ends at 4,096, and the 1,356th is refused with 20
+pub null-1355th : (t : ℕ) (row : ℤ) (b : BatchBuilder) (body : List ℕ) → Built t (nullRow row 1354) b body
+    → columnAdded b body (column [] null) ≡ Done (builderOf t (nullRow row 1355))
+unfolding endsPresent withColumn withIn
+null-1355th t row b body h =
+    let k : length (encodeBatch t (nullRow row 1354)) + 3 ≤ 4096 = rw nulls-size (omega arith) in
+    rw (column-answer h (column [] null), empty-text, null-size, le-leb _ _ k, nulls-more 1354)
+
+pub null-1355th-end : (t : ℕ) (row : ℤ) → builderOf t (nullRow row 1355) .at ≡ 4096
+unfolding builderOf
+null-1355th-end t row = nulls-1355 t row
+
+pub null-1356th : (t : ℕ) (row : ℤ) (b : BatchBuilder) (body : List ℕ) → Built t (nullRow row 1355) b body
     → addedNumber (columnAdded b body (column [] null)) ≡ 20
-null-1356th {t} row h =
+null-1356th t row b body h =
     let k : 4096 < length (encodeBatch t (nullRow row 1355)) + 3 = rw nulls-1355 (omega arith) in
     rw (column-answer h (column [] null), empty-text, null-size, lt-leb _ _ k)
