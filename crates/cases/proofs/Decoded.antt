@@ -1,8 +1,7 @@
 -- Document 01's cases of bodies that are decoded: a bool byte that is neither 0 nor 1, and an unknown op. Assumes nothing.
 use mathlib.Core.Path.{_≡_, refl}
 use mathlib.Core.Bool.{true}
-use mathlib.Core.List.{List, [], _∷_}
-use Prim.Native.Nat.{ℕ}
+use mathlib.Core.List.{[], _∷_}
 use lib.ListN.{getD, replicate}
 use lib.IntN.{pos}
 use Rattle.le.specs.Le.{leOf, leBytes}

@@ -2,15 +2,18 @@
 use mathlib.Core.Bool.{true}
 use mathlib.Core.Path.{_≡_}
 use mathlib.Core.List.{List, [], _∷_, map}
-use Prim.Native.Nat.{ℕ, _≤_, _<_}
+use Prim.Native.Nat.{ℕ, _^_, _≤_, _<_}
 use lib.IntN.{ℤ, pos}
 use lib.ListN.{length, getD, replicate}
+use mir.Val.{SFits}
+use mir.Syntax.{w64}
 use Rattle.text.specs.Utf8.{utf8Of, refusal}
 use Rattle.frame.specs.Frame.{frameSum}
-use Rattle.mvcc.specs.Batch.{null, bool, Col, Rec, tombstone, present, encodeBatch}
+use Rattle.mvcc.specs.Batch.{null, bool, Col, Rec, tombstone, present, encodeBatch, Each}
 use Rattle.mvcc.specs.Seen.{refusalOf, decodes, records, canonical}
-use Rattle.mvcc_build.specs.Build.{addedNumber, recordAdded, column, columnAdded}
+use Rattle.mvcc_build.specs.Build.{addedNumber, startedBytes, recordAdded, column, columnAdded}
 use Rattle.mvcc_build.specs.Built.{builderOf, Built}
+use Rattle.mvcc_build.specs.Run.{Call, record-call, column-call, runBuilder, runBody}
 use Rattle.mvcc_build.specs.declared.BatchBuilder.{BatchBuilder}
 use Rattle.mvcc_build.specs.declared.Added.the-variants.{Done}
 use Rattle.wal.specs.Recovery.{recovered, frameCount}
@@ -23,12 +26,23 @@ zeros = replicate 4096 0
 abbrev pub tombstones : List ℤ → List Rec
 tombstones rows = map (tombstone []) rows
 
+-- the calls that add them
+abbrev pub tombstoneCalls : List ℤ → List Call
+tombstoneCalls rows = map (λ (row : ℤ). record-call (tombstone [] row)) rows
+
 -- one present record, with an empty table name and n null columns with empty names
 abbrev pub nulls : ℕ → List Col
 nulls n = replicate n (column [] null)
 
 abbrev pub nullRow : ℤ → ℕ → List Rec
 nullRow row n = present [] row (nulls n) ∷ []
+
+abbrev pub nullCalls : ℤ → ℕ → List Call
+nullCalls row n = record-call (present [] row []) ∷ replicate n (column-call (column [] null))
+
+-- the calls from a start in any body of a page's length leave a builder with these records
+abbrev pub Builds : ℕ → List Call → List Rec → Type 0
+Builds t ks rs = (body : List ℕ) → length body ≡ 4096 → Built t rs (runBuilder ks (builderOf t []) (startedBytes t body)) (runBody ks (builderOf t []) (startedBytes t body))
 
 -- a body of one present record, with an empty table name, the row id 0 and one column with an empty name: a bool whose byte is 2
 abbrev pub boolTwo : List ℕ
@@ -59,7 +73,8 @@ pub record Cases : Type 0 where
   -- "370 tombstones with empty table names fit, 371 don't"
   pub tombstones-370 : (t : ℕ) (rows : List ℤ) → length rows ≡ 370 → length (encodeBatch t (tombstones rows)) ≤ 4096
   pub tombstones-371 : (t : ℕ) (rows : List ℤ) → length rows ≡ 371 → 4096 < length (encodeBatch t (tombstones rows))
-  -- .. the builder takes the 370th and refuses the 371st with 20
+  -- .. as many calls build them; the builder takes the 370th and refuses the 371st with 20
+  pub tombstones-built : (t : ℕ) (rows : List ℤ) → t < 256 ^ 8 → Each (SFits w64) rows → length rows ≤ 370 → Builds t (tombstoneCalls rows) (tombstones rows)
   pub tombstone-370th : (t : ℕ) (rows : List ℤ) (b : BatchBuilder) (body : List ℕ) → Built t (tombstones rows) b body → length rows ≡ 369
       → (row : ℤ) → addedNumber (recordAdded b body (tombstone [] row)) ≡ 0
   pub tombstone-371st : (t : ℕ) (rows : List ℤ) (b : BatchBuilder) (body : List ℕ) → Built t (tombstones rows) b body → length rows ≡ 370
@@ -67,7 +82,8 @@ pub record Cases : Type 0 where
   -- "One present record, empty table name, with 1,355 null columns with empty names fills 4,096; 1,356 don't"
   pub nulls-1355 : (t : ℕ) (row : ℤ) → length (encodeBatch t (nullRow row 1355)) ≡ 4096
   pub nulls-1356 : (t : ℕ) (row : ℤ) → 4096 < length (encodeBatch t (nullRow row 1356))
-  -- .. the builder takes the 1,355th, the batch then ends at 4,096, and it refuses the 1,356th with 20
+  -- .. as many calls build them; the builder takes the 1,355th, the batch then ends at 4,096, and it refuses the 1,356th with 20
+  pub nulls-built : (t : ℕ) (row : ℤ) (n : ℕ) → t < 256 ^ 8 → SFits w64 row → n ≤ 1355 → Builds t (nullCalls row n) (nullRow row n)
   pub null-1355th : (t : ℕ) (row : ℤ) (b : BatchBuilder) (body : List ℕ) → Built t (nullRow row 1354) b body
       → columnAdded b body (column [] null) ≡ Done (builderOf t (nullRow row 1355))
   pub null-1355th-end : (t : ℕ) (row : ℤ) → builderOf t (nullRow row 1355) .at ≡ 4096
