@@ -2,6 +2,7 @@
 #include "test.h"
 
 static uint8_t log_area[LATEENBAEL_LOG_AREA];
+static uint8_t before[LATEENBAEL_LOG_AREA];
 static uint8_t page[PAGE];
 
 static lateenbael_wal appended(lateenbael_wal wal, uint32_t page_num, uint32_t count) {
@@ -84,6 +85,14 @@ static void refusals(void) {
     CHECK(lateenbael_wal_append_mvcc_batch(log_area, sizeof log_area, wal, page, PAGE).refusal == LATEENBAEL_REFUSED_MAGIC);
     wal.len = LATEENBAEL_LOG_AREA - FRAME + 1;
     CHECK(lateenbael_wal_append_frame(log_area, sizeof log_area, wal, 1, page, PAGE, 0).refusal == LATEENBAEL_REFUSED_LOG_FULL);
+    /* A made-up log that is longer than its area. */
+    wal.len = LATEENBAEL_LOG_AREA + 1;
+    memcpy(before, log_area, sizeof before);
+    CHECK(lateenbael_wal_append_frame(log_area, sizeof log_area, wal, 1, page, PAGE, 0).refusal == LATEENBAEL_REFUSED_AREA);
+    CHECK(lateenbael_wal_truncate(log_area, sizeof log_area, wal, 2).refusal == LATEENBAEL_REFUSED_AREA);
+    CHECK(memcmp(before, log_area, sizeof before) == 0);
+    wal.len = LATEENBAEL_LOG_AREA;
+    CHECK(lateenbael_wal_truncate(log_area, sizeof log_area, wal, 2).refusal == LATEENBAEL_OK);
     CHECK(lateenbael_wal_open(log_area, 31).refusal == LATEENBAEL_REFUSED_SHORT);
     log_area[12] = 1;
     CHECK(lateenbael_wal_open(log_area, 32).refusal == LATEENBAEL_REFUSED_PAGE_SIZE);

@@ -9,8 +9,8 @@ use lib.Bits.{bitAnd, and-block, and-mask}
 use lib.ListN.{length, take, drop, length-append, length-drop, take-append-drop}
 use lib.Pow.{field, mod-mod-pow, pow-add}
 use lib.Seq.{take-all}
-use Rattle.le.specs.Le.{leBytes, wholeField}
-use Rattle.le.proofs.Fields.{Bytes, field-whole, leBytes-field, length-leBytes}
+use Rattle.le.specs.Le.{Bytes, leBytes, wholeField}
+use Rattle.le.proofs.Fields.{field-whole, leBytes-field, length-leBytes}
 use Rattle.checksum.specs.Blocks.{weight}
 
 -- a word of four parts of 16 bits, the highest first

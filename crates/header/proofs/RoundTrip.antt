@@ -10,8 +10,8 @@ use lib.Dec.{leb, ltb, eqb}
 use lib.ListN.{length, take, drop, replicate}
 use lib.Seq.{take-add, take-at, take-take, drop-drop}
 use Rattle.le.specs.Choice.{pick, both}
-use Rattle.le.specs.Le.{leBytes, field, sameBytes}
-use Rattle.le.proofs.Fields.{Bytes, length-leBytes, field-front, field-behind, field-part, leBytes-field}
+use Rattle.le.specs.Le.{Bytes, leBytes, field, sameBytes}
+use Rattle.le.proofs.Fields.{length-leBytes, field-front, field-behind, field-part, leBytes-field}
 use Rattle.le.proofs.Compare.{no-test, both-true, same-refl, same-equal}
 use Rattle.header.specs.Header.{magic, headerFields, encodeHeader, headerIn, decodeHeader, decodeRefusal}
 use Rattle.header.specs.declared.DbHeader.{DbHeader}

@@ -8,7 +8,7 @@ use borrow.Author.Tests.{leb-true}
 use lib.Dec.{leb, eqb}
 use lib.ListN.{length}
 use Rattle.le.specs.Choice.{pick, both}
-use Rattle.le.specs.Le.{put}
+use Rattle.le.specs.Le.{put, Bytes}
 use Rattle.le.proofs.Compare.{both-true}
 use Rattle.frame.specs.Frame.{encodeFrame, bodyOf}
 use Rattle.frame.proofs.Stores.{length-encodeFrame}
@@ -29,7 +29,6 @@ use Rattle.pager_state.specs.declared.BatchAnswer.the-variants as append
 use Rattle.history.specs.Book.{Book, batchIn, bookWait, tells}
 use Rattle.history.specs.Calls.{Append}
 use Rattle.history.specs.Run.{refusedBy, storesOf, worldAfter, keptAfter}
-use Rattle.history.specs.Demand3.{AllBytes}
 use Rattle.history.proofs.Frames.{last-other, place-other, batches-append, batches-batch}
 use Rattle.history.proofs.Disk.{OnDisk, DiskOk}
 use Rattle.history.proofs.Opening.{re-book}
@@ -49,7 +48,7 @@ decoded-zero r e = took appendRefusal (eqb r 0) append.Appended (pick (eqb r 17)
     worse false true q = omega arith
     worse false false q = omega arith
 
-module _ (w : World) (g : List ℕ) (b : Book) (z : List ℕ) (i : Inv w g b z) (body : List ℕ) (bs : AllBytes body) (ok : refusedBy (Append body) w g ≡ 0) where
+module _ (w : World) (g : List ℕ) (b : Book) (z : List ℕ) (i : Inv w g b z) (body : List ℕ) (bs : Bytes body) (ok : refusedBy (Append body) w g ≡ 0) where
   record Appending : Type 0 where
     areas : both (logFine (w .pager .wal .len) (w .log)) (leb (length body) 4096) ≡ true
     notShort : eqb (refusalOf body) 2 ≡ false

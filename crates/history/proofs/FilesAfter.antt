@@ -6,6 +6,7 @@ use mathlib.Core.Logic.{_⊎_, inl, inr}
 use Prim.Native.Nat.{ℕ, _+_, _^_, _<_}
 use native.Mathlib.Omega.{arith}
 use lib.ListN.{length, take, drop}
+use Rattle.le.specs.Le.{Bytes}
 use Rattle.header.specs.declared.DbHeader.{DbHeader}
 use Rattle.wal.specs.Recovery.{chunkAt}
 use Rattle.pager_state.specs.World.{World, busy}
@@ -24,7 +25,7 @@ use Rattle.pager_state.proofs.Steps.{idle-todo}
 use Rattle.history.specs.Book.{Book}
 use Rattle.history.specs.Calls.{Lent, Call, Open, ReadHeader, ReadMode, ReadClock, ReadPage, ReadBatch, Stage, Clear, Append, Observe, Commit, Checkpoint, BeginCommit, BeginCheckpoint, Step}
 use Rattle.history.specs.Run.{Run, laid, refusedBy, storesOf, worldAfter, keptBy, keptAfter, Event, next, start}
-use Rattle.history.specs.Demand3.{AllBytes, Typed, AllTyped}
+use Rattle.history.specs.Demand3.{Typed, AllTyped}
 use Rattle.history.specs.Guards.{after}
 use Rattle.history.specs.FilesAfter.{SameFiles, FilesAfter, Unemptied, SealedGrow}
 use Rattle.history.proofs.Files.{len-file}
@@ -90,7 +91,7 @@ module _ (w : World) (g : List ℕ) (b : Book) (z : List ℕ) (i : Inv w g b z) 
   step-by (inl s) = rw (stepped-is g w b z s, s .todoIs) (s .disk)
   step-by (inr e) = rw (stepped-none g w e, e)
 
-  append-files : (body : List ℕ) → AllBytes body → refusedBy (Append body) w g ≡ 0 → Leaves (Append body)
+  append-files : (body : List ℕ) → Bytes body → refusedBy (Append body) w g ≡ 0 → Leaves (Append body)
   unfolding storedAll
   append-files body t e = rw (batches.world-is w g b z i body t e, batches.stores-is w g b z i body t e) (same (batches.disk-is w g b z i body t e))
 

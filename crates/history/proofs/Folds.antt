@@ -5,7 +5,7 @@ use mathlib.Core.List.{List, []}
 use Prim.Native.Nat.{ℕ, _^_, _<_}
 use native.Mathlib.Omega.{arith}
 use Rattle.le.specs.Choice.{pick}
-use Rattle.pager_state.specs.World.{World, busy, readOnly, withJob, fine}
+use Rattle.pager_state.specs.World.{World, busy, readOnly, withJob}
 use Rattle.pager_state.specs.Stores.{diskOf, stored}
 use Rattle.pager_state.specs.Fold.{foldTodo}
 use Rattle.pager_state.specs.Commit.{commitTodo}

@@ -6,7 +6,7 @@ use Prim.Native.Nat.{ℕ, zero, suc, _+_, _*_, _^_, _≤_, _<_}
 use native.Mathlib.Omega.{arith}
 use borrow.Author.Tests.{eq-eqb, eqb-true, le-leb}
 use lib.ListN.{length, replicate}
-use Rattle.le.specs.Le.{put}
+use Rattle.le.specs.Le.{put, Bytes}
 use Rattle.le.proofs.Stores.{length-put}
 use Rattle.le.proofs.Compare.{no-test}
 use Rattle.header.specs.declared.DbHeader.{DbHeader}
@@ -17,15 +17,14 @@ use Rattle.wal.specs.Write.{longer, withFrame}
 use Rattle.pager_state.specs.World.{World, world, countOf, withWal}
 use Rattle.pager_state.specs.Batches.{appendAnswer, batchFrame, appendBatch, appendAfter}
 use Rattle.pager_state.specs.Opening.{createFine}
-use Rattle.pager_state.specs.Steps.{differing, commitWorld, commitStart, commitRefusal, isBegun}
+use Rattle.pager_state.specs.Steps.{differing, commitWorld, commitStart, commitRefusal}
 use Rattle.pager_state.specs.declared.CommitStart.the-variants as commit
 use Rattle.pager_state.specs.declared.BatchAnswer.the-variants as append
 use Rattle.pager_state.proofs.Made.{Made}
-use Rattle.pager_state.proofs.Begun.{commit-begun}
 use Rattle.history.specs.Book.{batchIn, firstBook}
 use Rattle.history.specs.Calls.{Append, Commit}
 use Rattle.history.specs.Run.{Run, refusedBy, worldAfter, whole, Whole, next, start}
-use Rattle.history.specs.Demand3.{AllBytes, Words, Demand3}
+use Rattle.history.specs.Demand3.{Words, Demand3}
 use Rattle.history.specs.Guards.{newStore, GoodHeader, Joined, Unrefused, UnrefusedBatch, LongerBy, Empty, Ends, after, Accepted, sealedBatch, framesAfter, Returned, Recovers, Filled}
 use Rattle.history.proofs.GuardRefusals.{told-begun, told-full, unrefused-batch, batch-told-full}
 use Rattle.history.proofs.GuardCommit.{begun-of, seal-idle, commit-ends}
@@ -40,7 +39,7 @@ module _ (d : Demand3) (t l m g : List ℕ) (salt : ℕ) (f : createFine t l m g
   abbrev new : Run
   new = start t l m g salt
 
-  module _ {r : Run} (k : Reached new r) (body : List ℕ) (h : DbHeader) (next : ℕ) (b : AllBytes body) (v : Words h) (s : next < 2 ^ 32)
+  module _ {r : Run} (k : Reached new r) (body : List ℕ) (h : DbHeader) (next : ℕ) (b : Bytes body) (v : Words h) (s : next < 2 ^ 32)
       (a : Accepted (Append body) r) (c : Accepted (Commit h next) (whole (Append body) r)) (few : framesAfter (whole (Append body) r) < 100) where
     abbrev appended : Run
     appended = whole (Append body) r
@@ -73,7 +72,7 @@ module _ (d : Demand3) (t l m g : List ℕ) (salt : ℕ) (f : createFine t l m g
 -- a body that can be appended
 pub record Good (body : List ℕ) : Type 0 where
   pub page : length body ≤ 4096
-  pub bytes : AllBytes body
+  pub bytes : Bytes body
   pub decoded : decodes body ≡ true
 
 good-refusal : (body : List ℕ) → Good body → refusalOf body ≡ 0

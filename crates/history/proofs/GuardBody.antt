@@ -7,7 +7,7 @@ use lib.ListN.{length, replicate, length-append}
 use lib.IntN.{ℤ}
 use mir.Val.{ofZ, SFits}
 use mir.Syntax.{w64}
-use Rattle.le.specs.Le.{leBytes}
+use Rattle.le.specs.Le.{leBytes, Bytes}
 use Rattle.le.proofs.Fields.{length-leBytes}
 use Rattle.text.specs.Utf8.{wellFormed}
 use Rattle.mvcc.specs.Batch.{Rec, tombstone, all, encodeText, encodeRecord, encodeBatch, padded, encodeBody, Each, GoodRecord, GoodBatch}
@@ -15,7 +15,6 @@ use Rattle.mvcc.proofs.Bytes.{bytes-none, bytes-cons, bytes-append, bytes-leByt
 use Rattle.mvcc.proofs.Whole.{batch-length, batch-bytes}
 use Rattle.mvcc.proofs.Canonical.{body-length, body-decodes, body-commitTs, body-records}
 use Rattle.history.specs.Book.{batchIn}
-use Rattle.history.specs.Demand3.{AllBytes}
 use Rattle.history.specs.Guards.{Body}
 
 module _ (time : ℕ) (row : ℤ) (early : time < 2 ^ 64) (fits : SFits w64 row) where
@@ -31,7 +30,7 @@ module _ (time : ℕ) (row : ℤ) (early : time < 2 ^ 64) (fits : SFits w64 row)
         each = (record { table = record { small = omega arith; utf8 = refl }; rowid = fits }, tt);
       }
 
-  record-bytes : AllBytes (all encodeRecord rows)
+  record-bytes : Bytes (all encodeRecord rows)
   unfolding all encodeRecord encodeText
   record-bytes =
       let a = bytes-leBytes 2 0 in
@@ -44,7 +43,7 @@ module _ (time : ℕ) (row : ℤ) (early : time < 2 ^ 64) (fits : SFits w64 row)
   unfolding all encodeRecord encodeText
   record-length = simp (length-append, length-leBytes)
 
-  body-bytes : AllBytes (encodeBody time rows)
+  body-bytes : Bytes (encodeBody time rows)
   unfolding encodeBody padded
   body-bytes =
       bytes-append (encodeBatch time rows) (replicate (4096 - length (encodeBatch time rows)) 0) (batch-bytes time rows record-bytes)

@@ -9,7 +9,7 @@ use borrow.Author.Tests.{eq-eqb, ne-eqb}
 use lib.Dec.{leb}
 use lib.ListN.{length, length-set}
 use Rattle.le.specs.Choice.{pick}
-use Rattle.le.specs.Le.{put}
+use Rattle.le.specs.Le.{put, Bytes}
 use Rattle.le.proofs.Stores.{length-put}
 use Rattle.header.specs.declared.DbHeader.{DbHeader}
 use Rattle.pager_state.specs.World.{World, countOf, headerOf, readOnly, readOnlyBy}
@@ -27,7 +27,7 @@ use Rattle.pager_state.proofs.Made.{Made}
 use Rattle.pager_state.proofs.Done.{Rests, commit-done, checkpoint-done}
 use Rattle.history.specs.Calls.{Stage, Commit, Checkpoint}
 use Rattle.history.specs.Run.{Run, refusedBy, worldAfter, whole, start}
-use Rattle.history.specs.Demand3.{readingAt, AllBytes, Words, Demand3}
+use Rattle.history.specs.Demand3.{readingAt, Words, Demand3}
 use Rattle.history.specs.Guards.{GoodHeader, withSlots, LongerBy, FoldedTo, Accepted, reading, committedPage, ReadsBack, Keeps}
 use Rattle.history.proofs.GuardNew.{fine-create, few-differ, none-staged, new-begun, new-made, new-idle, new-count, new-none, new-frames, new-writes, made-framed}
 use Rattle.history.proofs.GuardHistories.{made-whole}
@@ -179,7 +179,7 @@ module _ (t l m g : List ℕ) (salt : ℕ) (f : createFine t l m g ≡ true) (by
           let unstaged : folded .world .pager .staged .count ≡ 0 = rw (fold-to .staged) (first-longer .unstaged) in
           read-main (folded .world) (folded .staging) 1 fine (fold-done .idle) unstaged (fold-to .empty .none 1) bytes e
 
-    pub keeps : Demand3 → salt < 2 ^ 32 → AllBytes bytes → Words h → next < 2 ^ 32 → Keeps new bytes h next
+    pub keeps : Demand3 → salt < 2 ^ 32 → Bytes bytes → Words h → next < 2 ^ 32 → Keeps new bytes h next
     keeps d small b v s =
         let back : ReadsBack committed 1 bytes =
         reads-back d t l m g salt f small (reached-none new) 1 bytes h next b v s stage-taken first-taken (omega arith) (omega arith) in

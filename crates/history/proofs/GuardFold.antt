@@ -33,7 +33,7 @@ use Rattle.pager_state.proofs.Made.{Fine, ReadyOf, ready-fine}
 use Rattle.pager_state.proofs.Next.{todo-by, advance-by}
 use Rattle.pager_state.proofs.Steps.{step-keeps}
 use Rattle.pager_state.proofs.Runs.{steps-add, idle-stays}
-use Rattle.pager_state.proofs.Begun.{checkpoint-begun, begun-checkpoint, checkpoint-ready}
+use Rattle.pager_state.proofs.Begun.{begun-checkpoint, checkpoint-ready}
 use Rattle.history.proofs.Files.{page-other, page-same}
 use Rattle.history.specs.Guards.{FramesInside, Empty, FoldedTo}
 

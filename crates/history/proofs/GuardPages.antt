@@ -6,6 +6,7 @@ use mathlib.Core.Option.{none, some}
 use Prim.Native.Nat.{ℕ, _^_, _≤_, _<_}
 use native.Mathlib.Omega.{arith}
 use borrow.Author.Tests.{eq-eqb}
+use Rattle.le.specs.Le.{Bytes}
 use Rattle.header.specs.declared.DbHeader.{DbHeader}
 use Rattle.pager_state.specs.World.{World, countOf, busyWith}
 use Rattle.pager_state.specs.Overlay.{findPage, readPage, bytesAt}
@@ -22,7 +23,7 @@ use Rattle.pager_state.proofs.Begun.{commit-unrefused}
 use Rattle.pager_state.proofs.Done.{commit-done, checkpoint-done}
 use Rattle.history.specs.Calls.{Open, ReadMode, Stage, Commit, Checkpoint}
 use Rattle.history.specs.Run.{Run, refusedBy, worldAfter, whole, Cut, start}
-use Rattle.history.specs.Demand3.{readingAt, AllBytes, Words, Demand3}
+use Rattle.history.specs.Demand3.{readingAt, Words, Demand3}
 use Rattle.history.specs.Guards.{Accepted, reading, committedPage, ReadsBack}
 use Rattle.history.proofs.GuardNew.{new-made}
 use Rattle.history.proofs.GuardBook.{Shows, shows-read, world-after, stage-book, open-book, commit-header, commit-shows, checkpoint-shows, lost-shows, open-shows}
@@ -97,7 +98,7 @@ module _ (d : Demand3) (t l m g : List ℕ) (salt : ℕ) (f : createFine t l m g
             ∙ shows-read _ n bytes (checkpoint-shows next r c i n bytes y);
       }
 
-  module _ {r : Run} (k : Reached new r) (n : ℕ) (bytes : List ℕ) (h : DbHeader) (next : ℕ) (b : AllBytes bytes) (v : Words h) (s : next < 2 ^ 32)
+  module _ {r : Run} (k : Reached new r) (n : ℕ) (bytes : List ℕ) (h : DbHeader) (next : ℕ) (b : Bytes bytes) (v : Words h) (s : next < 2 ^ 32)
       (e : Accepted (Stage n bytes) r) (c : Accepted (Commit h next) (whole (Stage n bytes) r)) (a : 1 ≤ n) (z : n < countOf h) where
     reached-staged : Reached new (whole (Stage n bytes) r)
     reached-staged = reached-whole k (Stage n bytes) b

@@ -3,10 +3,10 @@ use mathlib.Core.Path.{_≡_, refl}
 use Prim.Native.Nat.{ℕ}
 use native.Mathlib.Omega.{arith}
 use lib.ListN.{length, length-replicate}
+use Rattle.le.specs.Le.{Bytes}
 use Rattle.mvcc.proofs.Bytes.{bytes-zeros}
 use Rattle.pager_state.specs.Opening.{firstHeader}
 use Rattle.history.specs.Run.{start}
-use Rattle.history.specs.Demand3.{AllBytes}
 use Rattle.history.specs.Guards.{zeros, zeroAreas, Met, LogFullGuard, BegunGuard, BatchFullGuard, CommitGuard, CommitEndsGuard, EmptyCommitGuard, FoldGuard, SoundGuard, OpeningGuard, HeaderGuard, PageGuard, NewPageGuard, BatchGuard, NewBatchGuard, FilledGuard, BodyGuard}
 use Rattle.history.proofs.Demand3Holds.{demand3}
 use Rattle.history.proofs.GuardRefusals.{full-told, told-full, begun-told, told-begun, batch-full-told, batch-told-full}
@@ -26,7 +26,7 @@ length-zeros : (n : ℕ) → length (zeros n) ≡ n
 unfolding zeros
 length-zeros n = length-replicate n 0
 
-bytes-of-zeros : (n : ℕ) → AllBytes (zeros n)
+bytes-of-zeros : (n : ℕ) → Bytes (zeros n)
 unfolding zeros
 bytes-of-zeros n = bytes-zeros n
 

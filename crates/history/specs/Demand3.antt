@@ -1,25 +1,25 @@
 -- The statement of demand 3.
 use mathlib.Core.Path.{_≡_}
-use mathlib.Core.Bool.{Bool, true, false}
-use mathlib.Core.List.{List, [], _∷_, map}
+use mathlib.Core.Bool.{true, false}
+use mathlib.Core.List.{List, [], _∷_}
 use mathlib.Core.Option.{Option, none, some}
 use Prim.Native.Nat.{ℕ, zero, suc, _+_, _<_, _≤_, _^_}
-use lib.ListN.{length, take, drop, getD}
+use lib.ListN.{length, take, drop}
+use Rattle.le.specs.Le.{Bytes}
 use Rattle.header.specs.declared.DbHeader.{DbHeader}
-use Rattle.frame.specs.Frame.{frameSize}
 use Rattle.wal.specs.Recovery.{walArea}
-use Rattle.pager_state.specs.World.{World, mainArea, stagingArea, pageLimit, headerOf, busy}
+use Rattle.pager_state.specs.World.{World, mainArea, stagingArea, pageLimit, busy}
 use Rattle.pager_state.specs.Overlay.{pageFrom, findPage, findRefusal, bytesAt}
 use Rattle.pager_state.specs.Batches.{nextRecovered}
 use Rattle.pager_state.specs.Queries.{header}
-use Rattle.pager_state.specs.Stores.{Disk, content, diskOf}
+use Rattle.pager_state.specs.Stores.{content}
 use Rattle.pager_state.specs.Opening.{openRefusal, createFine}
 use Rattle.pager_state.specs.declared.HeaderRead.the-variants as head
 use Rattle.pager_state.specs.declared.PageFound.{PageFound}
 use Rattle.pager_state.specs.declared.PageFound.the-variants as found
 use Rattle.pager_state.specs.declared.RecoveredFound.{RecoveredFound}
 use Rattle.pager_state.specs.declared.RecoveredFound.the-variants as batch
-use Rattle.history.specs.Book.{Batch, batchIn, Book, bookRead}
+use Rattle.history.specs.Book.{Batch, batchIn, bookRead}
 use Rattle.history.specs.Calls.{Lent, Call, Open, ReadHeader, ReadMode, ReadClock, ReadPage, ReadBatch, Stage, Clear, Append, Observe, Commit, Checkpoint, BeginCommit, BeginCheckpoint, Step}
 use Rattle.history.specs.Run.{Run, refusedBy, Left, cutCall, Attempt, cutOpening, reopening, reopened, whole, Event, Whole, Cut, next, start}
 
@@ -103,9 +103,6 @@ Holds (e ∷ es) r = Answers e r × Holds es (next e r)
 
 -- ---- what the types of the arguments let through
 
-abbrev pub AllBytes : List ℕ → Type 0
-AllBytes l = (i : ℕ) → getD l i 0 < 256
-
 pub record Words (h : DbHeader) : Type 0 where
   pub count : h .«page_count» < 2 ^ 32
   pub root : h .«schema_root_page» < 2 ^ 32
@@ -119,9 +116,9 @@ Typed ReadMode = Unit {0}
 Typed ReadClock = Unit {0}
 Typed (ReadPage n) = Unit {0}
 Typed (ReadBatch i) = Unit {0}
-Typed (Stage n bytes) = AllBytes bytes
+Typed (Stage n bytes) = Bytes bytes
 Typed Clear = Unit {0}
-Typed (Append body) = AllBytes body
+Typed (Append body) = Bytes body
 Typed (Observe c) = c < 2 ^ 64
 Typed (Commit h salt) = Words h × (salt < 2 ^ 32)
 Typed (Checkpoint salt) = salt < 2 ^ 32

@@ -9,6 +9,7 @@ use lib.ListN.{length, replicate}
 use lib.IntN.{ℤ, pos}
 use mir.Val.{SFits}
 use mir.Syntax.{w64}
+use Rattle.le.specs.Le.{Bytes}
 use Rattle.header.specs.declared.DbHeader.{DbHeader}
 use Rattle.mvcc.specs.Batch.{tombstone, encodeBody}
 use Rattle.mvcc.specs.Seen.{refusalOf, decodes}
@@ -31,7 +32,7 @@ use Rattle.pager_state.specs.declared.BatchAnswer.the-variants as append
 use Rattle.history.specs.Book.{batchIn}
 use Rattle.history.specs.Calls.{Lent, Call, Open, ReadMode, Stage, Append, Commit, Checkpoint}
 use Rattle.history.specs.Run.{Run, refusedBy, whole, Attempt, Event, Whole, Cut, next, start}
-use Rattle.history.specs.Demand3.{readingAt, walked, AllBytes, Words, Sized, AllSized, AllTyped}
+use Rattle.history.specs.Demand3.{readingAt, walked, Words, Sized, AllSized, AllTyped}
 
 -- ---- a new store
 
@@ -241,7 +242,7 @@ committedPage n bytes h salt r = whole (Commit h salt) (whole (Stage n bytes) r)
 unfoldable pub PageGuard : Type 0
 PageGuard =
     Always (λ (r : Run).
-    (n : ℕ) (bytes : List ℕ) (h : DbHeader) (salt : ℕ) → AllBytes bytes → Words h → salt < 2 ^ 32 → Accepted (Stage n bytes) r
+    (n : ℕ) (bytes : List ℕ) (h : DbHeader) (salt : ℕ) → Bytes bytes → Words h → salt < 2 ^ 32 → Accepted (Stage n bytes) r
     → Accepted (Commit h salt) (whole (Stage n bytes) r) → 1 ≤ n → n < countOf h → ReadsBack (committedPage n bytes h salt r) n bytes)
 
 -- in a new store neither is refused, nor is a fold behind them, which leaves the page in the main file
@@ -255,7 +256,7 @@ pub record Keeps (r : Run) (bytes : List ℕ) (h : DbHeader) (salt : ℕ) : Type
 unfoldable pub NewPageGuard : Type 0
 NewPageGuard =
     AtFirst (λ (r : Run).
-    (bytes : List ℕ) (h : DbHeader) (salt : ℕ) → length bytes ≡ 4096 → AllBytes bytes → Words h → GoodHeader h → countOf h ≡ 2 → salt < 2 ^ 32
+    (bytes : List ℕ) (h : DbHeader) (salt : ℕ) → length bytes ≡ 4096 → Bytes bytes → Words h → GoodHeader h → countOf h ≡ 2 → salt < 2 ^ 32
     → Keeps r bytes h salt)
 
 -- ---- a batch that is appended and sealed is returned
@@ -278,7 +279,7 @@ framesAfter r = r .world .pager .wal .«frame_count» + (differing (r .staging) 
 unfoldable pub BatchGuard : Type 0
 BatchGuard =
     Always (λ (r : Run).
-    (body : List ℕ) (h : DbHeader) (salt : ℕ) → AllBytes body → Words h → salt < 2 ^ 32 → Accepted (Append body) r
+    (body : List ℕ) (h : DbHeader) (salt : ℕ) → Bytes body → Words h → salt < 2 ^ 32 → Accepted (Append body) r
     → Accepted (Commit h salt) (whole (Append body) r) → framesAfter (whole (Append body) r) < 100 → Returned r body h salt)
 
 -- in a new store neither is refused, and this batch is all
@@ -291,7 +292,7 @@ pub record Recovers (r : Run) (body : List ℕ) (h : DbHeader) (salt : ℕ) : Ty
 unfoldable pub NewBatchGuard : Type 0
 NewBatchGuard =
     AtFirst (λ (r : Run).
-    (body : List ℕ) (h : DbHeader) (salt : ℕ) → length body ≤ 4096 → AllBytes body → decodes body ≡ true → Words h → GoodHeader h → countOf h ≤ 2
+    (body : List ℕ) (h : DbHeader) (salt : ℕ) → length body ≤ 4096 → Bytes body → decodes body ≡ true → Words h → GoodHeader h → countOf h ≤ 2
     → salt < 2 ^ 32 → Recovers r body h salt)
 
 -- 1,024 batches fill a log: up to 1,023 of them leave room for a commit with nothing staged, which from 99 of them on brings on a fold
@@ -306,13 +307,13 @@ pub record Filled (r : Run) (body : List ℕ) (h : DbHeader) (k : ℕ) : Type 0 
 unfoldable pub FilledGuard : Type 0
 FilledGuard =
     AtFirst (λ (r : Run).
-    (body : List ℕ) (h : DbHeader) (k : ℕ) → length body ≤ 4096 → AllBytes body → decodes body ≡ true → GoodHeader h → countOf h ≤ 2 → k ≤ 1024
+    (body : List ℕ) (h : DbHeader) (k : ℕ) → length body ≤ 4096 → Bytes body → decodes body ≡ true → GoodHeader h → countOf h ≤ 2 → k ≤ 1024
     → Filled (after (replicate k (Whole (Append body))) r) body h k)
 
 -- there are such bodies: at any time, the deletion of any row of the table with the empty name
 pub record Body (time : ℕ) (row : ℤ) (body : List ℕ) : Type 0 where
   pub long : length body ≡ 4096
-  pub bytes : AllBytes body
+  pub bytes : Bytes body
   pub decoded : decodes body ≡ true
   pub says : batchIn body ≡ record { time = time; rows = tombstone [] row ∷ [] }
 
@@ -336,5 +337,5 @@ pub record Met : Type 0 where
   pub words : Words firstHeader
   pub two : countOf firstHeader ≡ 2
   pub long : length (zeros 4096) ≡ 4096
-  pub bytes : AllBytes (zeros 4096)
+  pub bytes : Bytes (zeros 4096)
   pub row : SFits w64 (pos 0)

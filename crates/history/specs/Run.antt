@@ -1,19 +1,18 @@
 -- A history as it runs: each call is the definition that its contract cites, on the very records, and is cut after any stored byte.
-use mathlib.Core.Bool.{Bool, true, false}
+use mathlib.Core.Bool.{true, false}
 use mathlib.Core.List.{List, [], _∷_, _++_, map}
-use Prim.Native.Nat.{ℕ, zero, suc, _+_}
-use lib.Dec.{leb, eqb}
+use Prim.Native.Nat.{ℕ, _+_}
+use lib.Dec.{eqb}
 use lib.ListN.{length, take, drop}
 use Rattle.le.specs.Choice.{pick}
-use Rattle.header.specs.declared.DbHeader.{DbHeader}
 use Rattle.pager_state.specs.World.{World, world}
 use Rattle.pager_state.specs.Overlay.{findPage, findRefusal}
 use Rattle.pager_state.specs.Staging.{stagePage, stageAfter, stageRefusal, clearStaged, clearRefusal}
 use Rattle.pager_state.specs.Queries.{header, headerRefusal, accessMode, modeRefusal, clockHighWater, clockReadRefusal, observeClock, observeRefusal}
 use Rattle.pager_state.specs.Batches.{appendBatch, appendAfter, appendRefusal, batchFrame, nextRecovered, recoveredRefusal}
-use Rattle.pager_state.specs.Stores.{File, Disk, content, diskOf, Kind, Batched, Sealed, Emptied, Other, Act, Put, SetLen, kindOf, stored, sizeOf, cutAll, wholeOf}
+use Rattle.pager_state.specs.Stores.{File, Disk, content, diskOf, Kind, Batched, Sealed, Emptied, Other, Act, Put, SetLen, kindOf, stored, cutAll, wholeOf}
 use Rattle.pager_state.specs.Opening.{How, openPager, openRefusal, openStores, openTable, openLogArea, createdPager, createTable, createLog, createMain}
-use Rattle.pager_state.specs.Steps.{commitStart, commitRefusal, beginCommit, checkpointStart, checkpointRefusal, beginCheckpoint, isFolding, todo, stepAnswer, stepRefusal, stepped, commitWorld, checkpointWorld, onStore}
+use Rattle.pager_state.specs.Steps.{commitStart, commitRefusal, beginCommit, checkpointStart, checkpointRefusal, beginCheckpoint, todo, stepAnswer, stepRefusal, stepped, commitWorld, checkpointWorld, onStore}
 use Rattle.pager_state.specs.declared.AccessMode.{AccessMode}
 use Rattle.pager_state.specs.declared.AccessMode.the-variants as mode
 use Rattle.pager_state.specs.declared.FileKind.the-variants as file

@@ -12,9 +12,9 @@ use lib.Dec.{eqb}
 use lib.ListN.{length, take, drop, getD, drop-of-length-le}
 use lib.Seq.{drop-cons}
 use Rattle.le.specs.Choice.{both}
-use Rattle.le.specs.Le.{leOf, field, sameBytes}
+use Rattle.le.specs.Le.{Bytes, leOf, field, sameBytes}
 use Rattle.le.proofs.Tests.{eq-or-not}
-use Rattle.le.proofs.Fields.{Bytes, field-cons, field-one}
+use Rattle.le.proofs.Fields.{field-cons, field-one}
 
 -- ---- what the comparison means
 

@@ -10,7 +10,7 @@ use borrow.Author.Tests.{le-leb, lt-leb}
 use lib.Arith.{mod-mul, digits-div, digits-mod}
 use lib.ListN.{length, take, drop, getD, length-take, length-drop, drop-of-length-le}
 use lib.Seq.{take-add, take-all, take-at, drop-append-add, take-nil, take-take, drop-drop, drop-cons}
-use Rattle.le.specs.Le.{leOf, leBytes, field, wholeField}
+use Rattle.le.specs.Le.{Bytes, leOf, leBytes, field, wholeField}
 use Rattle.le.proofs.Tests.{le-or-lt}
 
 -- ---- reading
@@ -120,10 +120,6 @@ field-front n x rest h = rw (take-at (leBytes n x) rest n (length-leBytes n x)) 
 
 pub field-behind : (n k m : ℕ) (xs ys : List ℕ) → length xs ≡ k → field n (k + m) (xs ++ ys) ≡ field n m ys
 field-behind n k m xs ys e = rw (← e, drop-append-add)
-
--- a list whose elements are bytes
-abbrev pub Bytes : List ℕ → Type 0
-Bytes l = (i : ℕ) → getD l i 0 < 256
 
 -- the bytes of a field's number are the bytes that lie there
 pub leBytes-field : (n at : ℕ) (l : List ℕ) → Bytes l → at + n ≤ length l → leBytes n (field n at l) ≡ take n (drop at l)

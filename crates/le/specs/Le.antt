@@ -1,10 +1,14 @@
 -- Fields of a list of bytes and the one store operation ("All layouts are little-endian").
 use mathlib.Core.Bool.{Bool, true, false}
 use mathlib.Core.List.{List, [], _∷_, _++_}
-use Prim.Native.Nat.{ℕ, zero, suc, _+_, _*_, _/_, _%_}
+use Prim.Native.Nat.{ℕ, zero, suc, _+_, _*_, _/_, _%_, _<_}
 use lib.Dec.{leb, eqb}
-use lib.ListN.{length, take, drop}
+use lib.ListN.{length, take, drop, getD}
 use Rattle.le.specs.Choice.{pick, both}
+
+-- a list whose elements are bytes
+abbrev pub Bytes : List ℕ → Type 0
+Bytes l = (i : ℕ) → getD l i 0 < 256
 
 -- the number that a list of bytes stands for, lowest byte first
 unfoldable pub leOf : List ℕ → ℕ

@@ -6,9 +6,9 @@ use native.Mathlib.Nat.{pow-succ', one-le-pow}
 use native.Mathlib.Omega.{arith}
 use lib.Dec.{lit<}
 use lib.ListN.{length, take, drop, replicate}
-use Rattle.le.specs.Le.{leOf, leBytes, field}
+use Rattle.le.specs.Le.{Bytes, leOf, leBytes, field}
 use Rattle.le.proofs.Tests.{le-or-lt}
-use Rattle.le.proofs.Fields.{Bytes, field-none, field-cons}
+use Rattle.le.proofs.Fields.{field-none, field-cons}
 
 -- a field of n bytes is below 256 ^ n
 pub field-small : (n at : ℕ) (l : List ℕ) → Bytes l → field n at l < 256 ^ n

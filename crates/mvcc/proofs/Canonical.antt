@@ -6,7 +6,7 @@ use Prim.Native.Nat.{ℕ, _-_, _≤_}
 use native.Mathlib.Omega.{arith}
 use borrow.Author.Tests.{eq-eqb, ne-eqb}
 use lib.ListN.{length, replicate, length-append, length-replicate}
-use Rattle.le.proofs.Fields.{Bytes}
+use Rattle.le.specs.Le.{Bytes}
 use Rattle.mvcc.specs.Decode.{batchOf}
 use Rattle.mvcc.specs.Batch.{Rec, encodeBatch, padded, encodeBody, GoodBatch}
 use Rattle.mvcc.specs.Seen.{refusalOf, decodes, commitTs, records, canonical}

@@ -11,9 +11,9 @@ use mir.Val.{ofZ, SFits}
 use mir.Syntax.{w64}
 use mathlib.Core.Logic.{⊎-elim}
 use Rattle.le.specs.Choice.{pick}
-use Rattle.le.specs.Le.{leBytes}
+use Rattle.le.specs.Le.{Bytes, leBytes}
 use Rattle.le.proofs.Tests.{le-or-lt}
-use Rattle.le.proofs.Fields.{Bytes, length-leBytes}
+use Rattle.le.proofs.Fields.{length-leBytes}
 use Rattle.text.specs.Utf8.{wellFormed}
 use Rattle.mvcc.specs.Answer.{Answer, taken, refused, then, many}
 use Rattle.mvcc.specs.Decode.{fitsIn, numAt, textOf, textAt, signed, realOf, integerAt, realAt, textValueAt, boolAt, vectorAt, taggedAt, valueAt, columnAt, presentAt, judgedAt, recordAt}
@@ -109,7 +109,7 @@ module _ (s : List ℕ) (sb : Bytes s) where
   words-length zero at = refl
   words-length (suc n) at = ap suc (words-length n (at + 4))
 
-  words-small : (n at : ℕ) → Each (λ (w : ℕ). w < 256 ^ 4) (words s n at)
+  pub words-small : (n at : ℕ) → Each (λ (w : ℕ). w < 256 ^ 4) (words s n at)
   unfolding words Each
   words-small zero at = tt
   words-small (suc n) at = (field-small 4 at s sb, words-small n (at + 4))

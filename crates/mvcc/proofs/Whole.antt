@@ -8,9 +8,9 @@ use borrow.Author.Tests.{le-leb, leb-true, eq-eqb, eqb-true}
 use lib.Dec.{leb, eqb, lit<}
 use lib.ListN.{length, length-append}
 use Rattle.le.specs.Choice.{pick}
-use Rattle.le.specs.Le.{leOf, leBytes, field}
+use Rattle.le.specs.Le.{Bytes, leOf, leBytes, field}
 use Rattle.le.proofs.Compare.{no-test}
-use Rattle.le.proofs.Fields.{Bytes, length-leBytes}
+use Rattle.le.proofs.Fields.{length-leBytes}
 use Rattle.mvcc.specs.Answer.{Answer, taken, refused}
 use Rattle.mvcc.specs.Fields.{batchNumber}
 use Rattle.mvcc.specs.Decode.{recordAt, magic, recordsAt, batchEnd, batchOf}

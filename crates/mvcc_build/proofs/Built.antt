@@ -157,7 +157,7 @@ refused-keeps count b body bs Fit h = refl
 refused-keeps count b body bs NoRecord h = refl
 
 module _ {t : ℕ} {rs : List Rec} {b : BatchBuilder} {body : List ℕ} (h : Built t rs b body) where
-  full : length body ≡ 4096
+  pub full : length body ≡ 4096
   full = rw (h .bytes) (body-length t rs (h .fits))
 
   -- a record is refused where its table is not UTF-8 (19), or where the batch with it would pass 4,096 bytes (20)

@@ -14,8 +14,8 @@ use lib.Signed.{ltZ}
 use mir.Val.{ofZ, SFits}
 use mir.Syntax.{w64}
 use Rattle.le.specs.Choice.{pick, both}
-use Rattle.le.specs.Le.{leBytes, put, store}
-use Rattle.le.proofs.Fields.{Bytes, length-leBytes, leBytes-field}
+use Rattle.le.specs.Le.{Bytes, leBytes, put, store}
+use Rattle.le.proofs.Fields.{length-leBytes, leBytes-field}
 use Rattle.le.proofs.Stores.{put-all, put-next, length-put, set-put, put-more, store-put, store-next}
 use Rattle.text.specs.Utf8.{wellFormed, utf8Of}
 use Rattle.text.specs.declared.Utf8.{Utf8}

@@ -4,4 +4,3 @@ pub mod Laws
 pub mod Grow
 pub mod Built
 pub mod Run
-pub mod Cases

@@ -1,21 +1,24 @@
 -- After any run of additions the body is the encoding of the records added so far. Assumes nothing.
-use mathlib.Core.Path.{_≡_, refl, sym, ap, _∙_}
+use mathlib.Core.Path.{_≡_, refl}
 use mathlib.Core.Bool.{Bool, true, false}
 use mathlib.Core.List.{List, [], _∷_, _++_}
-use Prim.Native.Nat.{ℕ, _+_, _^_, _<_}
+use Prim.Native.Nat.{ℕ, _+_, _/_, _%_, _^_, _<_}
 use native.Mathlib.Omega.{arith}
-use lib.Dec.{leb}
+use borrow.Author.Tests.{eq-eqb}
+use lib.Dec.{leb, eqb}
 use lib.ListN.{length}
-use Rattle.le.specs.Choice.{pick, both}
+use Rattle.le.specs.Choice.{both}
+use Rattle.le.specs.Le.{Bytes}
 use Rattle.text.specs.Utf8.{wellFormed}
-use Rattle.mvcc.specs.Batch.{Col, Rec, encodeColumn, encodeRecord, encodeBatch, encodeBody, Each}
+use Rattle.mvcc.specs.Batch.{vector, Col, Rec, encodeColumn, encodeRecord, encodeBatch, encodeBody, Each}
+use Rattle.mvcc.proofs.Sound.{words-small}
 use Rattle.mvcc_build.specs.declared.BatchBuilder.{BatchBuilder}
 use Rattle.mvcc_build.specs.declared.Added.{Added}
 use Rattle.mvcc_build.specs.declared.Added.the-variants.{Done, Area, Truncated, Text, Fit, NoRecord}
-use Rattle.mvcc_build.specs.Build.{addedNumber, startedBytes, recordCount, columnCount, tableOf, recordAdded, recordBytes, texted, columnAdded, columnBytes}
+use Rattle.mvcc_build.specs.Build.{addedNumber, startedBytes, laid, recordCount, columnCount, tableOf, recordAdded, recordBytes, column, texted, columnAdded, columnBytes, elements, vectorAdded, vectorBytes}
 use Rattle.mvcc_build.specs.Built.{builderOf, Built, endsPresent, withColumn, Held, HeldValue}
-use Rattle.mvcc_build.specs.Run.{Call, record-call, column-call, HeldCall, onward, nextBuilder, nextBody, nextRecords, runBuilder, runBody, runRecords}
-use Rattle.mvcc_build.proofs.Built.{start-built, refused-keeps, record-answer, record-built, column-answer, column-built}
+use Rattle.mvcc_build.specs.Run.{Call, record-call, column-call, vector-call, HeldCall, onward, nextBuilder, nextBody, columnRecords, nextRecords, runBuilder, runBody, runRecords}
+use Rattle.mvcc_build.proofs.Built.{full, start-built, refused-keeps, record-answer, record-built, column-answer, column-built}
 
 onward-refused : (x : Added) (b : BatchBuilder) → (addedNumber x ≡ 0 → ⊥) → onward x b ≡ b
 onward-refused (Done next) b h = absurd (h refl)
@@ -56,18 +59,31 @@ module _ {t : ℕ} {rs : List Rec} {b : BatchBuilder} {body : List ℕ} (h : Bui
 
   column-in : (c : Col) → HeldValue (c .val) → (w f p : Bool) → both (texted (c .val)) (wellFormed (c .name)) ≡ w
       → leb (length (encodeBatch t rs) + length (encodeColumn c)) 4096 ≡ f → endsPresent rs ≡ p
-      → Built t (nextRecords t (column-call c) rs) (nextBuilder (column-call c) b body) (nextBody (column-call c) b body)
-  unfolding nextRecords
+      → Built t (columnRecords t c rs) (nextBuilder (column-call c) b body) (nextBody (column-call c) b body)
+  unfolding columnRecords
   column-in c k true true true w f p = rw (w, f, p) (taken-column c (builderOf t (withColumn rs c)) k (rw (w, f, p) at (column-answer h c)))
   column-in c k true true false w f p = rw (w, f, p) (refused-column c NoRecord (rw (w, f, p) at (column-answer h c)) (λ z. omega arith))
   column-in c k true false p w f g = rw (w, f) (refused-column c Fit (rw (w, f) at (column-answer h c)) (λ z. omega arith))
   column-in c k false f p w g i = rw w (refused-column c Text (rw w at (column-answer h c)) (λ z. omega arith))
 
-  pub call-built : (k : Call) → HeldCall k → Built t (nextRecords t k rs) (nextBuilder k b body) (nextBody k b body)
-  unfolding HeldCall
-  call-built (record-call r) k = record-in r k (wellFormed (tableOf r)) (leb (length (encodeBatch t (rs ++ (r ∷ [])))) 4096) refl refl
-  call-built (column-call c) k =
+  column-any : (c : Col) → HeldValue (c .val) → Built t (columnRecords t c rs) (nextBuilder (column-call c) b body) (nextBody (column-call c) b body)
+  column-any c k =
       column-in c k (both (texted (c .val)) (wellFormed (c .name))) (leb (length (encodeBatch t rs) + length (encodeColumn c)) 4096) (endsPresent rs) refl refl refl
+
+  -- a vector of whole elements is a column; any other is refused
+  vector-in : (n bs : List ℕ) → Bytes bs → (w : Bool) → eqb (length bs % 4) 0 ≡ w
+      → Built t (nextRecords t (vector-call n bs) rs) (nextBuilder (vector-call n bs) b body) (nextBody (vector-call n bs) b body)
+  unfolding nextRecords nextBuilder nextBody vectorAdded vectorBytes columnBytes HeldValue elements laid
+  vector-in n bs k true w =
+      let g = column-any (column n (vector (elements bs))) (words-small bs k (length bs / 4) 0) in
+      rw (eq-eqb _ _ (full h), w) g
+  vector-in n bs k false w = rw (eq-eqb _ _ (full h), w) h
+
+  pub call-built : (k : Call) → HeldCall k → Built t (nextRecords t k rs) (nextBuilder k b body) (nextBody k b body)
+  unfolding HeldCall nextRecords
+  call-built (record-call r) k = record-in r k (wellFormed (tableOf r)) (leb (length (encodeBatch t (rs ++ (r ∷ [])))) 4096) refl refl
+  call-built (column-call c) k = column-any c k
+  call-built (vector-call n bs) k = vector-in n bs k (eqb (length bs % 4) 0) refl
 
 -- "The bytes are exactly those of `MvccCommitBatch::encode` of the records added so far, zero behind"
 pub run-built : (ks : List Call) {t : ℕ} {rs : List Rec} {b : BatchBuilder} {body : List ℕ} → Built t rs b body → Each HeldCall ks

@@ -10,9 +10,9 @@ use lib.Bits.{bitAnd, and-block, and-high}
 use lib.Dec.{eqb}
 use lib.ListN.{length, take, drop, getD, length-take, length-drop, take-append-drop}
 use lib.Seq.{take-add, take-all, length-take-le, getD-take, getD-drop}
-use Rattle.le.specs.Le.{leOf, leBytes, field, wholeField, put, store}
+use Rattle.le.specs.Le.{Bytes, leOf, leBytes, field, wholeField, put, store}
 use Rattle.le.specs.Choice.{both}
-use Rattle.le.proofs.Fields.{Bytes, leBytes-field, field-whole, length-leBytes}
+use Rattle.le.proofs.Fields.{leBytes-field, field-whole, length-leBytes}
 use Rattle.le.proofs.Stores.{put-none, put-next, put-over, length-put, store-put}
 use Rattle.le.proofs.Tests.{le-or-lt}
 use Rattle.text.specs.Utf8.{wellFormed}

@@ -8,8 +8,8 @@ use borrow.Author.Tests.{eq-eqb}
 use lib.Dec.{eqb}
 use lib.ListN.{length, getD}
 use Rattle.le.specs.Choice.{pick}
+use Rattle.le.specs.Le.{Bytes}
 use Rattle.le.proofs.Tests.{le-or-lt}
-use Rattle.le.proofs.Fields.{Bytes}
 use Rattle.mvcc.specs.Answer.{Answer, taken, many}
 use Rattle.mvcc.specs.Decode.{columnAt, recordAt}
 use Rattle.mvcc.specs.Batch.{all, encodeColumn, encodeRecord}

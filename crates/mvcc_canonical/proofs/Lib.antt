@@ -3,4 +3,3 @@ pub mod Same
 pub mod Walk
 pub mod Bools
 pub mod Whole
-pub mod Cases

@@ -13,9 +13,9 @@ use lib.Ieee.{binary64, nanBits, ofBits}
 use mir.Val.{ofZ}
 use mir.Syntax.{w64}
 use Rattle.le.specs.Choice.{pick}
-use Rattle.le.specs.Le.{leOf, leBytes, field}
+use Rattle.le.specs.Le.{Bytes, leOf, leBytes, field}
 use Rattle.le.proofs.Tests.{le-or-lt}
-use Rattle.le.proofs.Fields.{Bytes, field-one, length-leBytes, leBytes-field}
+use Rattle.le.proofs.Fields.{field-one, length-leBytes, leBytes-field}
 use Rattle.text.specs.Utf8.{wellFormed}
 use Rattle.mvcc.specs.Answer.{Answer, taken, refused, then, many}
 use Rattle.mvcc.specs.Decode.{fitsIn, numAt, textOf, textAt, signed, realOf, integerAt, realAt, textValueAt, boolAt, vectorAt, taggedAt, valueAt, columnAt, presentAt, judgedAt, recordAt}

@@ -13,8 +13,8 @@ use types.Run.{OneOf, miss}
 use denote.Enum.Declared.{tagOf}
 use Rattle.mvcc.proofs.Value.{the-type}
 use Rattle.le.specs.Choice.{pick}
-use Rattle.le.specs.Le.{field, put}
-use Rattle.le.proofs.Fields.{Bytes, part-part, field-one}
+use Rattle.le.specs.Le.{Bytes, field, put}
+use Rattle.le.proofs.Fields.{part-part, field-one}
 use Rattle.le.proofs.Stores.{put-none, put-put, put-there, length-put, drop-put, store-put, store-none, set-put}
 use Rattle.mvcc.specs.Answer.{Answer, taken, refused, then, many}
 use Rattle.mvcc.specs.Decode.{columnAt, recordAt}

@@ -8,8 +8,7 @@ use native.Mathlib.Omega.{arith}
 use borrow.Author.Tests.{le-leb, lt-leb, eq-eqb, ne-eqb}
 use lib.ListN.{length, take, drop, replicate, length-append, length-take, length-replicate}
 use lib.Seq.{take-at, drop-at}
-use Rattle.le.specs.Le.{leOf, leBytes, field, put, store}
-use Rattle.le.proofs.Fields.{Bytes}
+use Rattle.le.specs.Le.{Bytes, leOf, leBytes, field, put, store}
 use Rattle.le.proofs.Stores.{put-all, store-put, store-next}
 use Rattle.mvcc.specs.Answer.{taken, many}
 use Rattle.mvcc.specs.Decode.{recordAt, magic, recordsAt, batchOf}

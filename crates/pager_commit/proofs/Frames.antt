@@ -1,7 +1,7 @@
 -- A commit's steps, way by way, from what the code stored. Assumes nothing.
 use mathlib.Core.Path.{_≡_, refl, sym, ap, _∙_}
 use mathlib.Core.Bool.{Bool, true, false}
-use mathlib.Core.List.{List, [], _∷_, _++_}
+use mathlib.Core.List.{List, [], _∷_}
 use mathlib.Core.Logic.{_⊎_, ⊎-elim}
 use Prim.Native.Nat.{ℕ, suc, _+_, _-_, _*_, _≤_, _<_}
 use native.Mathlib.Numerals.{add-one}
@@ -9,11 +9,9 @@ use native.Mathlib.Omega.{arith}
 use borrow.Author.Tests.{eq-eqb, ne-eqb, le-leb, leb-true}
 use denote.Enum.Declared.{tagOf}
 use lib.Dec.{leb}
-use lib.ListN.{length, take, drop, length-take, length-drop}
-use lib.Seq.{drop-drop}
+use lib.ListN.{length, length-take, length-drop}
 use Rattle.le.specs.Choice.{pick}
-use Rattle.le.specs.Le.{put, store}
-use Rattle.le.proofs.Stores.{part-put, put-over, length-put, store-put}
+use Rattle.le.proofs.Stores.{store-put}
 use Rattle.page.specs.Page.{frontPage}
 use Rattle.header.specs.Header.{headerFields, encodeHeader}
 use Rattle.header.specs.declared.DbHeader.{DbHeader}

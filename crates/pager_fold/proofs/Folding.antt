@@ -234,14 +234,14 @@ module _ (w : World) (fi : fine w ≡ true) where
 
 -- ---- the log's header
 
-module _ (l : List ℕ) (v : Wal) (salt : ℕ) (n : length l ≡ 4210720) where
+module _ (l : List ℕ) (v : Wal) (salt : ℕ) (n : (length l ≡ 4210720) × (v .len ≤ 4210720)) where
   pub truncated-as : truncateAnswer l v salt ≡ truncated.Truncated (emptyWal (truncatedHeader (v .header) salt))
   unfolding truncateAnswer
-  truncated-as = rw (borrow.Author.Tests.eq-eqb (length l) 4210720 n)
+  truncated-as = rw (borrow.Author.Tests.eq-eqb (length l) 4210720 (n .0), le-leb (v .len) 4210720 (n .1))
 
   pub truncated-log : truncateAfter l v salt ≡ put l 0 (encodeWalHeader (truncatedHeader (v .header) salt))
-  unfolding walHeaded
-  truncated-log = rw (borrow.Author.Tests.eq-eqb (length l) 4210720 n)
+  unfolding truncateAfter walHeaded
+  truncated-log = rw (borrow.Author.Tests.eq-eqb (length l) 4210720 (n .0), le-leb (v .len) 4210720 (n .1))
 
 -- ---- the judgement of a starting call
 

@@ -392,7 +392,7 @@ fn empty_step(pager: Pager, salt: u32, answer: usize, log: &mut [u8]) -> Stepped
 
 // Stores the log's header; the table then tells of the main file alone.
 fn last_step(pager: Pager, salt: u32, answer: usize, table: &mut [u32], log: &mut [u8]) -> Stepped
-    requires { ⌜ length (now log) ≡ 4210720 ⌝ }
+    requires { ⌜ (length (now log) ≡ 4210720) × (pager .wal .len ≤ 4210720) ⌝ }
     ensures { λ r. ⌜ r .answer ≡ StepAnswer.Last (placeOf (Put Other FileKind.Log 0 (encodeWalHeader (truncatedHeader (pager .wal .header) salt)) true)) answer ⌝ }
     ensures { λ r. ⌜ r .pager ≡ withJob (withWal pager (emptyWal (truncatedHeader (pager .wal .header) salt))) Job.Idle ⌝ }
     ensures { λ _. ⌜ now (table .exit) ≡ foldedFrom (countOf (headerOf pager)) 0 (now (table .entry)) ⌝ }

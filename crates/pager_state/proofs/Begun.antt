@@ -4,7 +4,7 @@ use mathlib.Core.Bool.{Bool, true, false}
 use mathlib.Core.List.{List, append-nil}
 use Prim.Native.Nat.{ℕ, _+_, _*_, _≤_}
 use native.Mathlib.Omega.{arith}
-use borrow.Author.Tests.{leb-true, eq-eqb}
+use borrow.Author.Tests.{leb-true}
 use lib.Dec.{leb, ltb}
 use lib.ListN.{length}
 use Rattle.le.specs.Choice.{pick, both}
@@ -13,12 +13,12 @@ use Rattle.header.specs.Header.{isVersion}
 use Rattle.header.specs.declared.DbHeader.{DbHeader}
 use Rattle.frame.specs.Frame.{frameSize}
 use Rattle.wal.specs.Recovery.{walArea}
-use Rattle.pager_state.specs.World.{World, pageLimit, stagingArea, stagedLimit, countOf, fine, busyWith, busy, readOnly, withJob}
+use Rattle.pager_state.specs.World.{World, pageLimit, stagedLimit, countOf, fine, busyWith, busy, readOnly, withJob}
 use Rattle.pager_state.specs.Overlay.{stagedPages, isStaged, committedBytes}
 use Rattle.pager_state.specs.Pages.{pagesFrom, differs}
 use Rattle.pager_state.specs.Fold.{foldTodo}
 use Rattle.pager_state.specs.Commit.{framesTodo, commitTodo}
-use Rattle.pager_state.specs.Steps.{headerGood, differing, lacking, roomFor, standsBefore, allBefore, commitFine, commitStart, isBegun, beginCommit, commitRefusal, nothingToFold, checkpointStart, checkpointRefusal, isFolding, folding, beginCheckpoint, todo, stepFine, onStore}
+use Rattle.pager_state.specs.Steps.{headerGood, differing, lacking, roomFor, allBefore, commitFine, commitStart, isBegun, beginCommit, commitRefusal, nothingToFold, checkpointStart, checkpointRefusal, isFolding, folding, beginCheckpoint, todo, stepFine, onStore}
 use Rattle.pager_state.specs.declared.Job.{Job}
 use Rattle.pager_state.specs.declared.Job.the-variants as job
 use Rattle.pager_state.specs.declared.CommitStart.{CommitStart}

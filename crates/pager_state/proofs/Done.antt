@@ -18,7 +18,7 @@ use Rattle.pager_state.specs.declared.Job.{Job}
 use Rattle.pager_state.specs.declared.Job.the-variants as job
 use Rattle.pager_state.proofs.Searches.{pages-length}
 use Rattle.pager_state.proofs.Stored.{AllInside}
-use Rattle.pager_state.proofs.Made.{MadeOf, ReadyOf}
+use Rattle.pager_state.proofs.Made.{ReadyOf}
 use Rattle.pager_state.proofs.Next.{todo-by}
 use Rattle.pager_state.proofs.Runs.{steps-disk, steps-rest, steps-keep}
 use Rattle.pager_state.proofs.Begun.{commit-inside, commit-ready, checkpoint-inside, checkpoint-ready, begun-commit, begun-checkpoint}

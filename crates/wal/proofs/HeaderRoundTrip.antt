@@ -11,9 +11,9 @@ use lib.Dec.{leb, ltb, eqb}
 use lib.ListN.{length, take, getD, length-append, length-take}
 use lib.Seq.{take-at, take-take, take-append-le}
 use Rattle.le.specs.Choice.{pick, both}
-use Rattle.le.specs.Le.{leOf, leBytes, field, sameBytes}
+use Rattle.le.specs.Le.{Bytes, leOf, leBytes, field, sameBytes}
 use Rattle.le.proofs.Tests.{le-or-lt}
-use Rattle.le.proofs.Fields.{Bytes, field-none, field-cons, length-leBytes, field-front, field-behind, field-part}
+use Rattle.le.proofs.Fields.{field-none, field-cons, length-leBytes, field-front, field-behind, field-part}
 use Rattle.le.proofs.Compare.{no-test, both-true, same-refl, same-equal}
 use Rattle.wal.specs.Header.{walMagic, encodeWalHeader, headerIn, decodeWalHeader, decodeRefusal}
 use Rattle.wal.specs.declared.WalHeader.{WalHeader}

@@ -5,23 +5,22 @@ use mathlib.Core.List.{List, [], _++_}
 use mathlib.Core.Logic.{⊎-elim}
 use Prim.Native.Nat.{ℕ, _+_, _^_, _≤_, _<_}
 use native.Mathlib.Omega.{arith}
-use borrow.Author.Tests.{eqb-true, leb-true, ne-eqb}
+use borrow.Author.Tests.{eq-eqb, eqb-true, le-leb, leb-true, ne-eqb}
 use lib.Dec.{eqb, leb}
-use lib.ListN.{length, take, drop, getD}
+use lib.ListN.{length, take, drop, getD, length-take, length-drop, take-append-drop}
 use lib.Seq.{take-all, take-take, length-take-le}
 use Rattle.le.specs.Choice.{pick}
-use Rattle.le.specs.Le.{put}
+use Rattle.le.specs.Le.{Bytes, put}
 use Rattle.le.proofs.Compare.{both-true}
-use Rattle.le.proofs.Fields.{Bytes}
 use Rattle.le.proofs.Tests.{le-or-lt}
 use Rattle.mvcc.proofs.Bytes.{bytes-take}
 use Rattle.frame.specs.Frame.{encodeFrame, bodyOf}
 use Rattle.frame.proofs.Stores.{length-encodeFrame}
-use Rattle.wal.specs.Header.{encodeWalHeader}
-use Rattle.wal.specs.Recovery.{readableAs, good, pageIn, recovered, sealedFrames, walOf, openLog}
+use Rattle.wal.specs.Header.{encodeWalHeader, headerIn}
+use Rattle.wal.specs.Recovery.{chunks, readableAs, good, goodFront, sealed, pageIn, recovered, sealedFrames, walOf, openLog}
 use Rattle.wal.specs.Read.{committed, readPage, batchFrom, nextBatch}
-use Rattle.wal.specs.Write.{emptyWal, headed, createdHeader, createAnswer, truncatedHeader, truncateAnswer, longer, joins, appendable, hasRoom, appendAnswer, appendAfter, withClock, clockAnswer}
-use Rattle.wal.specs.Reached.{fileOf, Reached, by-open, by-create, by-truncate, by-append, by-clock}
+use Rattle.wal.specs.Write.{emptyWal, headed, createdHeader, createAnswer, areaFine, truncatedHeader, truncateAnswer, truncateAfter, longer, joins, withFrame, appendable, hasRoom, appendAnswer, appendAfter, withClock, clockAnswer}
+use Rattle.wal.specs.Reached.{fileOf, Reached, by-open, by-create, by-truncate, by-append, by-clock, by-empty}
 use Rattle.wal.specs.declared.WalHeader.{WalHeader}
 use Rattle.wal.specs.declared.Wal.{Wal}
 use Rattle.wal.specs.declared.WalOpened.the-variants as opened
@@ -30,11 +29,12 @@ use Rattle.wal.specs.declared.WalTruncated.the-variants as truncated
 use Rattle.wal.specs.declared.FrameAppended.the-variants as appended
 use Rattle.wal.specs.declared.ClockSet.the-variants as clock
 use Rattle.wal.proofs.Encoding.{length-encodeWalHeader}
-use Rattle.wal.proofs.HeaderRoundTrip.{Written, Fits, header-fits}
+use Rattle.wal.proofs.HeaderRoundTrip.{Written, Fits, header-fits, header-append}
+use Rattle.wal.proofs.Places.{runs-short}
 use Rattle.wal.proofs.Frames.{sealed-most}
 use Rattle.wal.proofs.Opening.{open-known, known-header, known-len}
 use Rattle.wal.proofs.Writing.{file-longer, file-headed, created-written, truncated-written, alone-known}
-use Rattle.wal.proofs.Kept.{Kept, keptFrames, kept-known, kept-frame, kept-clock, kept-committed, kept-good, kept-sealed, kept-whole}
+use Rattle.wal.proofs.Kept.{Kept, keptFrames, kept-known, kept-long, kept-frame, kept-clock, kept-committed, kept-good, kept-sealed, kept-whole}
 
 -- ---- what an answer says
 
@@ -105,6 +105,28 @@ headed-kept l h n p =
     let f : Fits h = record { version = omega (arith, p .version); salt = p .salt; seq = p .seq; clock = p .clock } in
     rw (file-headed l h n) (kept-known (encodeWalHeader h) (emptyWal h) (omega arith) k f)
 
+-- a log cut to its header
+emptied-kept : (area : List ℕ) (w : Wal) → Kept (fileOf area w) w → Kept (fileOf area (emptyWal (w .header))) (emptyWal (w .header))
+unfolding emptyWal chunks goodFront sealed
+emptied-kept area w k =
+    let h : 32 ≤ length (fileOf area w) = kept-long (fileOf area w) w k in
+    let m : 32 ≤ w .len = omega (arith, k .len) in
+    let t : take 32 area ≡ take 32 (fileOf area w) = sym (take-take 32 (w .len) area m) in
+    let n : length (take 32 (fileOf area w)) ≡ 32 = length-take-le 32 (fileOf area w) h in
+    let s : headerIn (fileOf area w) ≡ headerIn (take 32 (fileOf area w)) =
+    rw take-append-drop at (header-append (take 32 (fileOf area w)) (drop 32 (fileOf area w)) (omega arith)) in
+    let c : keptFrames (take 32 (fileOf area w)) (emptyWal (w .header)) ≡ [] =
+    runs-short (drop 32 (take 32 (take 32 (fileOf area w)))) (simp (length-drop, length-take) (omega arith)) in
+    rw t (record {
+      len = sym n;
+      header = k .header;
+      salt = k .salt ∙ rw s;
+      all-good = rw c;
+      end = rw c;
+      inside = omega arith;
+      commit = rw c;
+    })
+
 module _ (area : List ℕ) (w v : Wal) (k : Kept (fileOf area w) w) where
   appended-kept : (page : ℕ) (body : List ℕ) (count : ℕ) → page < 2 ^ 32 → count < 2 ^ 32 → appendAnswer area w page body count ≡ appended.Appended v
       → Kept (fileOf (appendAfter area w page body count) v) v
@@ -116,11 +138,12 @@ module _ (area : List ℕ) (w v : Wal) (k : Kept (fileOf area w) w) where
       file-longer 4112 area (w .len) f (length-encodeFrame page count (w .header .salt) body (a .paged)) (omega (arith, a .area, a .room)) in
       rw (a .is, a .bytes, t) (kept-frame (fileOf area w) w k page count body (a .paged) hp hc)
 
-  truncated-kept : (salt : ℕ) → salt < 2 ^ 32 → truncateAnswer area w salt ≡ truncated.Truncated v → Kept (fileOf (headed area (truncatedHeader (w .header) salt)) v) v
-  unfolding truncateAnswer
+  truncated-kept : (salt : ℕ) → salt < 2 ^ 32 → truncateAnswer area w salt ≡ truncated.Truncated v → Kept (fileOf (truncateAfter area w salt) v) v
+  unfolding truncateAnswer truncateAfter
   truncated-kept salt h e =
-      let p = truncated-as (eqb (length area) 4210720) (emptyWal (truncatedHeader (w .header) salt)) v e in
-      rw (← p .1) (headed-kept area (truncatedHeader (w .header) salt) (eqb-true _ _ (p .0)) (truncated-written (w .header) salt h (k .header .clock)))
+      let p = truncated-as (areaFine area w) (emptyWal (truncatedHeader (w .header) salt)) v e in
+      let n : length area ≡ 4210720 = eqb-true _ _ (both-true (eqb (length area) 4210720) (leb (w .len) 4210720) (p .0) .0) in
+      rw (← p .1, p .0) (headed-kept area (truncatedHeader (w .header) salt) n (truncated-written (w .header) salt h (k .header .clock)))
 
   clock-kept : (value : ℕ) → value < 2 ^ 64 → clockAnswer w value ≡ clock.Set v → Kept (fileOf area v) v
   unfolding clockAnswer withClock
@@ -140,6 +163,20 @@ reached-kept (by-create area {w} salt h e) = created-kept area w salt h e
 reached-kept (by-truncate {area} {w} {v} salt h r e) = truncated-kept area w v (reached-kept r) salt h e
 reached-kept (by-append {area} {w} {v} page body count hp hc r e) = appended-kept area w v (reached-kept r) page body count hp hc e
 reached-kept (by-clock {area} {w} {v} value h r e) = clock-kept area w v (reached-kept r) value h e
+reached-kept (by-empty {area} {w} r) = emptied-kept area w (reached-kept r)
+
+-- the log one good frame longer: a frame that is stored at its length, readable and with count 0, is an append
+pub reached-longer : {area : List ℕ} {w : Wal} (page : ℕ) (body : List ℕ) → page < 2 ^ 32 → length body ≡ 4096 → length area ≡ 4210720
+    → hasRoom w ≡ true → readableAs page body ≡ true → Reached area w
+    → Reached (put area (w .len) (encodeFrame page 0 (w .header .salt) body)) (withFrame w 0)
+unfolding appendAnswer appendAfter
+reached-longer {area} {w} page body hp nb na o g r =
+    let k : w .len + 4112 ≤ 4210720 = leb-true _ _ o in
+    let h : w .len ≤ 4210720 = omega arith in
+    let e : appendAnswer area w page body 0 ≡ appended.Appended (withFrame w 0) = rw (eq-eqb _ _ nb, eq-eqb _ _ na, le-leb _ _ h, o, g) in
+    let a : appendAfter area w page body 0 ≡ put area (w .len) (encodeFrame page 0 (w .header .salt) body) =
+    rw (eq-eqb _ _ nb, eq-eqb _ _ na, le-leb _ _ h, o) in
+    rw (← a) (by-append page body 0 hp (omega arith) r e)
 
 -- ---- what is read
 

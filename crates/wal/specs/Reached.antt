@@ -1,12 +1,14 @@
 -- The bytes of a log's area and the open log after any calls. A refused call leaves both as they were, and is no step.
--- The bounds are what the machine's types say of the arguments.
+-- The bounds are what the machine's types say of the arguments. A log made up of numbers is none of these: of `Wal::empty` with
+-- another header than the log's own, and of `Wal::longer` where no readable frame was stored at the log's length with count 0
+-- (where one was, `longer` is an append: `reached-longer` of proofs/Reached.antt), nothing is said.
 use mathlib.Core.Path.{_≡_}
 use mathlib.Core.List.{List}
 use Prim.Native.Nat.{ℕ, _^_, _<_}
 use lib.ListN.{take}
-use Rattle.le.proofs.Fields.{Bytes}
+use Rattle.le.specs.Le.{Bytes}
 use Rattle.wal.specs.Recovery.{openLog}
-use Rattle.wal.specs.Write.{createAnswer, createAfter, truncateAnswer, truncateAfter, appendAnswer, appendAfter, clockAnswer}
+use Rattle.wal.specs.Write.{emptyWal, createAnswer, createAfter, truncateAnswer, truncateAfter, appendAnswer, appendAfter, clockAnswer}
 use Rattle.wal.specs.declared.Wal.{Wal}
 use Rattle.wal.specs.declared.WalOpened.the-variants as opened
 use Rattle.wal.specs.declared.WalCreated.the-variants as created
@@ -27,3 +29,5 @@ pub data Reached : List ℕ → Wal → Type 0 where
   by-append : {area : List ℕ} {w v : Wal} (page : ℕ) (body : List ℕ) (count : ℕ) → page < 2 ^ 32 → count < 2 ^ 32 → Reached area w
       → appendAnswer area w page body count ≡ appended.Appended v → Reached (appendAfter area w page body count) v
   by-clock : {area : List ℕ} {w v : Wal} (value : ℕ) → value < 2 ^ 64 → Reached area w → clockAnswer w value ≡ clock.Set v → Reached area v
+  -- the log cut to its header, as a fold's "log length 32" leaves it
+  by-empty : {area : List ℕ} {w : Wal} → Reached area w → Reached area (emptyWal (w .header))

@@ -55,6 +55,10 @@ abbrev pub createRefusal : WalCreated → ℕ
 createRefusal (created.Created w) = 0
 createRefusal created.Area = 1
 
+-- refusal 1 of a log that is lent with its area: "a wrong area length, or a file length above its area"
+abbrev pub areaFine : List ℕ → Wal → Bool
+areaFine l w = both (eqb (length l) walArea) (leb (w .len) walArea)
+
 -- "log length 32; log header with the next sequence and the given salt"; "checkpoint sequence (4, wraps)"
 unfoldable pub truncatedHeader : WalHeader → ℕ → WalHeader
 truncatedHeader h salt =
@@ -67,10 +71,10 @@ truncatedHeader h salt =
 
 unfoldable pub truncateAnswer : List ℕ → Wal → ℕ → WalTruncated
 truncateAnswer l w salt =
-    pick (eqb (length l) walArea) (truncated.Truncated (emptyWal (truncatedHeader (w .header) salt))) truncated.Area
+    pick (areaFine l w) (truncated.Truncated (emptyWal (truncatedHeader (w .header) salt))) truncated.Area
 
-abbrev pub truncateAfter : List ℕ → Wal → ℕ → List ℕ
-truncateAfter l w salt = headed l (truncatedHeader (w .header) salt)
+unfoldable pub truncateAfter : List ℕ → Wal → ℕ → List ℕ
+truncateAfter l w salt = pick (areaFine l w) (headed l (truncatedHeader (w .header) salt)) l
 
 abbrev pub truncateRefusal : WalTruncated → ℕ
 truncateRefusal (truncated.Truncated w) = 0
@@ -101,9 +105,9 @@ joins w isGood = both isGood (eqb (w .len) (w .«good_end»))
 abbrev pub withFrame : Wal → ℕ → Wal
 withFrame w count = longer (joins w true) w count
 
--- a page, the log's area, and a length within it
+-- .. and of a page with it
 abbrev pub appendable : List ℕ → Wal → List ℕ → Bool
-appendable l w body = both (eqb (length body) pageSize) (both (eqb (length l) walArea) (leb (w .len) walArea))
+appendable l w body = both (eqb (length body) pageSize) (areaFine l w)
 
 -- 15: "length + 4,112 × frames to add is above 4,210,720"
 abbrev pub hasRoom : Wal → Bool

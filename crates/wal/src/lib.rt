@@ -147,7 +147,7 @@ fn counted(last: LastCommit, commit_page_count: u32) -> LastCommit
 }
 
 impl Wal {
-    // A log of its header alone.
+    // A log of its header alone. Of an open log's own header: the log cut to it.
     pub fn empty(header: WalHeader) -> Wal
         ensures { λ r. ⌜ r ≡ emptyWal header ⌝ }
     {
@@ -183,6 +183,7 @@ impl Wal {
     }
 
     // The log one good frame longer, which does not seal; as it was where there is no room for one.
+    // For a caller that has just stored such a frame at the log's length; of any other log these numbers are made up.
     pub fn longer(self) -> Wal
         ensures { λ r. ⌜ r ≡ pick (hasRoom self) (withFrame self 0) self ⌝ }
     {
@@ -384,6 +385,9 @@ pub fn truncate(log: &mut [u8], wal: Wal, salt: u32) -> WalTruncated
     ensures { λ r. ⌜ (r ≡ truncateAnswer (now (log .entry)) wal salt) × (now (log .exit) ≡ truncateAfter (now (log .entry)) wal salt) ⌝ }
 {
     if log.len() != WAL_AREA {
+        return WalTruncated::Area;
+    }
+    if WAL_AREA < wal.len {
         return WalTruncated::Area;
     }
     let old = wal.header;

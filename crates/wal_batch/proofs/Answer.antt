@@ -8,9 +8,8 @@ use borrow.Author.Tests.{eq-eqb, eqb-true, le-leb, leb-true}
 use lib.Dec.{eqb, leb}
 use lib.ListN.{length}
 use Rattle.le.specs.Choice.{pick, both}
-use Rattle.le.specs.Le.{put}
+use Rattle.le.specs.Le.{Bytes, put}
 use Rattle.le.proofs.Compare.{both-true}
-use Rattle.le.proofs.Fields.{Bytes}
 use Rattle.mvcc.specs.Seen.{refusalOf, decodes, canonical}
 use Rattle.mvcc.proofs.Canonical.{canonical-decodes}
 use Rattle.wal.specs.Write.{withFrame, hasRoom, appendAnswer, appendAfter}

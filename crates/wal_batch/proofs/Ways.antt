@@ -7,8 +7,7 @@ use native.Mathlib.Omega.{arith}
 use borrow.Author.Tests.{eq-eqb, ne-eqb, le-leb, lt-leb}
 use lib.ListN.{length, take, drop, length-take, length-drop, take-append-drop}
 use lib.Seq.{drop-drop}
-use Rattle.le.specs.Le.{put}
-use Rattle.le.proofs.Fields.{Bytes}
+use Rattle.le.specs.Le.{Bytes, put}
 use Rattle.le.proofs.Stores.{length-put, store-put}
 use Rattle.frame.specs.Frame.{encodeFrame, headingAfter}
 use Rattle.frame.proofs.Stores.{frame-written}

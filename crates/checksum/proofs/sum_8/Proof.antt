@@ -4,7 +4,7 @@ use native.Mathlib.Omega.{arith}
 use denote.Ref.{now}
 use borrow.Author.Needs.{needs}
 use borrow.Author.Tests.{leb-false}
-use Rattle.le.proofs.Fields.{Bytes}
+use Rattle.le.specs.Le.{Bytes}
 use Rattle.checksum.proofs.Blocks.{block-summed}
 use Rattle.checksum.proofs.Words.{weight-word}
 use Rattle.checksum.proofs.sum_8.Statement.{statement}

@@ -6,8 +6,7 @@ use lib.ListN.{length, drop}
 use denote.Ref.{now}
 use borrow.Author.Needs.{needs}
 use Rattle.le.specs.Choice.{both}
-use Rattle.le.specs.Le.{sameBytes}
-use Rattle.le.proofs.Fields.{Bytes}
+use Rattle.le.specs.Le.{Bytes, sameBytes}
 use Rattle.le.proofs.Compare.{same-more}
 use Rattle.le.proofs.same_block.Statement.{statement}
 use Rattle.le.proofs.same_block.Tie as tie

@@ -4,8 +4,8 @@ use native.Mathlib.Omega.{arith}
 use lib.ListN.{length, drop}
 use denote.Ref.{now}
 use borrow.Author.Needs.{needs}
-use Rattle.le.specs.Le.{sameBytes}
-use Rattle.le.proofs.Fields.{Bytes, field-one}
+use Rattle.le.specs.Le.{Bytes, sameBytes}
+use Rattle.le.proofs.Fields.{field-one}
 use Rattle.le.proofs.Compare.{same-on, same-off, same-end}
 use Rattle.le.proofs.same_from.Statement.{statement}
 use Rattle.le.proofs.same_from.Tie as tie

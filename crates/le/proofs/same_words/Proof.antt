@@ -4,8 +4,7 @@ use native.Mathlib.Omega.{arith}
 use lib.ListN.{length, drop}
 use denote.Ref.{now}
 use borrow.Author.Needs.{needs}
-use Rattle.le.specs.Le.{sameBytes}
-use Rattle.le.proofs.Fields.{Bytes}
+use Rattle.le.specs.Le.{Bytes, sameBytes}
 use Rattle.le.proofs.Compare.{same-on, same-off}
 use Rattle.le.proofs.same_words.Statement.{statement}
 use Rattle.le.proofs.same_words.Tie as tie

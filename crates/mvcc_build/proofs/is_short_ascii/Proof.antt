@@ -3,8 +3,8 @@ use native.Mathlib.Omega.{arith}
 use Prim.Native.Nat.{_-_}
 use lib.ListN.{length}
 use denote.Ref.{now}
+use Rattle.le.specs.Le.{Bytes}
 use Rattle.le.proofs.Compare.{no-test}
-use Rattle.le.proofs.Fields.{Bytes}
 use Rattle.mvcc_build.proofs.Words.{and-true, wide-le, word-ascii, ends-ascii}
 use borrow.Author.Needs.{needs}
 use Rattle.mvcc_build.proofs.is_short_ascii.Statement.{statement}

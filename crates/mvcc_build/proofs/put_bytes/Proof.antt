@@ -1,7 +1,7 @@
 -- `mvcc_build::put_bytes` meets its contract. Assumes nothing.
 use native.Mathlib.Omega.{arith}
 use denote.Ref.{now}
-use Rattle.le.proofs.Fields.{Bytes}
+use Rattle.le.specs.Le.{Bytes}
 use Rattle.mvcc_build.proofs.Laws.{one-stored}
 use Rattle.mvcc_build.proofs.Words.{put-empty, words-stored}
 use borrow.Author.Needs.{needs}

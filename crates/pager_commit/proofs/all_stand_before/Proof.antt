@@ -1,9 +1,9 @@
 use native.Mathlib.Omega.{arith}
 use native.Mathlib.Numerals.{add-one}
-use mathlib.Core.Path.{_≡_, refl, sym, ap, _∙_}
+use mathlib.Core.Path.{_≡_, refl, ap, _∙_}
 use denote.Ref.{now}
 use borrow.Author.Needs.{needs}
-use Prim.Native.Nat.{ℕ, suc, _+_, _-_, _≤_, _<_, min}
+use Prim.Native.Nat.{_-_, _≤_, _<_, min}
 use lib.ListN.{length, take, getD, length-take}
 use lib.Seq.{getD-take, take-all}
 use Rattle.pager_state.specs.Overlay.{stagedPages}

@@ -61,7 +61,7 @@ last-step-requires c κs =
     let W = world (c10 .args .pager) (now (c10 .args .table)) (now (c10 .args .log)) (now (c10 .args .main)) in
     let fi : fine W ≡ true = sym (c6 .is-fine .ensures) ∙ not-false _ (c5 .if1 .left) in
     let s = fine-parts W fi in
-    s .files .log .area
+    (s .files .log .area, s .files .log .len)
 
 returns-2 : tie.Need-returns-2
 unfolding fine

@@ -1,9 +1,8 @@
--- Document 01's case: "Bool byte 2 is true and is written back as 1." Assumes nothing.
+-- Document 01's cases of bodies that are decoded: a bool byte that is neither 0 nor 1, and an unknown op. Assumes nothing.
 use mathlib.Core.Path.{_≡_, refl}
 use mathlib.Core.Bool.{true}
-use mathlib.Core.List.{List, [], _∷_}
-use Prim.Native.Nat.{ℕ}
-use lib.ListN.{getD}
+use mathlib.Core.List.{[], _∷_}
+use lib.ListN.{getD, replicate}
 use lib.IntN.{pos}
 use Rattle.le.specs.Le.{leOf, leBytes}
 use Rattle.text.specs.Utf8.{wellFormed, after}
@@ -11,14 +10,9 @@ use Rattle.mvcc.specs.Answer.{many}
 use Rattle.mvcc.specs.Decode.{numAt, textOf, textAt, signed, boolAt, taggedAt, valueAt, columnAt, presentAt, judgedAt, recordAt, recordsAt, magic, batchOf}
 use Rattle.mvcc.specs.Batch.{present, bool, all, encodeText, encodeValue, encodeColumn, encodeRecord, encodeBatch, encodeBody, padded}
 use Rattle.mvcc.specs.Seen.{seen, seenColumn, seenRow, seenRecord, refusalOf, decodes, records, canonical}
+use Rattle.cases.specs.Cases.{boolTwo, opNine}
 
--- a body of one present record, with an empty table name, the row id 0 and one column with an empty name: a bool whose byte is 2
-abbrev pub boolTwo : List ℕ
-boolTwo =
-    0x4d ∷ 0x56 ∷ 0x43 ∷ 0x43 ∷ 0x30 ∷ 0x30 ∷ 0x30 ∷ 0x31
-    ∷ 0 ∷ 0 ∷ 0 ∷ 0 ∷ 0 ∷ 0 ∷ 0 ∷ 0 ∷ 1 ∷ 0
-    ∷ 1 ∷ 0 ∷ 0 ∷ 0 ∷ 0 ∷ 0 ∷ 0 ∷ 0 ∷ 0 ∷ 0 ∷ 0 ∷ 1 ∷ 0
-    ∷ 0 ∷ 0 ∷ 4 ∷ 2 ∷ []
+-- ---- a bool byte
 
 pub bool-two-decodes : decodes boolTwo ≡ true
 unfolding decodes refusalOf batchOf magic leOf recordsAt many recordAt judgedAt presentAt columnAt valueAt taggedAt boolAt textAt textOf numAt wellFormed after
@@ -33,3 +27,13 @@ bool-two-true = refl
 pub bool-two-one : getD (canonical boolTwo) 34 0 ≡ 1
 unfolding canonical encodeBody padded encodeBatch all encodeRecord encodeColumn encodeValue encodeText leBytes leOf
 bool-two-one = rw bool-two-true
+
+-- ---- an unknown op
+
+pub op-nine-cut : refusalOf (opNine (5 ∷ 0 ∷ 0x61 ∷ [])) ≡ 17
+unfolding refusalOf batchOf magic leOf recordsAt many recordAt textAt textOf numAt
+op-nine-cut = refl
+
+pub op-nine-whole : refusalOf (opNine (replicate 10 0)) ≡ 18
+unfolding refusalOf batchOf magic leOf recordsAt many recordAt judgedAt textAt textOf numAt wellFormed after
+op-nine-whole = refl
