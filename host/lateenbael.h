@@ -289,7 +289,8 @@ lateenbael_answered lateenbael_append_mvcc_batch(lateenbael_store store, uint8_t
                                                  size_t body_len);
 
 /* Begins a commit of what is staged; nothing is stored yet. A commit that brings the log to 100 frames also folds it, and then the
- * salt is the new log's. Refusals 1, 9, 10, 13, 14, 15. */
+ * salt is the new log's. Refusals 1 (also where a made-up table says that a staged page's frame ends behind the log's length), 9, 10, 13,
+ * 14, 15. */
 lateenbael_answered lateenbael_begin_commit(lateenbael_store store, const uint32_t *table, size_t table_entries, const uint8_t *log,
                                             size_t log_size, const uint8_t *main, size_t main_size, const uint8_t *staging,
                                             size_t staging_size, lateenbael_db_header new_header, uint32_t salt);

@@ -47,6 +47,8 @@ static void pages_and_batches(void) {
     CHECK(lateenbael_wal_next_batch(log_area, batch.wal.len, batch.wal, 0).found == 0);
     CHECK(found_at(batch.wal, 4, 0));
     wal = appended(appended(batch.wal, 4, 5), 6, 0);
+    /* The batch that this session sealed is found at once, and is no page. */
+    CHECK(lateenbael_wal_next_batch(log_area, wal.len, wal, 0).offset == 32 + FRAME && found_at(wal, LATEENBAEL_MVCC_FRAME_MARKER, 0));
     lateenbael_wal_answer opened = lateenbael_wal_open(log_area, wal.len);
     CHECK(opened.refusal == LATEENBAEL_OK && opened.wal.len == wal.len && opened.wal.frame_count == 4 && wal.frame_count == 4);
     CHECK(opened.wal.good_end == 32 + 4 * FRAME && wal.good_end == opened.wal.good_end);
