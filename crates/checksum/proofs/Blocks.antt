@@ -92,7 +92,9 @@ sum-block (b ∷ bs) s h fits f =
     let i : sumFrom (rotated s + b) bs ≡ rotatedBy k (rotated s + b) + weight bs = sum-block bs (rotated s + b) (omega arith) (u .0) (omega arith) in
     rw (t, i, v, pow-succ' 2 k, n) (omega arith)
 
--- the same of the numbers that a function has
-pub block-summed : (n s : ℕ) (l : List ℕ) {x t : ℕ} → n ≤ 32 → length l ≡ n → s < 2 ^ 32 → x ≡ rotatedBy n s → t ≡ weight l → x + t < 2 ^ 32
-    → x + t ≡ sumFrom s l
-block-summed n s l h e fits f g lt = rw (f, g, ← e) (sym (sum-block l s (rw e h) fits (rw (e, ← f, ← g) lt)))
+-- the same of the numbers that a function has, added wrapping
+pub block-summed : (n s : ℕ) (l : List ℕ) {x t r : ℕ} → n ≤ 32 → length l ≡ n → s < 2 ^ 32 → x ≡ rotatedBy n s → t ≡ weight l → x + t < 2 ^ 32
+    → r ≡ (x + t) % 2 ^ 32 → r ≡ sumFrom s l
+block-summed n s l {x} {t} h e fits f g lt w =
+    let i : x + t ≡ sumFrom s l = rw (f, g, ← e) (sym (sum-block l s (rw e h) fits (rw (e, ← f, ← g) lt))) in
+    w ∙ mod-eq-of-lt lt ∙ i

@@ -98,7 +98,7 @@ fn sum_8(bytes: &[u8], sum: u32) -> u32
     if carries(rotate_left_8(sum), weight) {
         return sum_serial(bytes, sum);
     }
-    rotate_left_8(sum) + weight
+    std::num::wrapping_add_u32(rotate_left_8(sum), weight)
 }
 
 // The sum carried from `start` over all of a slice: eight bytes at a time, and what is left byte by byte.
@@ -134,7 +134,7 @@ fn sum_run(bytes: &[u8], start: u32) -> Run
         if carries(rotate_left_16(sum), weight) {
             return Run { len: i, sum };
         }
-        sum = rotate_left_16(sum) + weight;
+        sum = std::num::wrapping_add_u32(rotate_left_16(sum), weight);
         i = end;
     }
     Run { len: i, sum }

@@ -22,9 +22,10 @@ use Rattle.text.proofs.Answers.{well-is, ill-is}
 use Rattle.text.specs.declared.Utf8.{Utf8}
 use Rattle.text.specs.declared.Utf8.the-variants.{WellFormed, IllFormed}
 use Rattle.mvcc.specs.Answer.{Answer, taken, refused, then, many, why}
-use Rattle.mvcc.specs.Decode.{fitsIn, numAt, textOf, signed, columnAt, presentAt, recordAt, magic, recordsAt, batchEnd, batchOf}
+use Rattle.mvcc.specs.Decode.{fitsIn, numAt, textOf, textAt, signed, columnAt, presentAt, judgedAt, recordAt, magic, recordsAt, batchEnd, batchOf}
 use Rattle.mvcc.specs.declared.Refusal.{Refusal}
 use Rattle.mvcc.specs.declared.Refusal.the-variants.{Truncated, Text}
+use Rattle.mvcc.specs.declared.TextPlace.{TextPlace}
 use Rattle.mvcc.specs.declared.RowID.{RowID}
 use Rattle.mvcc.specs.declared.VersionPayload.the-variants as payload
 use Rattle.mvcc.specs.declared.MvccLogRecord.{MvccLogRecord}
@@ -166,6 +167,24 @@ module _ (s : List ℕ) (r : RowID) (at : ℕ) {n first : ℕ} (e : numAt 2 s at
 
   pub present-bad : {k : Refusal} → ends (many (columnAt s) n first) ≡ refused k → refused k ≡ presentAt s r at
   present-bad f = rw (past, f)
+
+-- ---- "An op is judged after table and row id are read"
+
+module _ (s : List ℕ) (at : ℕ) {op named : ℕ} (o : numAt 1 s at ≡ taken op named) where
+  -- what refuses the table refuses the record, whatever the op
+  pub table-first : {k : Refusal} → textAt 2 s named ≡ refused k → refused k ≡ recordAt s at
+  unfolding recordAt
+  table-first e = rw (o, e)
+
+  module _ {t : TextPlace} {next : ℕ} (e : textAt 2 s named ≡ taken t next) where
+    -- and so does what refuses the row id
+    pub row-first : {k : Refusal} → numAt 8 s next ≡ refused k → refused k ≡ recordAt s at
+    unfolding recordAt
+    row-first f = rw (o, e, f)
+
+    pub judged-last : {n rest : ℕ} → numAt 8 s next ≡ taken n rest → judgedAt s op (record { table = t; rowid = signed n }) rest ≡ recordAt s at
+    unfolding recordAt
+    judged-last f = rw (o, e, f)
 
 -- ---- the heading of a batch
 

@@ -5,6 +5,7 @@ use Prim.Native.Nat.{ℕ, zero, suc, _+_}
 use lib.Dec.{eqb}
 use lib.ListN.{take, drop}
 use lib.Ieee.{binary64, toBits}
+use Rattle.le.specs.Choice.{pick}
 use Rattle.le.specs.Le.{field}
 use Rattle.mvcc.specs.Answer.{many, items}
 use Rattle.mvcc.specs.Fields.{batchNumber}
@@ -53,6 +54,10 @@ seenRecord s r = seenRow s (r .row) (r .payload)
 -- document 01's number for it; 0 where it decodes
 unfoldable pub refusalOf : List ℕ → ℕ
 refusalOf s = batchNumber (batchOf s)
+
+-- the same where it is one of the heading's, 2 "batch body under 18" or 3 "wrong leading bytes"; otherwise 0
+unfoldable pub headingRefusal : List ℕ → ℕ
+headingRefusal s = pick (eqb (refusalOf s) 2) 2 (pick (eqb (refusalOf s) 3) 3 0)
 
 -- the body decodes
 unfoldable pub decodes : List ℕ → Bool

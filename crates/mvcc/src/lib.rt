@@ -6,7 +6,7 @@ ghost use lib.ListN.{drop, take};
 ghost use Rattle.mvcc.specs.Answer.{why};
 ghost use Rattle.mvcc.specs.Fields.{numAnswer, textAnswer, valueAnswer, columnAnswer, recordAnswer};
 ghost use Rattle.mvcc.specs.Decode.{numAt, textOf, textAt, signed, realOf, integerAt, realAt, boolAt, textValueAt, vectorAt, valueAt, columnAt, presentAt, recordAt, batchOf};
-ghost use Rattle.mvcc.specs.Seen.{refusalOf, decodes};
+ghost use Rattle.mvcc.specs.Seen.{headingRefusal, refusalOf, decodes};
 ghost use Rattle.mvcc.specs.Vector.{bitsAt, elementAt};
 
 // The page number of a frame that holds a batch in place of a page.
@@ -417,6 +417,19 @@ impl MvccCommitBatch {
             end,
         })
     }
+}
+
+// Document 01's number where a body's heading is refused: 2 or 3. It is 0 where the records are read, of which none is looked at here.
+pub fn heading_refusal(body: &[u8]) -> u8
+    ensures { λ r. ⌜ r ≡ headingRefusal (now (body .entry)) ⌝ }
+{
+    if body.len() < 18 {
+        return 2;
+    }
+    if le::read_u64(body, 0) != MVCC_BODY_MAGIC {
+        return 3;
+    }
+    0
 }
 
 // Document 01's number for a body that does not decode; 0 for one that does.

@@ -7,7 +7,6 @@ ghost use Rattle.pager_state.specs.Staging.{slotted, stagePage, stageAfter, cle
 ghost use Rattle.pager_state.specs.Batches.{appendBatch, appendAfter};
 ghost use Rattle.pager_stage.specs.Append.{lowest, answerOf};
 ghost use Rattle.pager_stage.specs.StageIn.{slots, stageIn, stagedIn, stagingIn};
-use mvcc::MVCC_BODY_MAGIC;
 use page::PAGE_SIZE;
 use pager_state::BatchAnswer;
 use pager_state::ClearAnswer;
@@ -162,8 +161,7 @@ pub fn clear_staged(pager: Pager) -> StagedCleared
     }
 }
 
-// The lowest refusal of a batch where the store takes none: 1, 2 and 3 come before the other. Of the body only the length and the
-// leading bytes are looked at.
+// The lowest refusal of a batch where the store takes none: 1, 2 and 3 come before the other.
 fn lowest(log: usize, len: usize, body: &[u8], other: BatchAnswer) -> BatchAnswer
     ensures { λ r. ⌜ r ≡ lowest log len (now (body .entry)) other ⌝ }
 {
@@ -176,13 +174,11 @@ fn lowest(log: usize, len: usize, body: &[u8], other: BatchAnswer) -> BatchAnswe
     if PAGE_SIZE < body.len() {
         return BatchAnswer::Area;
     }
-    if body.len() < 18 {
-        return BatchAnswer::Short;
+    match mvcc::heading_refusal(body) {
+        2 => BatchAnswer::Short,
+        3 => BatchAnswer::Magic,
+        _ => other,
     }
-    if le::read_u64(body, 0) != MVCC_BODY_MAGIC {
-        return BatchAnswer::Magic;
-    }
-    other
 }
 
 // The log's answer as the store's.

@@ -29,7 +29,7 @@ pub enum BatchAppended {
 fn full(body: &[u8]) -> BatchAppended
     ensures { λ r. ⌜ r ≡ headed (refusalOf (now (body .entry))) BatchAppended.LogFull ⌝ }
 {
-    match mvcc::refusal_number(body) {
+    match mvcc::heading_refusal(body) {
         2 => BatchAppended::Short,
         3 => BatchAppended::Magic,
         _ => BatchAppended::LogFull,

@@ -17,19 +17,16 @@ fits c =
     let e : c .rotate-left-82 .result ≡ a .rotate-left-8 .result = c .rotate-left-82 .ensures ∙ sym (a .rotate-left-8 .ensures) in
     rw e (leb-false _ _ (sym (c .before .before .carries .ensures) ∙ c .before .if1 .left))
 
-add-result : tie.Need-add-result
-add-result c = omega (arith, fits c)
-
 returns-2 : tie.Need-returns-2
 returns-2 c =
-    let d = c .before .before .before .before in
+    let d = c .before .before .before .before .before in
     let e = d .before .before in
     let a = e .before .args in
     let b : Bytes (now (a .bytes)) = λ i. omega (arith, e .shared-slice-known .given i) in
-    block-summed 8 (a .sum) (now (a .bytes)) (omega arith) (omega arith) (omega arith) (c .rotate-left-82 .ensures)
-    (weight-word (now (a .bytes)) b (omega arith) (d .before .read-u64 .ensures) (d .weight-8 .ensures .0)) (fits c)
+    block-summed 8 (a .sum) (now (a .bytes)) (omega arith) (omega arith) (omega arith) (c .before .rotate-left-82 .ensures)
+    (weight-word (now (a .bytes)) b (omega arith) (d .before .read-u64 .ensures) (d .weight-8 .ensures .0)) (fits (c .before)) (c .wrapping-add-u32 .ensures)
 
 pub sum-8-spec : {M : Type 1} → statement M
 sum-8-spec =
     tie.close
-    (tie.spec (search needs) (search needs) (search needs) (search needs) (search needs) (search needs) (search needs) add-result returns-2)
+    (tie.spec (search needs) (search needs) (search needs) (search needs) (search needs) (search needs) (search needs) (search needs) returns-2)

@@ -31,12 +31,9 @@ fits c =
     let e : c .rotate-left-162 .result ≡ a .rotate-left-16 .result = c .rotate-left-162 .ensures ∙ sym (a .rotate-left-16 .ensures) in
     rw e (leb-false _ _ (sym (c .before .before .carries .ensures) ∙ c .before .if1 .left))
 
-add-sum : tie.Need-add-sum Inv-loop μ-loop
-add-sum c = omega (arith, fits c)
-
 loop-again : tie.Need-loop-again Inv-loop μ-loop
 loop-again c =
-    let d = c .before .before .before .before in
+    let d = c .before .before .before .before .before in
     let at = d .before .before .before .loop in
     let a = d .before .before .before .before .before .args in
     let n : at .i + 16 - at .i ≡ 16 = omega arith in
@@ -44,7 +41,7 @@ loop-again c =
     let s : at .sum < 2 ^ 32 = rw (at .inv .1) (sumFrom-fits (a .start) (take (at .i) (now (a .bytes))) (omega arith)) in (
       omega arith,
       sumFrom-part (a .start) 16 (at .i) (now (a .bytes)) n (at .inv .1)
-          (block-summed 16 (at .sum) (take (at .i + 16 - at .i) (drop (at .i) (now (a .bytes)))) (omega arith) h s (c .rotate-left-162 .ensures) (d .weight-16 .ensures) (fits c)),
+          (block-summed 16 (at .sum) (take (at .i + 16 - at .i) (drop (at .i) (now (a .bytes)))) (omega arith) h s (c .before .rotate-left-162 .ensures) (d .weight-16 .ensures) (fits (c .before)) (c .wrapping-add-u32 .ensures)),
     )
 
 returns : tie.Need-returns Inv-loop μ-loop
@@ -60,4 +57,4 @@ returns-2 c =
 pub sum-run-spec : {M : Type 1} → statement M
 sum-run-spec =
     tie.close
-    (tie.spec Inv-loop μ-loop loop-holds (search needs) (search needs) (search needs) (search needs) (search needs) weight-16-requires (search needs) (search needs) returns (search needs) add-sum (search needs) loop-again returns-2)
+    (tie.spec Inv-loop μ-loop loop-holds (search needs) (search needs) (search needs) (search needs) (search needs) weight-16-requires (search needs) (search needs) returns (search needs) (search needs) (search needs) loop-again returns-2)

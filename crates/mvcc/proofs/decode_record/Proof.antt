@@ -1,4 +1,4 @@
-use Rattle.mvcc.proofs.Laws.{told, passed}
+use Rattle.mvcc.proofs.Laws.{told, passed, table-first, row-first, judged-last}
 use mathlib.Core.Path.{_≡_, refl}
 use borrow.Author.Tests.{ne-eqb}
 use mir.ValLaws.{toZ-ofZ}
@@ -16,39 +16,28 @@ judged : (c : tie.After-known-told3)
     judgedAt (a .body .now) (c .before .before .before .before .before .before .before .before .before .op .given .0 .0)
     (record { table = c .before .before .before .before .before .t .given .0 .0; rowid = signed (n .0) }) (n .1 .0)
     ≡ recordAt (a .body .now) (a .at)
-unfolding recordAt
 judged c =
     let t = c .before .before .before .before in
     let o = t .before .before .before .before in
-    rw (
-      told numAnswer (o .before .before .before .take-u8 .ensures) (o .before .op .given .1),
-      told textAnswer (t .before .before .before .read-str .ensures) (t .before .t .given .1),
-      told numAnswer (c .before .before .before .take-u64 .ensures) (c .before .n .given .1),
-    )
+    judged-last _ _ (told numAnswer (o .before .before .before .take-u8 .ensures) (o .before .op .given .1))
+    (told textAnswer (t .before .before .before .read-str .ensures) (t .before .t .given .1)) (told numAnswer (c .before .before .before .take-u64 .ensures) (c .before .n .given .1))
 
 returns : tie.Need-returns
 unfolding recordAt
 returns c = rw (told numAnswer (c .before .before .take-u8 .ensures) (c .enum-told .given .1))
 
 returns-2 : tie.Need-returns-2
-unfolding recordAt
 returns-2 c =
     let o = c .before .before .before .before in
-    rw (
-      told numAnswer (o .before .before .before .take-u8 .ensures) (o .before .op .given .1),
-      passed textAnswer (c .before .before .before .read-str .ensures) (c .before .enum-told2 .given .1) (c .why-text .ensures) refl,
-    )
+    table-first _ _ (told numAnswer (o .before .before .before .take-u8 .ensures) (o .before .op .given .1))
+    (passed textAnswer (c .before .before .before .read-str .ensures) (c .before .enum-told2 .given .1) (c .why-text .ensures) refl)
 
 returns-3 : tie.Need-returns-3
-unfolding recordAt
 returns-3 c =
     let t = c .before .before .before in
     let o = t .before .before .before .before in
-    rw (
-      told numAnswer (o .before .before .before .take-u8 .ensures) (o .before .op .given .1),
-      told textAnswer (t .before .before .before .read-str .ensures) (t .before .t .given .1),
-      told numAnswer (c .before .before .take-u64 .ensures) (c .enum-told3 .given .1),
-    )
+    row-first _ _ (told numAnswer (o .before .before .before .take-u8 .ensures) (o .before .op .given .1))
+    (told textAnswer (t .before .before .before .read-str .ensures) (t .before .t .given .1)) (told numAnswer (c .before .before .take-u64 .ensures) (c .enum-told3 .given .1))
 
 returns-4 : tie.Need-returns-4
 unfolding judgedAt
