@@ -1,129 +1,150 @@
 use native.Mathlib.Omega.{arith}
 use mathlib.Core.Path.{_≡_, refl, sym, _∙_}
 use mathlib.Core.Bool.{true, false}
+use mathlib.Core.List.{List}
 use denote.Ref.{now}
 use borrow.Author.Tests.{not-true, not-false}
-use Prim.Native.Nat.{_-_}
-use Rattle.pager_state.specs.World.{world, fine}
-use Rattle.pager_state.specs.Steps.{stepFine}
+use Prim.Native.Nat.{ℕ, _-_, _≤_}
+use Rattle.header.specs.declared.DbHeader.{DbHeader}
+use Rattle.pager_state.specs.World.{World, world, fine, busy, readOnly}
+use Rattle.pager_state.specs.Overlay.{stagedPages}
+use Rattle.pager_state.specs.Steps.{stepFine, allBefore, commitFine, headerGood}
 use Rattle.pager_state.proofs.Made.{ready-fine}
 use Rattle.pager_commit.proofs.Starting.{not-begun, start-area, start-table, both-fine, start-busy, start-read-only, start-header, count-most, start-joining, start-full, start-begun}
 use borrow.Author.Needs.{needs}
 use Rattle.pager_commit.proofs.judge.Statement.{statement}
 use Rattle.pager_commit.proofs.judge.Tie as tie
 
+-- ---- what is judged
+
+abbrev W : tie.Start → World
+W s = world (s .args .pager) (now (s .args .table)) (now (s .args .log)) (now (s .args .main))
+
+abbrev g : tie.Start → List ℕ
+g s = now (s .args .staging)
+
+abbrev h : tie.Start → DbHeader
+h s = s .args .new-header
+
+-- ---- what each test that was passed tells
+
+abbrev s₁ : tie.Else1 → tie.Start
+s₁ c = c .before .before .before .before .before .before
+
+abbrev s₂ : tie.Else2 → tie.Start
+s₂ c = s₁ (c .before .before .before .before)
+
+abbrev s₃ : tie.Else3 → tie.Start
+s₃ c = s₂ (c .before .before)
+
+abbrev s₄ : tie.Else4 → tie.Start
+s₄ c = s₃ (c .before .before)
+
+abbrev s₅ : tie.Else5 → tie.Start
+s₅ c = s₄ (c .before .before)
+
+lengths : (c : tie.Else1) → stepFine (g (s₁ c)) (W (s₁ c)) ≡ true
+unfolding fine
+lengths c = sym (c .before .are-fine .ensures) ∙ not-false _ (c .if1 .left)
+
+before : (c : tie.Else2) → allBefore (W (s₂ c) .table) (W (s₂ c) .pager .wal .len) (stagedPages (W (s₂ c) .pager .staged)) ≡ true
+before c = sym (c .before .all-stand-before .ensures) ∙ not-false _ (c .if2 .left)
+
+areas : (c : tie.Else2) → commitFine (g (s₂ c)) (W (s₂ c)) ≡ true
+areas c = both-fine (g (s₂ c)) (W (s₂ c)) (h (s₂ c)) (lengths (c .before .before .before .before)) (before c)
+
+rests : (c : tie.Else3) → busy (W (s₃ c) .pager) ≡ false
+rests c = sym (c .before .is-busy .ensures) ∙ c .if3 .left
+
+writes : (c : tie.Else4) → readOnly (W (s₄ c) .pager) ≡ false
+writes c = sym (c .before .is-read-only .ensures) ∙ c .if4 .left
+
+good : (c : tie.Else5) → headerGood (h (s₅ c)) ≡ true
+good c = sym (c .before .is-header-good .ensures) ∙ not-false _ (c .if5 .left)
+
+-- ---- the refusals, in their order
+
 returns : tie.Need-returns
 unfolding fine
 returns c =
-    let a = c .before .before .before .before .before .before .before .args in
-    let W = world (a .pager) (now (a .table)) (now (a .log)) (now (a .main)) in
-    let g = now (a .staging) in
-    not-begun g W (a .new-header) refl (start-area g W (a .new-header) (sym (c .before .before .are-fine .ensures) ∙ not-true _ (c .before .if1 .taken))) (c .refused .ensures)
+    let s = c .before .before .before .before .before .before .before in
+    not-begun (g s) (W s) (h s) refl (start-area (g s) (W s) (h s) (sym (c .before .before .are-fine .ensures) ∙ not-true _ (c .before .if1 .taken))) (c .refused .ensures)
 
 returns-2 : tie.Need-returns-2
-unfolding fine
 returns-2 c =
-    let a = c .before .before .before .before .before .before .before .before .before .before .before .args in
-    let W = world (a .pager) (now (a .table)) (now (a .log)) (now (a .main)) in
-    let g = now (a .staging) in
-    let y : stepFine g W ≡ true = sym (c .before .before .before .before .before .before .are-fine .ensures) ∙ not-false _ (c .before .before .before .before .before .if1 .left) in
-    not-begun g W (a .new-header) refl (start-table g W (a .new-header) y (sym (c .before .before .all-stand-before .ensures) ∙ not-true _ (c .before .if2 .taken))) (c .refused2 .ensures)
+    let p = c .before .before .before .before .before in
+    let s = s₁ p in
+    not-begun (g s) (W s) (h s) refl (start-table (g s) (W s) (h s) (lengths p) (sym (c .before .before .all-stand-before .ensures) ∙ not-true _ (c .before .if2 .taken))) (c .refused2 .ensures)
 
 returns-3 : tie.Need-returns-3
-unfolding fine
 returns-3 c =
-    let a = c .before .before .before .before .before .before .before .before .before .before .before .before .before .args in
-    let W = world (a .pager) (now (a .table)) (now (a .log)) (now (a .main)) in
-    let g = now (a .staging) in
-    let y : stepFine g W ≡ true = sym (c .before .before .before .before .before .before .before .before .are-fine .ensures) ∙ not-false _ (c .before .before .before .before .before .before .before .if1 .left) in
-    let f = both-fine g W (a .new-header) y (sym (c .before .before .before .before .all-stand-before .ensures) ∙ not-false _ (c .before .before .before .if2 .left)) in
-    not-begun g W (a .new-header) refl (start-busy g W (a .new-header) f (sym (c .before .before .is-busy .ensures) ∙ c .before .if3 .taken)) (c .refused3 .ensures)
+    let p = c .before .before .before in
+    let s = s₂ p in
+    not-begun (g s) (W s) (h s) refl (start-busy (g s) (W s) (h s) (areas p) (sym (c .before .before .is-busy .ensures) ∙ c .before .if3 .taken)) (c .refused3 .ensures)
 
 returns-4 : tie.Need-returns-4
-unfolding fine
 returns-4 c =
-    let a = c .before .before .before .before .before .before .before .before .before .before .before .before .before .before .before .args in
-    let W = world (a .pager) (now (a .table)) (now (a .log)) (now (a .main)) in
-    let g = now (a .staging) in
-    let y : stepFine g W ≡ true = sym (c .before .before .before .before .before .before .before .before .before .before .are-fine .ensures) ∙ not-false _ (c .before .before .before .before .before .before .before .before .before .if1 .left) in
-    let f = both-fine g W (a .new-header) y (sym (c .before .before .before .before .before .before .all-stand-before .ensures) ∙ not-false _ (c .before .before .before .before .before .if2 .left)) in
-    let b = sym (c .before .before .before .before .is-busy .ensures) ∙ c .before .before .before .if3 .left in
-    not-begun g W (a .new-header) refl (start-read-only g W (a .new-header) f b (sym (c .before .before .is-read-only .ensures) ∙ c .before .if4 .taken)) (c .refused4 .ensures)
+    let p = c .before .before .before in
+    let s = s₃ p in
+    not-begun (g s) (W s) (h s) refl (start-read-only (g s) (W s) (h s) (areas (p .before .before)) (rests p) (sym (c .before .before .is-read-only .ensures) ∙ c .before .if4 .taken)) (c .refused4 .ensures)
 
 returns-5 : tie.Need-returns-5
-unfolding fine
 returns-5 c =
-    let a = c .before .before .before .before .before .before .before .before .before .before .before .before .before .before .before .before .before .args in
-    let W = world (a .pager) (now (a .table)) (now (a .log)) (now (a .main)) in
-    let g = now (a .staging) in
-    let y : stepFine g W ≡ true = sym (c .before .before .before .before .before .before .before .before .before .before .before .before .are-fine .ensures) ∙ not-false _ (c .before .before .before .before .before .before .before .before .before .before .before .if1 .left) in
-    let f = both-fine g W (a .new-header) y (sym (c .before .before .before .before .before .before .before .before .all-stand-before .ensures) ∙ not-false _ (c .before .before .before .before .before .before .before .if2 .left)) in
-    let b = sym (c .before .before .before .before .before .before .is-busy .ensures) ∙ c .before .before .before .before .before .if3 .left in
-    let r = sym (c .before .before .before .before .is-read-only .ensures) ∙ c .before .before .before .if4 .left in
-    not-begun g W (a .new-header) refl (start-header g W (a .new-header) f b r (sym (c .before .before .is-header-good .ensures) ∙ not-true _ (c .before .if5 .taken))) (c .refused5 .ensures)
+    let p = c .before .before .before in
+    let q = p .before .before in
+    let s = s₄ p in
+    not-begun (g s) (W s) (h s) refl (start-header (g s) (W s) (h s) (areas (q .before .before)) (rests q) (writes p) (sym (c .before .before .is-header-good .ensures) ∙ not-true _ (c .before .if5 .taken))) (c .refused5 .ensures)
 
 first-lacking-requires : tie.Need-first-lacking-requires
-first-lacking-requires c κs =
-    let a = c .before .before .before .before .before .before .before .before .before .before .before .before .before .before .before .before .before .args in
-    count-most (a .new-header) (sym (c .before .before .is-header-good .ensures) ∙ not-false _ (c .before .if5 .left))
+first-lacking-requires c κs = count-most (h (s₅ (c .before))) (good (c .before))
 
 returns-6 : tie.Need-returns-6
-unfolding fine
 returns-6 c =
-    let a = c .before .before .before .before .before .before .before .before .before .before .before .before .before .before .before .before .before .before .before .before .args in
-    let W = world (a .pager) (now (a .table)) (now (a .log)) (now (a .main)) in
-    let g = now (a .staging) in
-    let y : stepFine g W ≡ true = sym (c .before .before .before .before .before .before .before .before .before .before .before .before .before .before .before .are-fine .ensures) ∙ not-false _ (c .before .before .before .before .before .before .before .before .before .before .before .before .before .before .if1 .left) in
-    let f = both-fine g W (a .new-header) y (sym (c .before .before .before .before .before .before .before .before .before .before .before .all-stand-before .ensures) ∙ not-false _ (c .before .before .before .before .before .before .before .before .before .before .if2 .left)) in
-    let b = sym (c .before .before .before .before .before .before .before .before .before .is-busy .ensures) ∙ c .before .before .before .before .before .before .before .before .if3 .left in
-    let r = sym (c .before .before .before .before .before .before .before .is-read-only .ensures) ∙ c .before .before .before .before .before .before .if4 .left in
-    let d = sym (c .before .before .before .before .before .is-header-good .ensures) ∙ not-false _ (c .before .before .before .before .if5 .left) in
-    not-begun g W (a .new-header) refl (start-joining g W (a .new-header) f b r d (c .before .before .first-lacking .ensures) (c .before .if6 .taken)) (c .refused6 .ensures)
+    let p = c .before .before .before .before in
+    let q = p .before .before in
+    let r = q .before .before in
+    let s = s₅ p in
+    not-begun (g s) (W s) (h s) refl (start-joining (g s) (W s) (h s) (areas (r .before .before)) (rests r) (writes q) (good p) (c .before .before .first-lacking .ensures) (c .before .if6 .taken)) (c .refused6 .ensures)
+
+-- ---- room
+
+few : (c : tie.After-mark-differing) → c .mark-differing .result .count ≤ 64
+few c = c .mark-differing .ensures .1 .0 .0
 
 add-if7 : tie.Need-add-if7
-add-if7 c = omega (arith, c .before .mark-differing .ensures .1 .0 .0)
+add-if7 c = omega (arith, few (c .before))
 
 mul-if7 : tie.Need-mul-if7
-mul-if7 c = omega (arith, c .before .mark-differing .ensures .1 .0 .0)
+mul-if7 c = omega (arith, few (c .before))
 
 add-if7-2 : tie.Need-add-if7-2
-unfolding fine
 add-if7-2 c =
-    let a = c .before .before .before .before .before .before .before .before .before .before .before .before .before .before .before .before .before .before .before .before .before .before .args in
-    let W = world (a .pager) (now (a .table)) (now (a .log)) (now (a .main)) in
-    let g = now (a .staging) in
-    let y : stepFine g W ≡ true = sym (c .before .before .before .before .before .before .before .before .before .before .before .before .before .before .before .before .before .are-fine .ensures) ∙ not-false _ (c .before .before .before .before .before .before .before .before .before .before .before .before .before .before .before .before .if1 .left) in
-    let s = ready-fine g W y in
-    omega (arith, c .before .before .mark-differing .ensures .1 .0 .0, s .0 .files .log .len)
+    let p = c .before .before .before .before .before .before in
+    let l = p .before .before .before .before .before .before .before .before .before .before in
+    omega (arith, few (c .before .before), ready-fine (g (s₅ p)) (W (s₅ p)) (lengths l) .0 .files .log .len)
 
 returns-7 : tie.Need-returns-7
-unfolding fine
 returns-7 c =
-    let a = c .before .before .before .before .before .before .before .before .before .before .before .before .before .before .before .before .before .before .before .before .before .before .before .before .args in
-    let W = world (a .pager) (now (a .table)) (now (a .log)) (now (a .main)) in
-    let g = now (a .staging) in
-    let y : stepFine g W ≡ true = sym (c .before .before .before .before .before .before .before .before .before .before .before .before .before .before .before .before .before .before .before .are-fine .ensures) ∙ not-false _ (c .before .before .before .before .before .before .before .before .before .before .before .before .before .before .before .before .before .before .if1 .left) in
-    let f = both-fine g W (a .new-header) y (sym (c .before .before .before .before .before .before .before .before .before .before .before .before .before .before .before .all-stand-before .ensures) ∙ not-false _ (c .before .before .before .before .before .before .before .before .before .before .before .before .before .before .if2 .left)) in
-    let b = sym (c .before .before .before .before .before .before .before .before .before .before .before .before .before .is-busy .ensures) ∙ c .before .before .before .before .before .before .before .before .before .before .before .before .if3 .left in
-    let r = sym (c .before .before .before .before .before .before .before .before .before .before .before .is-read-only .ensures) ∙ c .before .before .before .before .before .before .before .before .before .before .if4 .left in
-    let d = sym (c .before .before .before .before .before .before .before .before .before .is-header-good .ensures) ∙ not-false _ (c .before .before .before .before .before .before .before .before .if5 .left) in
-    let m = c .before .before .before .before .mark-differing .ensures in
-    not-begun g W (a .new-header) refl (start-full g W (a .new-header) f b r d (c .before .before .before .before .before .before .first-lacking .ensures) (c .before .before .before .before .before .if6 .left) (m .0) (c .before .if7 .taken)) (c .refused7 .ensures)
+    let m = c .before .before .before .before in
+    let o = m .before in
+    let p = o .before .before .before in
+    let q = p .before .before in
+    let r = q .before .before in
+    let s = s₅ p in
+    not-begun (g s) (W s) (h s) refl
+    (start-full (g s) (W s) (h s) (areas (r .before .before)) (rests r) (writes q) (good p) (o .before .first-lacking .ensures) (o .if6 .left) (m .mark-differing .ensures .0) (c .before .if7 .taken)) (c .refused7 .ensures)
 
 returns-8 : tie.Need-returns-8
-unfolding fine
 returns-8 c =
-    let a = c .before .before .before .before .before .before .before .before .before .before .before .before .before .before .before .before .before .before .before .before .before .before .before .before .args in
-    let W = world (a .pager) (now (a .table)) (now (a .log)) (now (a .main)) in
-    let g = now (a .staging) in
-    let y : stepFine g W ≡ true = sym (c .before .before .before .before .before .before .before .before .before .before .before .before .before .before .before .before .before .before .before .are-fine .ensures) ∙ not-false _ (c .before .before .before .before .before .before .before .before .before .before .before .before .before .before .before .before .before .before .if1 .left) in
-    let f = both-fine g W (a .new-header) y (sym (c .before .before .before .before .before .before .before .before .before .before .before .before .before .before .before .all-stand-before .ensures) ∙ not-false _ (c .before .before .before .before .before .before .before .before .before .before .before .before .before .before .if2 .left)) in
-    let b = sym (c .before .before .before .before .before .before .before .before .before .before .before .before .before .is-busy .ensures) ∙ c .before .before .before .before .before .before .before .before .before .before .before .before .if3 .left in
-    let r = sym (c .before .before .before .before .before .before .before .before .before .before .before .is-read-only .ensures) ∙ c .before .before .before .before .before .before .before .before .before .before .if4 .left in
-    let d = sym (c .before .before .before .before .before .before .before .before .before .is-header-good .ensures) ∙ not-false _ (c .before .before .before .before .before .before .before .before .if5 .left) in
-    let m = c .before .before .before .before .mark-differing .ensures in
-    let j = start-begun g W (a .new-header) f b r d (c .before .before .before .before .before .before .first-lacking .ensures) (c .before .before .before .before .before .if6 .left) (m .0) (c .before .if7 .left) in
-    (j .0, (j .1, λ z. (m .1 .0 .1, m .1 .1 (a .pager .wal .len) (sym (c .before .before .before .before .before .before .before .before .before .before .before .before .before .before .before .all-stand-before .ensures) ∙ not-false _ (c .before .before .before .before .before .before .before .before .before .before .before .before .before .before .if2 .left)))))
+    let m = c .before .before .before .before in
+    let o = m .before in
+    let p = o .before .before .before in
+    let q = p .before .before in
+    let r = q .before .before in
+    let s = s₅ p in
+    let e = m .mark-differing .ensures in
+    let j = start-begun (g s) (W s) (h s) (areas (r .before .before)) (rests r) (writes q) (good p) (o .before .first-lacking .ensures) (o .if6 .left) (e .0) (c .before .if7 .left) in
+    (j .0, (j .1, λ z. (e .1 .0 .1, e .1 .1 (s .args .pager .wal .len) (before (r .before .before)))))
 
 pub judge-spec : {M : Type 1} → statement M
 judge-spec =
