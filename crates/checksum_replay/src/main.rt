@@ -1,6 +1,7 @@
 // Replays the list of frames: stores each in a log, and answers its checksum as the Rust does
 // (compare/README.md).
 // A case: page, commit count and salt (4 bytes each), the body's kind (1) and its seed (4).
+use input::Input;
 use le::Stored;
 use page::PAGE_SIZE;
 
@@ -11,8 +12,15 @@ const LOG_SIZE: usize = 4200;
 
 fn main() {
     let mut space = [0u8; replay::LIST_SIZE];
-    let n = io::read_full(0, &mut space);
-    answer_all(le::part(&space, 0, n));
+    match input::read_full(0, &mut space) {
+        Input::Bytes(n) => answer_all(le::part(&space, 0, n)),
+        Input::Failed => not_read(),
+    }
+}
+
+// Says that the list could not be read.
+fn not_read() {
+    io::write_all(2, b"checksum_replay: reading standard input failed\n");
 }
 
 // Answers every case of the list.
@@ -66,6 +74,7 @@ fn check(log: &[u8], page_num: u32, count: u32, salt: u32) {
         return;
     }
     let mut line = [0u8; 16];
-    let end = replay::add_hex(&mut line, 0, h.checksum as u64, 8);
-    replay::print_line(&mut line, end);
+    let at = replay::add_hex(&mut line, 0, h.checksum as u64, 8);
+    let end = replay::end_line(&mut line, at);
+    io::write_all(1, le::part(&line, 0, end));
 }

@@ -3,11 +3,19 @@
 use header::DbHeader;
 use header::HeaderDecoded;
 use header::HeaderEncoded;
+use input::Input;
 
 fn main() {
     let mut space = [0u8; replay::LIST_SIZE];
-    let n = io::read_full(0, &mut space);
-    answer_all(le::part(&space, 0, n));
+    match input::read_full(0, &mut space) {
+        Input::Bytes(n) => answer_all(le::part(&space, 0, n)),
+        Input::Failed => not_read(),
+    }
+}
+
+// Says that the list could not be read.
+fn not_read() {
+    io::write_all(2, b"header_replay: reading standard input failed\n");
 }
 
 // Answers every case of the list.
@@ -50,7 +58,7 @@ fn refused(number: u64) {
     let mut line = [0u8; 32];
     let at = replay::add_text(&mut line, 0, b"refused ");
     let end = replay::add_decimal(&mut line, at, number);
-    replay::print_line(&mut line, end);
+    print_line(&mut line, end);
 }
 
 // Encodes what was decoded, and answers both.
@@ -70,17 +78,38 @@ fn print_header(h: DbHeader, page: &[u8]) {
     at = add_number(&mut line, at, h.schema_root_page as u64);
     at = add_number(&mut line, at, h.format_version as u64);
     at = add_number(&mut line, at, h.freelist_head as u64);
-    at = replay::add_hex_bytes(&mut line, at, le::part(page, 0, 32));
+    at = add_hex_bytes(&mut line, at, le::part(page, 0, 32));
     at = replay::add_text(&mut line, at, b" ");
     let nonzero = count_nonzero(le::part(page, 32, page.len()));
     at = replay::add_decimal(&mut line, at, nonzero as u64);
-    replay::print_line(&mut line, at);
+    print_line(&mut line, at);
 }
 
 // Adds a number and a space.
 fn add_number(line: &mut [u8], at: usize, n: u64) -> usize {
     let end = replay::add_decimal(line, at, n);
     replay::add_text(line, end, b" ")
+}
+
+fn wide(b: u8) -> u64 {
+    b as u64
+}
+
+// Adds bytes, each in two hexadecimal digits.
+fn add_hex_bytes(line: &mut [u8], at: usize, bytes: &[u8]) -> usize {
+    let mut end = at;
+    let mut i = 0;
+    while i < bytes.len() {
+        end = replay::add_hex(line, end, wide(bytes[i]), 2);
+        i += 1;
+    }
+    end
+}
+
+// Writes the line that ends at `at`, with its end.
+fn print_line(line: &mut [u8], at: usize) {
+    let end = replay::end_line(line, at);
+    io::write_all(1, le::part(line, 0, end));
 }
 
 // How many bytes are not zero.

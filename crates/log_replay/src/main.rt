@@ -2,6 +2,7 @@
 // (compare/README.md).
 // A case is a row of items: kind (1 byte), a length (2), so many bytes.
 use frame::FRAME_SIZE;
+use input::Input;
 use log_listing::LISTING_SIZE;
 use log_listing::Listed;
 use page::PAGE_SIZE;
@@ -11,8 +12,15 @@ const LIST_SIZE: usize = 524_288;
 
 fn main() {
     let mut space = [0u8; LIST_SIZE];
-    let n = io::read_full(0, &mut space);
-    answer_all(le::part(&space, 0, n));
+    match input::read_full(0, &mut space) {
+        Input::Bytes(n) => answer_all(le::part(&space, 0, n)),
+        Input::Failed => not_read(),
+    }
+}
+
+// Says that the list could not be read.
+fn not_read() {
+    io::write_all(2, b"log_replay: reading standard input failed\n");
 }
 
 // Answers every case of the list.

@@ -1,15 +1,16 @@
--- Laws of the bytes that a line stands for, and of filling. Assumes nothing.
+-- Laws of the bytes that a line stands for, of filling, and of drawing. Assumes nothing.
 use mathlib.Core.Path.{_≡_, refl, sym, ap, _∙_}
 use mathlib.Core.List.{List, [], _∷_, _++_}
-use Prim.Native.Nat.{ℕ, zero, suc, _+_, _-_, _*_, _/_, _≤_, _<_}
+use Prim.Native.Nat.{ℕ, zero, suc, _+_, _-_, _*_, _/_, _^_, _≤_, _<_}
 use native.Mathlib.Nat.{zero-add}
 use native.Mathlib.Numerals.{add-one}
 use native.Mathlib.Omega.{arith}
-use lib.ListN.{length, take, drop, take-append-drop, getD, set, length-take, replicate, length-replicate, replicate-append-replicate}
+use lib.ListN.{length, take, drop, take-append-drop, getD, set, length-take, length-append, replicate, length-replicate, replicate-append-replicate}
 use lib.Seq.{take-suc, take-append-seam}
 use Rattle.le.specs.Le.{put}
 use Rattle.le.proofs.Stores.{put-more, put-all}
 use Rattle.replay.specs.Cases.{digitOf, bytesOf, Laid}
+use Rattle.replay.specs.Drawn.{nextNumber, numberAfter, shapeOf, drawn}
 
 pub length-bytes : (l : List ℕ) → length (bytesOf l) ≡ length l / 2
 unfolding bytesOf
@@ -52,3 +53,23 @@ fill-more l i b h =
 
 pub fill-all : (l : List ℕ) (n b : ℕ) → n ≡ length l → put l 0 (replicate n b) ≡ replicate (length l) b
 fill-all l n b e = put-all l (replicate n b) (length-replicate {A = ℕ} n b ∙ e) ∙ ap (λ (k : ℕ). replicate k b) e
+
+length-drawn : (kind seed n : ℕ) → length (drawn kind seed n) ≡ n
+unfolding drawn
+length-drawn kind seed zero = refl
+length-drawn kind seed (suc n) = simp length-append (omega (arith, length-drawn kind seed n))
+
+pub draw-next : (seed i : ℕ) {x y : ℕ} → x ≡ numberAfter seed i → y ≡ nextNumber x → y ≡ numberAfter seed (i + 1)
+unfolding numberAfter
+draw-next seed i e f = rw (add-one, ← e) f
+
+pub draw-more : (l : List ℕ) (kind seed i : ℕ) {x b : ℕ} → i < length l → x ≡ numberAfter seed (i + 1) → b ≡ shapeOf kind (x / 2 ^ 24)
+    → set (put l 0 (drawn kind seed i)) i b ≡ put l 0 (drawn kind seed (i + 1))
+unfolding drawn
+draw-more l kind seed i {x} {b} h e f =
+    let j : 0 + i < length l = omega arith in
+    let g : x ≡ numberAfter seed (suc i) = rw add-one at e in
+    rw (add-one, ← g, ← f) (rw zero-add at (put-more i l 0 (drawn kind seed i) b (length-drawn kind seed i) j))
+
+pub draw-all : (l : List ℕ) (kind seed n : ℕ) → n ≡ length l → put l 0 (drawn kind seed n) ≡ drawn kind seed (length l)
+draw-all l kind seed n e = put-all l (drawn kind seed n) (length-drawn kind seed n ∙ e) ∙ ap (λ (k : ℕ). drawn kind seed k) e

@@ -41,7 +41,3 @@ pub record Next (l : List ℕ) (at next : ℕ) : Type 0 where
   pub within : next ≤ length l
   pub ahead : at < length l → at < next
   pub rest : drop next l ≡ restOf (drop at l)
-
--- where a text of n bytes that is added to a line at `at` ends; one that finds no room is left out
-abbrev pub endOf : List ℕ → ℕ → ℕ → ℕ
-endOf l at n = pick (leb (at + n) (length l)) (at + n) at

@@ -1,2 +1,4 @@
 -- The root of the definitions of `replay`.
 pub mod Cases
+pub mod Line
+pub mod Drawn

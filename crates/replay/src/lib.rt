@@ -2,10 +2,13 @@
 // A list has one case a line, its bytes in hexadecimal digits; an answer is a line of text.
 // Every public function is total: a case or a text that finds no room is cut or left out.
 ghost use mathlib.Core.Path.{_≡_};
-ghost use Prim.Native.Nat.{_+_, _<_, min};
+ghost use mathlib.Core.List.{[], _∷_};
+ghost use Prim.Native.Nat.{_+_, _<_, min, max};
 ghost use lib.ListN.{length, drop, replicate};
 ghost use Rattle.le.specs.Le.{store};
-ghost use Rattle.replay.specs.Cases.{lineOf, digitOf, bytesOf, caseAt, Laid, Next, endOf};
+ghost use Rattle.replay.specs.Cases.{lineOf, digitOf, bytesOf, caseAt, Laid, Next};
+ghost use Rattle.replay.specs.Line.{endOf, Spelt};
+ghost use Rattle.replay.specs.Drawn.{nextNumber, shapeOf, drawn, bodyOf};
 
 // Room for the longest list of cases.
 pub const LIST_SIZE: usize = 131072;
@@ -99,7 +102,9 @@ pub fn fill(out: &mut [u8], b: u8)
 }
 
 // Makes the body of a kind and a seed out of a page's zeros (compare/README.md, checksum_replay).
-pub fn draw_body(body: &mut [u8], kind: u8, seed: u32) {
+pub fn draw_body(body: &mut [u8], kind: u8, seed: u32)
+    ensures { λ _. ⌜ now (body .exit) ≡ bodyOf kind seed (now (body .entry)) ⌝ }
+{
     match kind {
         0 => fill(body, (seed % 256) as u8),
         4 => {
@@ -116,7 +121,9 @@ pub fn draw_body(body: &mut [u8], kind: u8, seed: u32) {
 }
 
 // Draws every byte from the numbers behind the seed.
-fn draw(body: &mut [u8], kind: u8, seed: u32) {
+fn draw(body: &mut [u8], kind: u8, seed: u32)
+    ensures { λ _. ⌜ now (body .exit) ≡ drawn kind seed (length (now (body .entry))) ⌝ }
+{
     let mut x = seed;
     let mut i = 0;
     while i < body.len() {
@@ -127,12 +134,16 @@ fn draw(body: &mut [u8], kind: u8, seed: u32) {
 }
 
 // The number behind x.
-fn next(x: u32) -> u32 {
+fn next(x: u32) -> u32
+    ensures { λ r. ⌜ r ≡ nextNumber x ⌝ }
+{
     ((x as u64 * 1664525 + 1013904223) % 4294967296) as u32
 }
 
 // The body's byte for a number's top byte.
-fn shape(kind: u8, top: u8) -> u8 {
+fn shape(kind: u8, top: u8) -> u8
+    ensures { λ r. ⌜ r ≡ shapeOf kind top ⌝ }
+{
     match kind {
         2 => { if top < 16 { top } else { 255 } }
         3 => { if top < 128 { 0 } else { 255 } }
@@ -153,36 +164,26 @@ pub fn add_text(line: &mut [u8], at: usize, text: &[u8]) -> usize
 }
 
 // Adds a number in decimal digits.
-pub fn add_decimal(line: &mut [u8], at: usize, n: u64) -> usize {
+pub fn add_decimal(line: &mut [u8], at: usize, n: u64) -> usize
+    ensures { λ r. ⌜ Spelt 10 1 n (now (line .entry)) at (now (line .exit)) r ⌝ }
+{
     let mut digits = [0u8; 20];
     let k = io::decimal(n, &mut digits);
     add_text(line, at, &digits[..k])
 }
 
 // Adds a number in hexadecimal digits, `width` of them or more.
-pub fn add_hex(line: &mut [u8], at: usize, n: u64, width: usize) -> usize {
+pub fn add_hex(line: &mut [u8], at: usize, n: u64, width: usize) -> usize
+    ensures { λ r. ⌜ Spelt 16 (min (max width 1) 16) n (now (line .entry)) at (now (line .exit)) r ⌝ }
+{
     let mut digits = [0u8; 16];
     let k = io::hex(n, width, &mut digits);
     add_text(line, at, &digits[..k])
 }
 
-fn wide(b: u8) -> u64 {
-    b as u64
-}
-
-// Adds bytes, each in two hexadecimal digits.
-pub fn add_hex_bytes(line: &mut [u8], at: usize, bytes: &[u8]) -> usize {
-    let mut end = at;
-    let mut i = 0;
-    while i < bytes.len() {
-        end = add_hex(line, end, wide(bytes[i]), 2);
-        i += 1;
-    }
-    end
-}
-
-// Writes the line that ends at `at`, and a newline behind it.
-pub fn print_line(line: &mut [u8], at: usize) {
-    let end = add_text(line, at, b"\n");
-    io::write_all(1, le::part(line, 0, end));
+// Adds the line's end.
+pub fn end_line(line: &mut [u8], at: usize) -> usize
+    ensures { λ r. ⌜ (r ≡ endOf (now (line .entry)) at 1) × (now (line .exit) ≡ store (now (line .entry)) at (10 ∷ [])) ⌝ }
+{
+    add_text(line, at, b"\n")
 }

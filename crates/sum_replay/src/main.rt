@@ -1,11 +1,19 @@
 // Replays the list of plain sums: answers the sum carried from a start over a part of a drawn body (compare/README.md).
 // A case: the start (4 bytes), the body's kind (1) and its seed (4), the part's place and its length (2 each).
+use input::Input;
 use page::PAGE_SIZE;
 
 fn main() {
     let mut space = [0u8; replay::LIST_SIZE];
-    let n = io::read_full(0, &mut space);
-    answer_all(le::part(&space, 0, n));
+    match input::read_full(0, &mut space) {
+        Input::Bytes(n) => answer_all(le::part(&space, 0, n)),
+        Input::Failed => not_read(),
+    }
+}
+
+// Says that the list could not be read.
+fn not_read() {
+    io::write_all(2, b"sum_replay: reading standard input failed\n");
 }
 
 // Answers every case of the list.
@@ -50,6 +58,7 @@ fn print_sum(bytes: &[u8], start: u32) {
         return;
     }
     let mut line = [0u8; 16];
-    let end = replay::add_hex(&mut line, 0, sum as u64, 8);
-    replay::print_line(&mut line, end);
+    let at = replay::add_hex(&mut line, 0, sum as u64, 8);
+    let end = replay::end_line(&mut line, at);
+    io::write_all(1, le::part(&line, 0, end));
 }

@@ -1,13 +1,23 @@
 // Answers which bytes are a text as the Rust does (compare/README.md): first for all sequences
 // of one byte and of two, without cases, and then for the list's cases.
 ghost use Prim.Native.Nat.{_+_, _≤_, _<_};
+use input::Input;
 use text::Utf8;
 
 fn main() {
-    answer_short();
     let mut space = [0u8; replay::LIST_SIZE];
-    let n = io::read_full(0, &mut space);
-    answer_all(le::part(&space, 0, n));
+    match input::read_full(0, &mut space) {
+        Input::Bytes(n) => {
+            answer_short();
+            answer_all(le::part(&space, 0, n));
+        }
+        Input::Failed => not_read(),
+    }
+}
+
+// Says that the list could not be read.
+fn not_read() {
+    io::write_all(2, b"utf8_replay: reading standard input failed\n");
 }
 
 // Answers every case of the list.
@@ -49,7 +59,8 @@ fn print_bitmap(front: &[u8]) {
     for k in 0..64 {
         at = replay::add_hex(&mut line, at, digit(front, 4 * k), 1);
     }
-    replay::print_line(&mut line, at);
+    let end = replay::end_line(&mut line, at);
+    io::write_all(1, le::part(&line, 0, end));
 }
 
 // The bits of four last bytes from `b` on, the first one highest.

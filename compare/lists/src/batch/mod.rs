@@ -1,4 +1,4 @@
-//! batch_replay: `MvccCommitBatch::decode` and `encode` of mvcc/log.rs.
+//! batchlist: `MvccCommitBatch::decode` and `encode` of mvcc/log.rs.
 //!
 //! A case describes a body of 0 to 4,096 bytes: its length (2 bytes, little
 //! endian), and its bytes without the zeros at its end.
@@ -24,7 +24,7 @@ use crate::refusal;
 
 pub fn list() -> List {
     List {
-        name: "batch_replay",
+        name: "batchlist",
         longest: 4_096,
         room: 399_999,
         cases: cases(),

@@ -1,0 +1,2 @@
+-- The root of the definitions of `input`.
+pub mod Input
