@@ -41,5 +41,5 @@ pub fn moved<'a>(r: BatchReader<'a>, at: usize) -> BatchReader<'a>
 pub fn record_from(body: &[u8], at: usize) -> mvcc::RecordField
     ensures { λ r. ⌜ recordAnswer r ≡ recordAt (now (body .entry)) at ⌝ }
 {
-    next(BatchReader { body, at })
+    next(moved(new(body), at))
 }
