@@ -194,14 +194,26 @@ fn may_read(world: &mut World, export: &'static str) {
 /// Behind the end that is told no page is found.
 fn read_end(world: &mut World, export: &'static str) {
     let (store, _) = world.any_store();
-    let (count, staged) = (store.current_header.page_count, Box::new(store.staged.pages));
+    let (count, staged) = (
+        store.current_header.page_count,
+        Box::new(store.staged.pages),
+    );
     let end = unsafe { sys::lateenbael_read_end(count, store.staged.count) };
     world.end(export, 0, true, &Writes::default());
     let table = world.table.lend(&mut world.random);
     let page_num = page_num(world);
     if page_num as usize >= end {
         let place = sys::lateenbael_place_page;
-        let answer = unsafe { place(count, page_num, store.staged.count, &staged, table.at, table.len.min(sys::PAGES)) };
+        let answer = unsafe {
+            place(
+                count,
+                page_num,
+                store.staged.count,
+                &staged,
+                table.at,
+                table.len.min(sys::PAGES),
+            )
+        };
         assert_eq!((answer.refusal, answer.area), (0, 0), "{export}");
     }
 }
@@ -300,7 +312,11 @@ fn stage_in(world: &mut World, export: &'static str) {
     world.end(export, done.refusal, staging.right && lent.right, &writes);
     world.unaltered(export, &page);
     if done.refusal != 0 {
-        assert_eq!((done.count, *staged), (store.staged.count, store.staged.pages), "{export}");
+        assert_eq!(
+            (done.count, *staged),
+            (store.staged.count, store.staged.pages),
+            "{export}"
+        );
     }
 }
 
