@@ -98,8 +98,8 @@ static void table_past_the_log(host *h) {
     CHECK(a.refusal == LATEENBAEL_REFUSED_AREA && a.store.job.kind == 0 && a.store.wal.len == len && a.store.staged.count == 2);
     CHECK(h->log[len] == 0 && h->log[len + 16] == 0x22 && h->table[2] == 2 * len);
     CHECK(lateenbael_begin_commit(store, AREAS(h), header, 1).refusal == LATEENBAEL_REFUSED_AREA);
-    store.job.kind = 1;
-    CHECK(lateenbael_begin_commit(store, AREAS(h), header, 1).refusal == LATEENBAEL_REFUSED_AREA);
+    store.job.kind = 5;
+    CHECK(lateenbael_begin_commit(store, AREAS(h), header, 1).refusal == LATEENBAEL_REFUSED_BUSY);
     store.job.kind = 0;
     /* One byte past the length is too much, one that ends right there is not; nor does a page matter that is not staged. */
     store.wal.len = len - FRAME;

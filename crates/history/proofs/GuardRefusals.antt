@@ -17,10 +17,10 @@ use Rattle.header.specs.declared.DbHeader.{DbHeader}
 use Rattle.mvcc.specs.Seen.{refusalOf}
 use Rattle.wal.specs.Write.{hasRoom}
 use Rattle.pager_state.specs.World.{World, pageLimit, countOf, headerOf, logFine, busy, readOnly}
-use Rattle.pager_state.specs.Overlay.{stagedPages, isStaged}
+use Rattle.pager_state.specs.Overlay.{isStaged}
 use Rattle.pager_state.specs.Pages.{pagesFrom, firstOf, lacks}
 use Rattle.pager_state.specs.Batches.{appendAnswer, appendRefusal, decodedAs}
-use Rattle.pager_state.specs.Steps.{headerGood, differing, lacking, roomFor, allBefore, commitFine, commitStart, commitRefusal, stepFine}
+use Rattle.pager_state.specs.Steps.{headerGood, differing, lacking, roomFor, tableFits, commitFine, commitStart, commitRefusal, stepFine}
 use Rattle.pager_state.specs.declared.Pager.{Pager}
 use Rattle.pager_state.specs.declared.Staged.{Staged}
 use Rattle.pager_state.specs.declared.CommitStart.{CommitStart}
@@ -115,7 +115,8 @@ module _ (g : List ℕ) (w : World) (h : DbHeader) where
       let c = passed commitRefusal (readOnly (w .pager)) _ commit.ReadOnly (λ z. n₁₀ (sym z)) (b .1) in
       let d = chosen commitRefusal (headerGood h) _ commit.NewHeader (λ z. n₁₃ (sym z)) (c .1) in
       let i = passed commitRefusal (ltb (lacking w h) pageLimit) _ (commit.Joining (lacking w h)) (λ z. n₁₄ (sym z)) (d .1) in
-      let t = both-true (stepFine g w) (allBefore (w .table) (w .pager .wal .len) (stagedPages (w .pager .staged))) (a .0) in
+      let t = both-true (stepFine g w) (pick (busy (w .pager)) true (tableFits w)) (a .0) in
+      let v : tableFits w ≡ true = rw (b .0) at (t .1) in
       let f = ready-fine g w (t .0) in
       let k = good-header h (d .0) in (
         record {
@@ -126,7 +127,7 @@ module _ (g : List ℕ) (w : World) (h : DbHeader) where
           logFile = f .0 .files .log .len;
           mainFile = f .0 .files .main .len;
           pages = f .0 .count;
-          compared = λ n l o i. stands-frame (w .table) (w .pager .wal .len) n (before-staged (w .table) (w .pager .wal .len) (w .pager .staged) (t .1) n o) i;
+          compared = λ n l o i. stands-frame (w .table) (w .pager .wal .len) n (before-staged (w .table) (w .pager .wal .len) (w .pager .staged) v n o) i;
           rests = not-busy (w .pager .job) (b .0);
           writes = c .0;
           header = k;

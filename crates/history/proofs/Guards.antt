@@ -7,13 +7,14 @@ use Rattle.le.specs.Le.{Bytes}
 use Rattle.mvcc.proofs.Bytes.{bytes-zeros}
 use Rattle.pager_state.specs.Opening.{firstHeader}
 use Rattle.history.specs.Run.{start}
-use Rattle.history.specs.Guards.{zeros, zeroAreas, Met, LogFullGuard, BegunGuard, BatchFullGuard, CommitGuard, CommitEndsGuard, EmptyCommitGuard, FoldGuard, SoundGuard, OpeningGuard, HeaderGuard, PageGuard, NewPageGuard, BatchGuard, NewBatchGuard, FilledGuard, BodyGuard}
+use Rattle.history.specs.Guards.{zeros, zeroAreas, Met, LogFullGuard, BegunGuard, BatchFullGuard, CommitGuard, CommitEndsGuard, EmptyCommitGuard, FoldGuard, SoundGuard, TableGuard, OpeningGuard, HeaderGuard, PageGuard, NewPageGuard, BatchGuard, NewBatchGuard, FilledGuard, BodyGuard}
 use Rattle.history.proofs.Demand3Holds.{demand3}
 use Rattle.history.proofs.GuardRefusals.{full-told, told-full, begun-told, told-begun, batch-full-told, batch-told-full}
 use Rattle.history.proofs.GuardFold.{fold-leaves, fold-answer}
 use Rattle.history.proofs.GuardCommit.{commit-ends}
 use Rattle.history.proofs.GuardNew.{create-fine, new-begun, new-made, made-framed, committed-alone}
 use Rattle.history.proofs.GuardHistories.{made-history}
+use Rattle.history.proofs.GuardTable.{table-taken}
 use Rattle.history.proofs.GuardReached.{reached-after, opening-taken}
 use Rattle.history.proofs.GuardPages.{header-back, reads-back}
 use Rattle.history.proofs.GuardFirst.{keeps}
@@ -81,6 +82,10 @@ filled t l m g salt f small body h n page bytes decoded k c e = fills t l m g sa
 pub framed : SoundGuard
 unfolding SoundGuard
 framed t l m g salt f small es typed = made-framed _ (made-history es (start t l m g salt) (new-made t l m g salt f))
+
+pub table : TableGuard
+unfolding TableGuard
+table t l m g salt f small es typed h = table-taken _ _ h (made-history es (start t l m g salt) (new-made t l m g salt f))
 
 -- ---- by demand 3
 

@@ -32,6 +32,7 @@ pub mod GuardRefusals
 pub mod GuardFold
 pub mod GuardCommit
 pub mod GuardNew
+pub mod GuardTable
 pub mod GuardHistories
 pub mod GuardBook
 pub mod GuardReached

@@ -18,7 +18,7 @@ use Rattle.pager_state.specs.Overlay.{pageFrom, isStaged, frameOf, inLog, onMai
 use Rattle.pager_state.specs.Queries.{header}
 use Rattle.pager_state.specs.Batches.{appendAnswer}
 use Rattle.pager_state.specs.Opening.{firstHeader, createFine}
-use Rattle.pager_state.specs.Steps.{differing, commitStart, commitAnswer, commitWorld, checkpointStart, folding, checkpointAnswer, checkpointWorld, onStore}
+use Rattle.pager_state.specs.Steps.{differing, commitStart, commitAnswer, commitWorld, stepFine, checkpointStart, folding, checkpointAnswer, checkpointWorld, onStore}
 use Rattle.pager_state.specs.declared.AccessMode.the-variants as mode
 use Rattle.pager_state.specs.declared.Staged.{Staged}
 use Rattle.pager_state.specs.declared.Job.the-variants as job
@@ -208,6 +208,10 @@ SoundGuard = Always Sound
 -- the call is not refused
 abbrev pub Accepted : Call → Run → Type 0
 Accepted c r = refusedBy c (r .world) (r .staging) ≡ 0
+
+-- refusal 1 of a commit is of the lengths alone: no table that the calls make is refused, whatever is part done
+unfoldable pub TableGuard : Type 0
+TableGuard = Always (λ (r : Run). (h : DbHeader) → stepFine (r .staging) (r .world) ≡ true → commitStart (r .staging) (r .world) h ≡ commit.Area → ⊥)
 
 -- a clean opening, read-write, in areas of the right lengths, is not, cut or no cut before it
 unfoldable pub OpeningGuard : Type 0

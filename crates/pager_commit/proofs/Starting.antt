@@ -15,10 +15,9 @@ use Rattle.le.proofs.Compare.{both-true, no-test}
 use Rattle.header.specs.Header.{isVersion}
 use Rattle.header.specs.declared.DbHeader.{DbHeader}
 use Rattle.pager_state.specs.World.{World, countOf, headerOf, busy, readOnly, withJob}
-use Rattle.pager_state.specs.Overlay.{stagedPages}
 use Rattle.pager_state.specs.Pages.{pagesFrom, firstOf, differs, lacks}
 use Rattle.pager_state.specs.Commit.{framesTodo, framesAdvance, commitTodo, commitAdvance}
-use Rattle.pager_state.specs.Steps.{answerOf, named, done, stepFine, headerGood, differing, lacking, allBefore, commitFine, commitStart, isBegun, beginCommit, steps, onStore}
+use Rattle.pager_state.specs.Steps.{answerOf, named, done, stepFine, headerGood, differing, lacking, tableFits, commitFine, commitStart, isBegun, beginCommit, steps, onStore}
 use Rattle.pager_state.specs.declared.Job.{Job}
 use Rattle.pager_state.specs.declared.Job.the-variants as job
 use Rattle.pager_state.specs.declared.Pager.{Pager}
@@ -105,20 +104,19 @@ module _ (g : List ℕ) (w : World) (h : DbHeader) where
   unfolding commitStart
   start-area a k = refused commit.Area (rw a) refl k
 
-  pub start-table : {x : CommitStart} {n : ℕ} → stepFine g w ≡ true → allBefore (w .table) (w .pager .wal .len) (stagedPages (w .pager .staged)) ≡ false
-      → (x ≡ commit.Area) × (n ≡ 0) → Judges x n
-  unfolding commitStart
-  start-table a b k = refused commit.Area (rw (a, b)) refl k
-
-  pub both-fine : stepFine g w ≡ true → allBefore (w .table) (w .pager .wal .len) (stagedPages (w .pager .staged)) ≡ true → commitFine g w ≡ true
-  both-fine a b = rw (a, b)
-
-  module _ (a : commitFine g w ≡ true) where
+  module _ (s : stepFine g w ≡ true) where
     pub start-busy : {x : CommitStart} {n : ℕ} → busy (w .pager) ≡ true → (x ≡ commit.Busy) × (n ≡ 0) → Judges x n
     unfolding commitStart
-    start-busy b k = refused commit.Busy (rw (a, b)) refl k
+    start-busy b k = refused commit.Busy (rw (s, b)) refl k
 
-    module _ (b : busy (w .pager) ≡ false) where
+    pub start-table : {x : CommitStart} {n : ℕ} → busy (w .pager) ≡ false → tableFits w ≡ false → (x ≡ commit.Area) × (n ≡ 0) → Judges x n
+    unfolding commitStart
+    start-table b t k = refused commit.Area (rw (s, b, t)) refl k
+
+    module _ (b : busy (w .pager) ≡ false) (t : tableFits w ≡ true) where
+      a : commitFine g w ≡ true
+      a = rw (s, b, t)
+
       pub start-read-only : {x : CommitStart} {n : ℕ} → readOnly (w .pager) ≡ true → (x ≡ commit.ReadOnly) × (n ≡ 0) → Judges x n
       unfolding commitStart
       start-read-only c k = refused commit.ReadOnly (rw (a, b, c)) refl k

@@ -600,14 +600,14 @@ fn judge<'a>(
     if !pager_state::are_fine(pager, table.len(), log.len(), main.len(), staging.len()) {
         return refused(CommitStart::Area);
     }
+    let job = pager.job;
+    if pager_state::is_busy(job) {
+        return refused(CommitStart::Busy);
+    }
     let staged = pager.staged;
     let wal = pager.wal;
     if !all_stand_before(staged, table, wal.len) {
         return refused(CommitStart::Area);
-    }
-    let job = pager.job;
-    if pager_state::is_busy(job) {
-        return refused(CommitStart::Busy);
     }
     let opening = pager.opening;
     if pager_state::is_read_only(opening) {

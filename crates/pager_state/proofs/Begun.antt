@@ -14,11 +14,11 @@ use Rattle.header.specs.declared.DbHeader.{DbHeader}
 use Rattle.frame.specs.Frame.{frameSize}
 use Rattle.wal.specs.Recovery.{walArea}
 use Rattle.pager_state.specs.World.{World, pageLimit, stagedLimit, countOf, fine, busyWith, busy, readOnly, withJob}
-use Rattle.pager_state.specs.Overlay.{stagedPages, isStaged, committedBytes}
+use Rattle.pager_state.specs.Overlay.{isStaged, committedBytes}
 use Rattle.pager_state.specs.Pages.{pagesFrom, differs}
 use Rattle.pager_state.specs.Fold.{foldTodo}
 use Rattle.pager_state.specs.Commit.{framesTodo, commitTodo}
-use Rattle.pager_state.specs.Steps.{headerGood, differing, lacking, roomFor, allBefore, commitFine, commitStart, isBegun, beginCommit, commitRefusal, nothingToFold, checkpointStart, checkpointRefusal, isFolding, folding, beginCheckpoint, todo, stepFine, onStore}
+use Rattle.pager_state.specs.Steps.{headerGood, differing, lacking, roomFor, tableFits, commitFine, commitStart, isBegun, beginCommit, commitRefusal, nothingToFold, checkpointStart, checkpointRefusal, isFolding, folding, beginCheckpoint, todo, stepFine, onStore}
 use Rattle.pager_state.specs.declared.Job.{Job}
 use Rattle.pager_state.specs.declared.Job.the-variants as job
 use Rattle.pager_state.specs.declared.CommitStart.{CommitStart}
@@ -54,7 +54,7 @@ not-busy (job.LogHeader salt answer) e = no-test (sym e)
 
 pub record CommitBegun (g : List ℕ) (w : World) (h : DbHeader) : Type 0 where
   pub right : stepFine g w ≡ true
-  pub before : allBefore (w .table) (w .pager .wal .len) (stagedPages (w .pager .staged)) ≡ true
+  pub before : tableFits w ≡ true
   pub idle : w .pager .job ≡ job.Idle
   pub writes : readOnly (w .pager) ≡ false
   pub low : 1 ≤ countOf h
@@ -78,7 +78,7 @@ module _ (g : List ℕ) (w : World) (h : DbHeader) (e : isBegun (commitStart g w
   unfolding commitStart
   commit-begun =
       let a = chosen isBegun (commitFine g w) _ commit.Area refl e in
-      let f = both-true (stepFine g w) (allBefore (w .table) (w .pager .wal .len) (stagedPages (w .pager .staged))) (a .0) in
+      let f = both-true (stepFine g w) (pick (busy (w .pager)) true (tableFits w)) (a .0) in
       let b = passed isBegun (busy (w .pager)) _ commit.Busy refl (a .1) in
       let c = passed isBegun (readOnly (w .pager)) _ commit.ReadOnly refl (b .1) in
       let d = chosen isBegun (headerGood h) _ commit.NewHeader refl (c .1) in
@@ -88,7 +88,7 @@ module _ (g : List ℕ) (w : World) (h : DbHeader) (e : isBegun (commitStart g w
       let y = both-true (leb (countOf h) pageLimit) (isVersion (h .«format_version»)) (x .1) in
       record {
         right = f .0;
-        before = f .1;
+        before = rw (b .0) at (f .1);
         idle = not-busy (w .pager .job) (b .0);
         writes = c .0;
         low = leb-true 1 (countOf h) (x .0);

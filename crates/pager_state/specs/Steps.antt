@@ -58,10 +58,14 @@ unfoldable pub allBefore : List ℕ → ℕ → List ℕ → Bool
 allBefore t len [] = true
 allBefore t len (n ∷ ns) = both (standsBefore t n len) (allBefore t len ns)
 
--- the first of them, 1, is of the lengths; and of the table: all that staged pages are compared with ends at the log's length or before,
--- so that no frame of the commit is stored over it. Only a made-up table names another place.
+-- all that staged pages are compared with ends at the log's length or before, so that no frame of the commit is stored over it
+abbrev pub tableFits : World → Bool
+tableFits w = allBefore (w .table) (w .pager .wal .len) (stagedPages (w .pager .staged))
+
+-- refusal 1 is of the lengths; and of the table, where nothing is part done (a fold that has emptied the log leaves its places void until
+-- the next store). Only a made-up table does not fit.
 abbrev pub commitFine : List ℕ → World → Bool
-commitFine g w = both (both (fine w) (stagingFine g)) (allBefore (w .table) (w .pager .wal .len) (stagedPages (w .pager .staged)))
+commitFine g w = both (both (fine w) (stagingFine g)) (pick (busy (w .pager)) true (tableFits w))
 
 -- refusals in the order of their numbers: 1, 9, 10, 13, 14, 15
 unfoldable pub commitStart : List ℕ → World → DbHeader → CommitStart

@@ -7,10 +7,9 @@ use borrow.Author.Tests.{not-true, not-false}
 use Prim.Native.Nat.{ℕ, _-_, _≤_}
 use Rattle.header.specs.declared.DbHeader.{DbHeader}
 use Rattle.pager_state.specs.World.{World, world, fine, busy, readOnly}
-use Rattle.pager_state.specs.Overlay.{stagedPages}
-use Rattle.pager_state.specs.Steps.{stepFine, allBefore, commitFine, headerGood}
+use Rattle.pager_state.specs.Steps.{stepFine, tableFits, headerGood}
 use Rattle.pager_state.proofs.Made.{ready-fine}
-use Rattle.pager_commit.proofs.Starting.{not-begun, start-area, start-table, both-fine, start-busy, start-read-only, start-header, count-most, start-joining, start-full, start-begun}
+use Rattle.pager_commit.proofs.Starting.{not-begun, start-area, start-busy, start-table, start-read-only, start-header, count-most, start-joining, start-full, start-begun}
 use borrow.Author.Needs.{needs}
 use Rattle.pager_commit.proofs.judge.Statement.{statement}
 use Rattle.pager_commit.proofs.judge.Tie as tie
@@ -32,10 +31,10 @@ abbrev s₁ : tie.Else1 → tie.Start
 s₁ c = c .before .before .before .before .before .before
 
 abbrev s₂ : tie.Else2 → tie.Start
-s₂ c = s₁ (c .before .before .before .before)
+s₂ c = s₁ (c .before .before)
 
 abbrev s₃ : tie.Else3 → tie.Start
-s₃ c = s₂ (c .before .before)
+s₃ c = s₂ (c .before .before .before .before)
 
 abbrev s₄ : tie.Else4 → tie.Start
 s₄ c = s₃ (c .before .before)
@@ -47,14 +46,11 @@ lengths : (c : tie.Else1) → stepFine (g (s₁ c)) (W (s₁ c)) ≡ true
 unfolding fine
 lengths c = sym (c .before .are-fine .ensures) ∙ not-false _ (c .if1 .left)
 
-before : (c : tie.Else2) → allBefore (W (s₂ c) .table) (W (s₂ c) .pager .wal .len) (stagedPages (W (s₂ c) .pager .staged)) ≡ true
-before c = sym (c .before .all-stand-before .ensures) ∙ not-false _ (c .if2 .left)
+rests : (c : tie.Else2) → busy (W (s₂ c) .pager) ≡ false
+rests c = sym (c .before .is-busy .ensures) ∙ c .if2 .left
 
-areas : (c : tie.Else2) → commitFine (g (s₂ c)) (W (s₂ c)) ≡ true
-areas c = both-fine (g (s₂ c)) (W (s₂ c)) (h (s₂ c)) (lengths (c .before .before .before .before)) (before c)
-
-rests : (c : tie.Else3) → busy (W (s₃ c) .pager) ≡ false
-rests c = sym (c .before .is-busy .ensures) ∙ c .if3 .left
+fits : (c : tie.Else3) → tableFits (W (s₃ c)) ≡ true
+fits c = sym (c .before .all-stand-before .ensures) ∙ not-false _ (c .if3 .left)
 
 writes : (c : tie.Else4) → readOnly (W (s₄ c) .pager) ≡ false
 writes c = sym (c .before .is-read-only .ensures) ∙ c .if4 .left
@@ -72,28 +68,30 @@ returns c =
 
 returns-2 : tie.Need-returns-2
 returns-2 c =
-    let p = c .before .before .before .before .before in
+    let p = c .before .before .before in
     let s = s₁ p in
-    not-begun (g s) (W s) (h s) refl (start-table (g s) (W s) (h s) (lengths p) (sym (c .before .before .all-stand-before .ensures) ∙ not-true _ (c .before .if2 .taken))) (c .refused2 .ensures)
+    not-begun (g s) (W s) (h s) refl (start-busy (g s) (W s) (h s) (lengths p) (sym (c .before .before .is-busy .ensures) ∙ c .before .if2 .taken)) (c .refused2 .ensures)
 
 returns-3 : tie.Need-returns-3
 returns-3 c =
-    let p = c .before .before .before in
+    let p = c .before .before .before .before .before in
     let s = s₂ p in
-    not-begun (g s) (W s) (h s) refl (start-busy (g s) (W s) (h s) (areas p) (sym (c .before .before .is-busy .ensures) ∙ c .before .if3 .taken)) (c .refused3 .ensures)
+    not-begun (g s) (W s) (h s) refl (start-table (g s) (W s) (h s) (lengths (p .before .before)) (rests p) (sym (c .before .before .all-stand-before .ensures) ∙ not-true _ (c .before .if3 .taken))) (c .refused3 .ensures)
 
 returns-4 : tie.Need-returns-4
 returns-4 c =
     let p = c .before .before .before in
+    let q = p .before .before .before .before in
     let s = s₃ p in
-    not-begun (g s) (W s) (h s) refl (start-read-only (g s) (W s) (h s) (areas (p .before .before)) (rests p) (sym (c .before .before .is-read-only .ensures) ∙ c .before .if4 .taken)) (c .refused4 .ensures)
+    not-begun (g s) (W s) (h s) refl (start-read-only (g s) (W s) (h s) (lengths (q .before .before)) (rests q) (fits p) (sym (c .before .before .is-read-only .ensures) ∙ c .before .if4 .taken)) (c .refused4 .ensures)
 
 returns-5 : tie.Need-returns-5
 returns-5 c =
     let p = c .before .before .before in
     let q = p .before .before in
+    let r = q .before .before .before .before in
     let s = s₄ p in
-    not-begun (g s) (W s) (h s) refl (start-header (g s) (W s) (h s) (areas (q .before .before)) (rests q) (writes p) (sym (c .before .before .is-header-good .ensures) ∙ not-true _ (c .before .if5 .taken))) (c .refused5 .ensures)
+    not-begun (g s) (W s) (h s) refl (start-header (g s) (W s) (h s) (lengths (r .before .before)) (rests r) (fits q) (writes p) (sym (c .before .before .is-header-good .ensures) ∙ not-true _ (c .before .if5 .taken))) (c .refused5 .ensures)
 
 first-lacking-requires : tie.Need-first-lacking-requires
 first-lacking-requires c κs = count-most (h (s₅ (c .before))) (good (c .before))
@@ -103,8 +101,9 @@ returns-6 c =
     let p = c .before .before .before .before in
     let q = p .before .before in
     let r = q .before .before in
+    let t = r .before .before .before .before in
     let s = s₅ p in
-    not-begun (g s) (W s) (h s) refl (start-joining (g s) (W s) (h s) (areas (r .before .before)) (rests r) (writes q) (good p) (c .before .before .first-lacking .ensures) (c .before .if6 .taken)) (c .refused6 .ensures)
+    not-begun (g s) (W s) (h s) refl (start-joining (g s) (W s) (h s) (lengths (t .before .before)) (rests t) (fits r) (writes q) (good p) (c .before .before .first-lacking .ensures) (c .before .if6 .taken)) (c .refused6 .ensures)
 
 -- ---- room
 
@@ -130,9 +129,10 @@ returns-7 c =
     let p = o .before .before .before in
     let q = p .before .before in
     let r = q .before .before in
+    let t = r .before .before .before .before in
     let s = s₅ p in
     not-begun (g s) (W s) (h s) refl
-    (start-full (g s) (W s) (h s) (areas (r .before .before)) (rests r) (writes q) (good p) (o .before .first-lacking .ensures) (o .if6 .left) (m .mark-differing .ensures .0) (c .before .if7 .taken)) (c .refused7 .ensures)
+    (start-full (g s) (W s) (h s) (lengths (t .before .before)) (rests t) (fits r) (writes q) (good p) (o .before .first-lacking .ensures) (o .if6 .left) (m .mark-differing .ensures .0) (c .before .if7 .taken)) (c .refused7 .ensures)
 
 returns-8 : tie.Need-returns-8
 returns-8 c =
@@ -141,10 +141,11 @@ returns-8 c =
     let p = o .before .before .before in
     let q = p .before .before in
     let r = q .before .before in
+    let t = r .before .before .before .before in
     let s = s₅ p in
     let e = m .mark-differing .ensures in
-    let j = start-begun (g s) (W s) (h s) (areas (r .before .before)) (rests r) (writes q) (good p) (o .before .first-lacking .ensures) (o .if6 .left) (e .0) (c .before .if7 .left) in
-    (j .0, (j .1, λ z. (e .1 .0 .1, e .1 .1 (s .args .pager .wal .len) (before (r .before .before)))))
+    let j = start-begun (g s) (W s) (h s) (lengths (t .before .before)) (rests t) (fits r) (writes q) (good p) (o .before .first-lacking .ensures) (o .if6 .left) (e .0) (c .before .if7 .left) in
+    (j .0, (j .1, λ z. (e .1 .0 .1, e .1 .1 (s .args .pager .wal .len) (fits r))))
 
 pub judge-spec : {M : Type 1} → statement M
 judge-spec =
