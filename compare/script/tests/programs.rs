@@ -1,5 +1,6 @@
 //! The proved programs as they are called: a standard input that can't be read
-//! is told from one that ends, and `batchlist` prints a body as the Rust has it.
+//! is told from one that ends, a listing that can't be written is told too, and
+//! `batchlist` prints a body as the Rust has it.
 
 use std::fs::File;
 use std::io::Write;
@@ -59,6 +60,18 @@ fn a_closed_input_is_not_read() {
             .expect("the program");
         assert_not_read(words[0], &output);
     }
+}
+
+#[test]
+fn a_listing_that_cant_be_written_is_told() {
+    let full = File::options().write(true).open("/dev/full").expect("a full device");
+    let output = Command::new(path("loglist"))
+        .stdin(Stdio::null())
+        .stdout(full)
+        .output()
+        .expect("the program");
+    let line = "loglist: writing standard output failed\n";
+    assert_eq!(said(&output), ("", line));
 }
 
 #[test]

@@ -28,6 +28,9 @@ fn list(log: &[u8]) {
     }
 }
 
+// Prints a text, or says that it could not be written.
 fn print(text: &[u8]) {
-    io::write_all(1, text);
+    if !io::write_all(1, text) {
+        io::write_all(2, b"loglist: writing standard output failed\n");
+    }
 }

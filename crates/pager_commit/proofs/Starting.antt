@@ -8,7 +8,7 @@ use native.Mathlib.Omega.{arith}
 use types.Run.{OneOf}
 use denote.Enum.Declared.{tagOf}
 use borrow.Author.Tests.{leb-true, lt-ltb, le-ltb, le-leb, lt-leb}
-use lib.Dec.{leb}
+use lib.Dec.{leb, ltb}
 use lib.ListN.{length}
 use Rattle.le.specs.Choice.{pick, both}
 use Rattle.le.proofs.Compare.{both-true, no-test}
@@ -114,17 +114,17 @@ module _ (g : List ℕ) (w : World) (h : DbHeader) where
     start-table b t k = refused commit.Area (rw (s, b, t)) refl k
 
     module _ (b : busy (w .pager) ≡ false) (t : tableFits w ≡ true) where
-      a : commitFine g w ≡ true
-      a = rw (s, b, t)
+      pub areas : commitFine g w ≡ true
+      areas = rw (s, b, t)
 
       pub start-read-only : {x : CommitStart} {n : ℕ} → readOnly (w .pager) ≡ true → (x ≡ commit.ReadOnly) × (n ≡ 0) → Judges x n
       unfolding commitStart
-      start-read-only c k = refused commit.ReadOnly (rw (a, b, c)) refl k
+      start-read-only c k = refused commit.ReadOnly (rw (areas, b, c)) refl k
 
       module _ (c : readOnly (w .pager) ≡ false) where
         pub start-header : {x : CommitStart} {n : ℕ} → headerGood h ≡ false → (x ≡ commit.NewHeader) × (n ≡ 0) → Judges x n
         unfolding commitStart
-        start-header d k = refused commit.NewHeader (rw (a, b, c, d)) refl k
+        start-header d k = refused commit.NewHeader (rw (areas, b, c, d)) refl k
 
         module _ (d : headerGood h ≡ true) {m : ℕ} (j : m ≡ firstOf (pagesFrom (lacks (w .pager .staged) (countOf (headerOf (w .pager))) (countOf h)) 0)) where
           lack-is : lacking w h ≡ m
@@ -133,25 +133,38 @@ module _ (g : List ℕ) (w : World) (h : DbHeader) where
 
           pub start-joining : {x : CommitStart} {n : ℕ} → m < 1024 → (x ≡ commit.Joining m) × (n ≡ 0) → Judges x n
           unfolding commitStart
-          start-joining l k = refused (commit.Joining m) (rw (a, b, c, d, lack-is, lt-ltb m 1024 l)) refl k
+          start-joining l k = refused (commit.Joining m) (rw (areas, b, c, d, lack-is, lt-ltb m 1024 l)) refl k
 
-          module _ (l : 1024 ≤ m) {k : ℕ} (e : k ≡ length (pagesFrom (differsIn (w .pager .staged) g (w .table) (w .log) (w .main)) 0)) where
-            count-is : differing g w ≡ k
-            unfolding differing
-            count-is = sym (e ∙ ap length (differs-by g w 0))
+  -- every test is passed but that of the room: no page lacks, and k pages differ
+  pub record Passed (k : ℕ) : Type 0 where
+    pub fine : commitFine g w ≡ true
+    pub rests : busy (w .pager) ≡ false
+    pub writes : readOnly (w .pager) ≡ false
+    pub good : headerGood h ≡ true
+    pub joined : 1024 ≤ firstOf (pagesFrom (lacks (w .pager .staged) (countOf (headerOf (w .pager))) (countOf h)) 0)
+    pub count : k ≡ length (pagesFrom (differsIn (w .pager .staged) g (w .table) (w .log) (w .main)) 0)
 
-            pub start-full : {x : CommitStart} {n : ℕ} → 4210720 < w .pager .wal .len + 4112 * (k + 1) → (x ≡ commit.LogFull) × (n ≡ 0) → Judges x n
-            unfolding commitStart
-            start-full f t =
-                refused commit.LogFull
-                (rw (a, b, c, d, lack-is, le-ltb m 1024 l, count-is, lt-leb (w .pager .wal .len + 4112 * (k + 1)) 4210720 f)) refl t
+  module _ {k : ℕ} (p : Passed k) where
+    count-is : differing g w ≡ k
+    unfolding differing
+    count-is = sym (p .count ∙ ap length (differs-by g w 0))
 
-            begun : w .pager .wal .len + 4112 * (k + 1) ≤ 4210720 → commitStart g w h ≡ commit.Begun
-            unfolding commitStart
-            begun f = rw (a, b, c, d, lack-is, le-ltb m 1024 l, count-is, le-leb (w .pager .wal .len + 4112 * (k + 1)) 4210720 f)
+    none-lacks : ltb (lacking w h) 1024 ≡ false
+    unfolding lacking
+    none-lacks = le-ltb _ 1024 (p .joined)
 
-            pub start-begun : w .pager .wal .len + 4112 * (k + 1) ≤ 4210720 → Judges commit.Begun k
-            start-begun f = (sym (begun f), sym (rw (begun f) count-is))
+    pub start-full : {x : CommitStart} {n : ℕ} → 4210720 < w .pager .wal .len + 4112 * (k + 1) → (x ≡ commit.LogFull) × (n ≡ 0) → Judges x n
+    unfolding commitStart
+    start-full f t =
+        refused commit.LogFull
+        (rw (p .fine, p .rests, p .writes, p .good, none-lacks, count-is, lt-leb (w .pager .wal .len + 4112 * (k + 1)) 4210720 f)) refl t
+
+    begun : w .pager .wal .len + 4112 * (k + 1) ≤ 4210720 → commitStart g w h ≡ commit.Begun
+    unfolding commitStart
+    begun f = rw (p .fine, p .rests, p .writes, p .good, none-lacks, count-is, le-leb (w .pager .wal .len + 4112 * (k + 1)) 4210720 f)
+
+    pub start-begun : w .pager .wal .len + 4112 * (k + 1) ≤ 4210720 → Judges commit.Begun k
+    start-begun f = (sym (begun f), sym (rw (begun f) count-is))
 
   -- ---- what the judgement makes of the store
 

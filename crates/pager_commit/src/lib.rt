@@ -648,26 +648,6 @@ pub fn is_begun(answer: CommitStart) -> bool
     }
 }
 
-// The store with a commit part done: the log so far and the first page not looked at.
-fn under_way(
-    pager: Pager,
-    wal: Wal,
-    header: DbHeader,
-    salt: u32,
-    page: usize,
-    answer: usize,
-) -> Pager
-    ensures { λ r. ⌜ r ≡ withJob (withWal pager wal) (Job.Commit header salt page answer) ⌝ }
-{
-    let job = Job::Commit {
-        header,
-        salt,
-        page,
-        answer,
-    };
-    pager_state::with_wal(pager, wal, job)
-}
-
 // Judges a commit; stores nothing.
 pub fn begin_commit<'a>(
     pager: Pager,
@@ -686,10 +666,13 @@ pub fn begin_commit<'a>(
         return started(answer, pager);
     }
     let wal = pager.wal;
-    started(
-        answer,
-        under_way(pager, wal, new_header, salt, 0, judged.pages),
-    )
+    let job = Job::Commit {
+        header: new_header,
+        salt,
+        page: 0,
+        answer: judged.pages,
+    };
+    started(answer, pager_state::with_wal(pager, wal, job))
 }
 
 // What a commit's frames come to: the log behind them, the first page not looked at, and their number.

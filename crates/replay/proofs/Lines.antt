@@ -1,4 +1,4 @@
--- Laws of lines: how long the first one is, and what stands behind it. Assumes nothing.
+-- Laws of lines: how long the first one is, and what stands behind it; a number that is added to one. Assumes nothing.
 use mathlib.Core.Path.{_≡_, refl, sym, ap, _∙_}
 use mathlib.Core.Bool.{Bool, true, false}
 use mathlib.Core.List.{List, [], _∷_}
@@ -9,8 +9,11 @@ use borrow.Author.Tests.{eq-eqb, ne-eqb}
 use lib.Dec.{eqb}
 use lib.ListN.{length, take, drop, getD, drop-of-length-le}
 use lib.Seq.{drop-cons, drop-drop}
+use Rattle.io.specs.Digits.{digits, Fewest}
 use Rattle.le.specs.Choice.{pick}
+use Rattle.le.specs.Le.{store}
 use Rattle.replay.specs.Cases.{lineOf, restOf}
+use Rattle.replay.specs.Line.{endOf, Spelt}
 
 -- ---- how far a line that starts at i goes
 
@@ -59,3 +62,10 @@ module _ (l : List ℕ) (at end : ℕ) (e : end ≡ at + length (lineOf (drop at
   line-rest =
       let f : at + suc (length (lineOf (drop at l))) ≡ end + 1 = omega arith in
       rw (drop-drop, f) at (drop-line (drop at l))
+
+-- ---- a number that is added to a line
+
+-- the fewest digits of it, k, were added as a text
+pub spelt : (b least n at k : ℕ) {text before after : List ℕ} {end : ℕ} → k ≡ length text → Fewest b least n k → text ≡ digits b k n
+    → end ≡ endOf before at (length text) → after ≡ store before at text → Spelt b least n before at after end
+spelt b least n at k c f d e s = record { places = k; fewest = f; place = rw (← c) at e; bytes = rw d at s }

@@ -20,7 +20,7 @@ returns-2 c =
     let c5 = c3 .before .before in
     let c10 = c5 .before .before .before .before .before in
     let W = world (c10 .args .pager) (now (c10 .args .table)) (now (c10 .args .log)) (now (c10 .args .main)) in
-    c .started2 .ensures ∙ begin-begun (now (c10 .args .staging)) W (c10 .args .new-header) (c10 .args .salt) (c5 .judge .ensures .0, c5 .judge .ensures .1 .0) (sym (c3 .before .is-begun .ensures) ∙ not-false _ (c3 .if1 .left)) (c .before .under-way .ensures)
+    c .started2 .ensures ∙ begin-begun (now (c10 .args .staging)) W (c10 .args .new-header) (c10 .args .salt) (c5 .judge .ensures .0, c5 .judge .ensures .1 .0) (sym (c3 .before .is-begun .ensures) ∙ not-false _ (c3 .if1 .left)) (c .before .with-wal .ensures)
 
 pub begin-commit-spec : {M : Type 1} → statement M
 begin-commit-spec = tie.close (tie.spec (search needs) (search needs) (search needs) returns (search needs) (search needs) returns-2)

@@ -9,7 +9,7 @@ use Rattle.header.specs.declared.DbHeader.{DbHeader}
 use Rattle.pager_state.specs.World.{World, world, fine, busy, readOnly}
 use Rattle.pager_state.specs.Steps.{stepFine, tableFits, headerGood}
 use Rattle.pager_state.proofs.Made.{ready-fine}
-use Rattle.pager_commit.proofs.Starting.{not-begun, start-area, start-busy, start-table, start-read-only, start-header, count-most, start-joining, start-full, start-begun}
+use Rattle.pager_commit.proofs.Starting.{not-begun, start-area, start-busy, start-table, areas, start-read-only, start-header, count-most, start-joining, Passed, start-full, start-begun}
 use borrow.Author.Needs.{needs}
 use Rattle.pager_commit.proofs.judge.Statement.{statement}
 use Rattle.pager_commit.proofs.judge.Tie as tie
@@ -122,29 +122,39 @@ add-if7-2 c =
     let l = p .before .before .before .before .before .before .before .before .before .before in
     omega (arith, few (c .before .before), ready-fine (g (s₅ p)) (W (s₅ p)) (lengths l) .0 .files .log .len)
 
-returns-7 : tie.Need-returns-7
-returns-7 c =
-    let m = c .before .before .before .before in
-    let o = m .before in
+-- every test but that of the room is passed
+passed : (c : tie.After-mark-differing)
+    → let s = s₅ (c .before .before .before .before) in
+    Passed (g s) (W s) (h s) (c .mark-differing .result .count)
+passed c =
+    let o = c .before in
     let p = o .before .before .before in
     let q = p .before .before in
     let r = q .before .before in
     let t = r .before .before .before .before in
     let s = s₅ p in
-    not-begun (g s) (W s) (h s) refl
-    (start-full (g s) (W s) (h s) (lengths (t .before .before)) (rests t) (fits r) (writes q) (good p) (o .before .first-lacking .ensures) (o .if6 .left) (m .mark-differing .ensures .0) (c .before .if7 .taken)) (c .refused7 .ensures)
+    record {
+      fine = areas (g s) (W s) (h s) (lengths (t .before .before)) (rests t) (fits r);
+      rests = rests t;
+      writes = writes q;
+      good = good p;
+      joined = rw (← (o .before .first-lacking .ensures)) (o .if6 .left);
+      count = c .mark-differing .ensures .0;
+    }
+
+returns-7 : tie.Need-returns-7
+returns-7 c =
+    let m = c .before .before .before .before in
+    let s = s₅ (m .before .before .before .before) in
+    not-begun (g s) (W s) (h s) refl (start-full (g s) (W s) (h s) (passed m) (c .before .if7 .taken)) (c .refused7 .ensures)
 
 returns-8 : tie.Need-returns-8
 returns-8 c =
     let m = c .before .before .before .before in
-    let o = m .before in
-    let p = o .before .before .before in
-    let q = p .before .before in
-    let r = q .before .before in
-    let t = r .before .before .before .before in
-    let s = s₅ p in
+    let r = m .before .before .before .before .before .before .before .before in
+    let s = s₃ r in
     let e = m .mark-differing .ensures in
-    let j = start-begun (g s) (W s) (h s) (lengths (t .before .before)) (rests t) (fits r) (writes q) (good p) (o .before .first-lacking .ensures) (o .if6 .left) (e .0) (c .before .if7 .left) in
+    let j = start-begun (g s) (W s) (h s) (passed m) (c .before .if7 .left) in
     (j .0, (j .1, λ z. (e .1 .0 .1, e .1 .1 (s .args .pager .wal .len) (fits r))))
 
 pub judge-spec : {M : Type 1} → statement M

@@ -1,19 +1,13 @@
 use borrow.Author.Needs.{needs}
+use Rattle.replay.proofs.Lines.{spelt}
 use Rattle.replay.proofs.add_decimal.Statement.{statement}
 use Rattle.replay.proofs.add_decimal.Tie as tie
 
 returns : tie.Need-returns
 returns c =
-    let e = c .before .before .before .before .before .decimal .ensures in
+    let d = c .before .before .before .before .before .decimal in
     let t = c .before .before .add-text .ensures in
-    record {
-      places = c .before .before .before .before .before .decimal .result;
-      fewest = e .1 .0;
-      place = rw (← e .0 .1) at (t .0);
-      bytes = rw (e .1 .1) at (t .1);
-    }
+    spelt 10 1 _ _ (d .result) (d .ensures .0 .1) (d .ensures .1 .0) (d .ensures .1 .1) (t .0) (t .1)
 
 pub add-decimal-spec : {M : Type 1} → statement M
-add-decimal-spec =
-    tie.close
-    (tie.spec (search needs) (search needs) (search needs) (search needs) (search needs) returns)
+add-decimal-spec = tie.close (tie.spec (search needs) (search needs) (search needs) (search needs) (search needs) returns)
