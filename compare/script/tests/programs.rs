@@ -64,7 +64,10 @@ fn a_closed_input_is_not_read() {
 
 #[test]
 fn a_listing_that_cant_be_written_is_told() {
-    let full = File::options().write(true).open("/dev/full").expect("a full device");
+    let full = File::options()
+        .write(true)
+        .open("/dev/full")
+        .expect("a full device");
     let output = Command::new(path("loglist"))
         .stdin(Stdio::null())
         .stdout(full)
