@@ -1,23 +1,21 @@
 -- Encoding and decoding undo each other. Assumes nothing.
 use mathlib.Core.Path.{_≡_, refl, sym, ap, _∙_}
-use mathlib.Core.Bool.{Bool, true, false}
-use mathlib.Core.List.{List, [], _∷_, _++_, append-assoc}
+use mathlib.Core.Bool.{true}
+use mathlib.Core.List.{List, _++_, append-assoc}
 use Prim.Native.Nat.{ℕ, _+_, _^_, _≤_, _<_}
 use native.Mathlib.Nat.{zero-add}
 use native.Mathlib.Omega.{arith}
-use borrow.Author.Tests.{eqb-true, leb-true}
-use lib.Dec.{leb, ltb, eqb}
+use borrow.Author.Tests.{eqb-true, leb-true, eq-eqb, le-leb}
+use lib.Dec.{leb}
 use lib.ListN.{length, take, drop, replicate}
 use lib.Seq.{take-add, take-at, take-take, drop-drop}
-use Rattle.le.specs.Choice.{pick, both}
 use Rattle.le.specs.Le.{Bytes, leBytes, field, sameBytes}
 use Rattle.le.proofs.Fields.{length-leBytes, field-front, field-behind, field-part, leBytes-field}
-use Rattle.le.proofs.Compare.{no-test, both-true, same-refl, same-equal}
-use Rattle.header.specs.Header.{magic, headerFields, encodeHeader, headerIn, decodeHeader, decodeRefusal}
+use Rattle.le.proofs.Compare.{both-true, same-refl, same-equal}
+use Rattle.refusal.proofs.Headers.{read, passed}
+use Rattle.header.specs.Header.{magic, headerFields, encodeHeader, headerIn, headerTests, decodeHeader}
 use Rattle.header.specs.declared.DbHeader.{DbHeader}
-use Rattle.header.specs.declared.HeaderDecoded.{HeaderDecoded}
 use Rattle.header.specs.declared.HeaderDecoded.the-variants as decoded
-use Rattle.header.proofs.Decoding.{good}
 use Rattle.header.proofs.Encoding.{length-magic, length-headerFields, length-encodeHeader}
 
 -- ---- what was encoded decodes to itself
@@ -79,12 +77,13 @@ module _ (h : DbHeader) (p : Plain h) where
       (field-front 4 (h .«freelist_head») _ (omega (arith, p .free)))
 
   pub decode-encode : decodeHeader (encodeHeader h) ≡ decoded.Header h
-  unfolding headerIn
+  unfolding headerIn decodeHeader
   decode-encode =
       let m : sameBytes (take 16 (encodeHeader h)) magic ≡ true = rw (row h, take-at magic _ 16 length-magic) (same-refl magic) in
       let low : 4 ≤ field 2 16 (encodeHeader h) = rw version (p .low) in
       let high : field 2 16 (encodeHeader h) ≤ 6 = rw version (p .high) in
-      good (encodeHeader h) (length-encodeHeader h) m low high size ∙ rw (count, root, version, free)
+      sym (read decoded.Refused (decoded.Header (headerIn (encodeHeader h))) (headerTests (encodeHeader h)) (eq-eqb _ _ (length-encodeHeader h)) m
+      (rw (le-leb _ _ low, le-leb _ _ high)) (eq-eqb _ _ size)) ∙ rw (count, root, version, free)
 
 -- ---- what decodes encodes to the same first 32 bytes
 
@@ -97,27 +96,18 @@ pub record Read (l : List ℕ) (h : DbHeader) : Type 0 where
   pub paged : field 2 18 l ≡ 4096
   pub fields : headerIn l ≡ h
 
--- a choice that came out as a header was not the refusal
-chosen : (t : Bool) (x r : HeaderDecoded) (h : DbHeader) → ltb 0 (decodeRefusal r) ≡ true → pick t x r ≡ decoded.Header h
-    → (t ≡ true) × (x ≡ decoded.Header h)
-chosen true x r h n e = (refl, e)
-chosen false x r h n e = no-test (sym (ap (λ (d : HeaderDecoded). ltb 0 (decodeRefusal d)) e) ∙ n)
-
 pub decoded-as : (l : List ℕ) (h : DbHeader) → decodeHeader l ≡ decoded.Header h → Read l h
 unfolding decodeHeader
 decoded-as l h e =
-    let a = chosen (eqb (length l) 4096) _ decoded.Short h refl e in
-    let b = chosen (sameBytes (take 16 l) magic) _ decoded.Magic h refl (a .1) in
-    let v = chosen (both (leb 4 (field 2 16 l)) (leb (field 2 16 l) 6)) _ decoded.Version h refl (b .1) in
-    let s = chosen (eqb (field 2 18 l) 4096) _ decoded.PageSize h refl (v .1) in
-    let w = both-true (leb 4 (field 2 16 l)) (leb (field 2 16 l) 6) (v .0) in
-    let d : decoded.Header (headerIn l) ≡ decoded.Header h = s .1 in
+    let p = passed decoded.Refused (decoded.Header (headerIn l)) (decoded.Header h) (λ r f. let z : _≡_ {A = ℕ} 0 1 = cc in absurd (omega arith)) (headerTests l) e in
+    let w = both-true (leb 4 (field 2 16 l)) (leb (field 2 16 l) 6) (p .version) in
+    let d : decoded.Header (headerIn l) ≡ decoded.Header h = p .same in
     record {
-      long = eqb-true _ _ (a .0);
-      leading = same-equal (take 16 l) magic (b .0);
+      long = eqb-true _ _ (p .long);
+      leading = same-equal (take 16 l) magic (p .leading);
       low = leb-true _ _ (w .0);
       high = leb-true _ _ (w .1);
-      paged = eqb-true _ _ (s .0);
+      paged = eqb-true _ _ (p .paged);
       fields = cc;
     }
 

@@ -7,6 +7,9 @@ use lib.ListN.{length, take}
 use Rattle.le.specs.Choice.{pick, both}
 use Rattle.le.specs.Le.{leBytes, field, sameBytes}
 use Rattle.page.specs.Page.{pageSize, frontPage}
+use Rattle.refusal.specs.Refusal.{answered}
+use Rattle.refusal.specs.Headers.{Tests, headerRefusal}
+use Rattle.refusal.specs.declared.Refusal.the-variants as refusal
 use Rattle.header.specs.declared.DbHeader.{DbHeader}
 use Rattle.header.specs.declared.HeaderEncoded.{HeaderEncoded}
 use Rattle.header.specs.declared.HeaderEncoded.the-variants as encoded
@@ -33,14 +36,10 @@ encodeHeader h = frontPage (headerFields h)
 
 -- refusal 2 where the buffer is not 4,096 bytes long, which then stays as it was
 abbrev pub encodeAnswer : List ℕ → HeaderEncoded
-encodeAnswer l = pick (eqb (length l) pageSize) encoded.Done encoded.Short
+encodeAnswer l = pick (eqb (length l) pageSize) encoded.Done (encoded.Refused refusal.Short)
 
 abbrev pub encodeAfter : DbHeader → List ℕ → List ℕ
 encodeAfter h l = pick (eqb (length l) pageSize) (encodeHeader h) l
-
-abbrev pub encodeRefusal : HeaderEncoded → ℕ
-encodeRefusal encoded.Done = 0
-encodeRefusal encoded.Short = 2
 
 -- ---- decoding
 
@@ -58,23 +57,15 @@ headerIn l =
 abbrev pub isVersion : ℕ → Bool
 isVersion v = both (leb 4 v) (leb v 6)
 
--- refusals in the order of their numbers: "a header buffer not 4,096", "wrong leading bytes", "not 4..6", "not 4,096"
-unfoldable pub decodeHeader : List ℕ → HeaderDecoded
-decodeHeader l =
-    pick (eqb (length l) pageSize)
-    (pick (sameBytes (take 16 l) magic)
-    (pick (isVersion (field 2 16 l))
-    (pick (eqb (field 2 18 l) pageSize)
-    (decoded.Header (headerIn l))
-    decoded.PageSize)
-    decoded.Version)
-    decoded.Magic)
-    decoded.Short
+-- "a header buffer not 4,096", "wrong leading bytes", "not 4..6", "not 4,096"
+abbrev pub headerTests : List ℕ → Tests
+headerTests l =
+    record {
+      long = eqb (length l) pageSize;
+      leading = sameBytes (take 16 l) magic;
+      version = isVersion (field 2 16 l);
+      paged = eqb (field 2 18 l) pageSize;
+    }
 
--- document 01's numbers; 0 is a header
-abbrev pub decodeRefusal : HeaderDecoded → ℕ
-decodeRefusal (decoded.Header h) = 0
-decodeRefusal decoded.Short = 2
-decodeRefusal decoded.Magic = 3
-decodeRefusal decoded.Version = 4
-decodeRefusal decoded.PageSize = 5
+unfoldable pub decodeHeader : List ℕ → HeaderDecoded
+decodeHeader l = answered decoded.Refused (decoded.Header (headerIn l)) (headerRefusal (headerTests l))

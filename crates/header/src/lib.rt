@@ -2,6 +2,7 @@
 ghost use mathlib.Core.Path.{_≡_};
 ghost use Rattle.header.specs.Header.{decodeHeader, headerFields, encodeAnswer, encodeAfter};
 use page::PAGE_SIZE;
+use refusal::Refusal;
 
 // The leading bytes of every main file.
 pub const MAGIC: [u8; 16] = *b"SQLRiteFormat\0\0\0";
@@ -40,8 +41,8 @@ pub fn encode_fields(h: DbHeader) -> [u8; 32]
 // What encoding answers.
 pub enum HeaderEncoded {
     Done,
-    // The buffer does not have a page's length.
-    Short,
+    // Short: the buffer does not have a page's length.
+    Refused(Refusal),
 }
 
 // Writes the header's page into a buffer of a page's length.
@@ -49,7 +50,7 @@ pub fn encode_header(h: DbHeader, buf: &mut [u8]) -> HeaderEncoded
     ensures { λ r. ⌜ (r ≡ encodeAnswer (now (buf .entry))) × (now (buf .exit) ≡ encodeAfter h (now (buf .entry))) ⌝ }
 {
     if buf.len() != PAGE_SIZE {
-        return HeaderEncoded::Short;
+        return HeaderEncoded::Refused(Refusal::Short);
     }
     let fields = encode_fields(h);
     le::write_bytes(buf, 0, &fields);
@@ -60,10 +61,7 @@ pub fn encode_header(h: DbHeader, buf: &mut [u8]) -> HeaderEncoded
 // What decoding answers: the header, or the first of its refusals.
 pub enum HeaderDecoded {
     Header(DbHeader),
-    Short,
-    Magic,
-    Version,
-    PageSize,
+    Refused(Refusal),
 }
 
 // Reads the header from its page.
@@ -71,21 +69,21 @@ pub fn decode_header(buf: &[u8]) -> HeaderDecoded
     ensures { λ r. ⌜ r ≡ decodeHeader (now (buf .entry)) ⌝ }
 {
     if buf.len() != PAGE_SIZE {
-        return HeaderDecoded::Short;
+        return HeaderDecoded::Refused(Refusal::Short);
     }
     if !le::same(le::part(buf, 0, 16), &MAGIC) {
-        return HeaderDecoded::Magic;
+        return HeaderDecoded::Refused(Refusal::Magic);
     }
     let version = le::read_u16(buf, 16);
     if version < FORMAT_VERSION_V4 {
-        return HeaderDecoded::Version;
+        return HeaderDecoded::Refused(Refusal::Version);
     }
     if FORMAT_VERSION_V6 < version {
-        return HeaderDecoded::Version;
+        return HeaderDecoded::Refused(Refusal::Version);
     }
     let page_size = le::read_u16(buf, 18) as usize;
     if page_size != PAGE_SIZE {
-        return HeaderDecoded::PageSize;
+        return HeaderDecoded::Refused(Refusal::PageSize);
     }
     HeaderDecoded::Header(DbHeader {
         page_count: le::read_u32(buf, 20),

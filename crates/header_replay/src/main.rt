@@ -41,10 +41,7 @@ fn answer(case: &[u8]) {
     le::write_bytes(&mut buf, 0, le::part(case, 3, case.len()));
     match header::decode_header(le::part(&buf, 0, len)) {
         HeaderDecoded::Header(h) => accepted(h),
-        HeaderDecoded::Short => refused(2),
-        HeaderDecoded::Magic => refused(3),
-        HeaderDecoded::Version => refused(4),
-        HeaderDecoded::PageSize => refused(5),
+        HeaderDecoded::Refused(row) => refused(refusal::number(row) as u64),
     }
 }
 
@@ -66,7 +63,7 @@ fn accepted(h: DbHeader) {
     let mut page = [0xeeu8; page::PAGE_SIZE];
     match header::encode_header(h, &mut page) {
         HeaderEncoded::Done => print_header(h, &page),
-        HeaderEncoded::Short => wrong(),
+        HeaderEncoded::Refused(_) => wrong(),
     }
 }
 

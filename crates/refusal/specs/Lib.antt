@@ -1,2 +1,3 @@
 -- The root of the definitions of `refusal`.
 pub mod Refusal
+pub mod Headers
