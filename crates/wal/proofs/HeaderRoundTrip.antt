@@ -1,25 +1,23 @@
 -- A header that was encoded decodes to itself; a header that decodes, and what its answer depends on. Assumes nothing.
-use mathlib.Core.Path.{_≡_, refl, sym, ap, _∙_}
-use mathlib.Core.Bool.{Bool, true, false}
+use mathlib.Core.Path.{_≡_, sym, ap, _∙_}
+use mathlib.Core.Bool.{true}
 use mathlib.Core.List.{List, _++_, append-assoc}
 use mathlib.Core.Logic.{⊎-elim}
 use Prim.Native.Nat.{ℕ, zero, suc, _+_, _^_, _≤_, _<_}
 use native.Mathlib.Nat.{zero-add, pow-succ', one-le-pow}
 use native.Mathlib.Omega.{arith}
-use borrow.Author.Tests.{eqb-true, leb-true, le-leb}
-use lib.Dec.{leb, ltb, eqb}
+use borrow.Author.Tests.{eqb-true, leb-true, eq-eqb, le-leb}
+use lib.Dec.{leb}
 use lib.ListN.{length, take, getD, length-append, length-take}
 use lib.Seq.{take-at, take-take, take-append-le}
-use Rattle.le.specs.Choice.{pick, both}
 use Rattle.le.specs.Le.{Bytes, leOf, leBytes, field, sameBytes}
 use Rattle.le.proofs.Tests.{le-or-lt}
 use Rattle.le.proofs.Fields.{field-none, field-cons, length-leBytes, field-front, field-behind, field-part}
-use Rattle.le.proofs.Compare.{no-test, both-true, same-refl, same-equal}
-use Rattle.wal.specs.Header.{walMagic, encodeWalHeader, headerIn, decodeWalHeader, decodeRefusal}
+use Rattle.le.proofs.Compare.{both-true, same-refl, same-equal}
+use Rattle.refusal.proofs.Headers.{read, passed}
+use Rattle.wal.specs.Header.{walMagic, encodeWalHeader, headerIn, walHeaderTests, decodeWalHeader}
 use Rattle.wal.specs.declared.WalHeader.{WalHeader}
-use Rattle.wal.specs.declared.WalHeaderDecoded.{WalHeaderDecoded}
 use Rattle.wal.specs.declared.WalHeaderDecoded.the-variants as decoded
-use Rattle.wal.proofs.Decoding.{read}
 use Rattle.wal.proofs.Encoding.{length-walMagic, length-encodeWalHeader}
 
 -- ---- what was encoded decodes to itself
@@ -85,12 +83,14 @@ module _ (h : WalHeader) (rest : List ℕ) where
   header-back p = rw (version-back, salt-back (p .salt), seq-back (p .seq), clock-back (p .clock), ← p .version)
 
   pub decode-encode : Written h → decodeWalHeader (encodeWalHeader h ++ rest) ≡ decoded.Header h
+  unfolding decodeWalHeader
   decode-encode p =
       let n : 32 ≤ length (encodeWalHeader h ++ rest) = simp (length-append, length-encodeWalHeader) (omega arith) in
       let m : sameBytes (take 8 (encodeWalHeader h ++ rest)) walMagic ≡ true = rw (row, take-at walMagic behind 8 length-walMagic) (same-refl walMagic) in
       let low : 1 ≤ field 4 8 (encodeWalHeader h ++ rest) = rw version-back (omega arith) in
       let high : field 4 8 (encodeWalHeader h ++ rest) ≤ 3 = rw version-back (omega arith) in
-      read (encodeWalHeader h ++ rest) n m low high size-back ∙ ap decoded.Header (header-back p)
+      sym (read decoded.Refused (decoded.Header (headerIn (encodeWalHeader h ++ rest))) (walHeaderTests (encodeWalHeader h ++ rest)) (le-leb _ _ n) m
+      (rw (le-leb _ _ low, le-leb _ _ high)) (eq-eqb _ _ size-back)) ∙ ap decoded.Header (header-back p)
 
 -- ---- what a header that was decoded says of the bytes
 
@@ -102,27 +102,18 @@ pub record Read (l : List ℕ) (h : WalHeader) : Type 0 where
   pub paged : field 4 12 l ≡ 4096
   pub fields : headerIn l ≡ h
 
--- a choice that came out as a header was not the refusal
-chosen : (t : Bool) (x r : WalHeaderDecoded) (h : WalHeader) → ltb 0 (decodeRefusal r) ≡ true → pick t x r ≡ decoded.Header h
-    → (t ≡ true) × (x ≡ decoded.Header h)
-chosen true x r h n e = (refl, e)
-chosen false x r h n e = no-test (sym (ap (λ (d : WalHeaderDecoded). ltb 0 (decodeRefusal d)) e) ∙ n)
-
 pub decoded-as : (l : List ℕ) (h : WalHeader) → decodeWalHeader l ≡ decoded.Header h → Read l h
 unfolding decodeWalHeader
 decoded-as l h e =
-    let a = chosen (leb 32 (length l)) _ decoded.Short h refl e in
-    let b = chosen (sameBytes (take 8 l) walMagic) _ decoded.Magic h refl (a .1) in
-    let v = chosen (both (leb 1 (field 4 8 l)) (leb (field 4 8 l) 3)) _ decoded.Version h refl (b .1) in
-    let s = chosen (eqb (field 4 12 l) 4096) _ decoded.PageSize h refl (v .1) in
-    let w = both-true (leb 1 (field 4 8 l)) (leb (field 4 8 l) 3) (v .0) in
-    let d : decoded.Header (headerIn l) ≡ decoded.Header h = s .1 in
+    let p = passed decoded.Refused (decoded.Header (headerIn l)) (decoded.Header h) (λ r f. let z : _≡_ {A = ℕ} 0 1 = cc in absurd (omega arith)) (walHeaderTests l) e in
+    let w = both-true (leb 1 (field 4 8 l)) (leb (field 4 8 l) 3) (p .version) in
+    let d : decoded.Header (headerIn l) ≡ decoded.Header h = p .same in
     record {
-      long = leb-true _ _ (a .0);
-      leading = same-equal (take 8 l) walMagic (b .0);
+      long = leb-true _ _ (p .long);
+      leading = same-equal (take 8 l) walMagic (p .leading);
       low = leb-true _ _ (w .0);
       high = leb-true _ _ (w .1);
-      paged = eqb-true _ _ (s .0);
+      paged = eqb-true _ _ (p .paged);
       fields = cc;
     }
 

@@ -1,7 +1,7 @@
 -- Document 01's case of lengths: "Lengths 32 and 4,143: no frame; 4,144 and 8,255: at most one; 8,256: at most two". Assumes nothing.
 use mathlib.Core.Path.{_≡_}
 use mathlib.Core.List.{List}
-use Prim.Native.Nat.{ℕ, _-_, _≤_}
+use Prim.Native.Nat.{ℕ, _≤_}
 use native.Mathlib.Omega.{arith}
 use lib.ListN.{length}
 use Rattle.wal.specs.Recovery.{recovered, frameCount}

@@ -1,6 +1,5 @@
 -- The root of the laws of `wal`.
 pub mod Encoding
-pub mod Decoding
 pub mod HeaderRoundTrip
 pub mod Places
 pub mod Frames

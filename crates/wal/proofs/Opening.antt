@@ -9,6 +9,7 @@ use lib.Dec.{leb, eqb}
 use lib.ListN.{length, take, length-append}
 use lib.Seq.{length-take-le}
 use Rattle.le.specs.Choice.{pick}
+use Rattle.refusal.specs.declared.Refusal.the-variants as refusal
 use Rattle.wal.specs.Header.{headerIn, decodeWalHeader}
 use Rattle.wal.specs.Recovery.{chunks, countOf, sealed, lastCount, Recovered, recovered, sealedFrames, goodEnd, commitPoint, lastCommit, frameCount, walOf, walArea, openedBy, openLog}
 use Rattle.wal.specs.Write.{emptyWal, longer, withFrame}
@@ -66,7 +67,7 @@ pub record OpenLog (l : List ℕ) (w : Wal) : Type 0 where
   pub header : decodeWalHeader l ≡ decoded.Header (w .header)
   pub known : w ≡ walOf (length l) (recovered l)
 
-area-of : (t : Bool) (x : WalOpened) (w : Wal) → pick t x opened.Area ≡ opened.Opened w → (t ≡ true) × (x ≡ opened.Opened w)
+area-of : (t : Bool) (x : WalOpened) (w : Wal) → pick t x (opened.Refused refusal.Area) ≡ opened.Opened w → (t ≡ true) × (x ≡ opened.Opened w)
 area-of true x w e = (refl, e)
 area-of false x w e = let z : _≡_ {A = ℕ} 0 1 = cc in absurd (omega arith)
 
@@ -78,10 +79,7 @@ record By (d : WalHeaderDecoded) (v w : Wal) : Type 0 where
 
 opened-by : (d : WalHeaderDecoded) (v w : Wal) → openedBy d v ≡ opened.Opened w → By d v w
 opened-by (decoded.Header h) v w e = let k : v ≡ w = cc in record { found = h; header = refl; same = k }
-opened-by decoded.Short v w e = let z : _≡_ {A = ℕ} 0 1 = cc in absurd (omega arith)
-opened-by decoded.Magic v w e = let z : _≡_ {A = ℕ} 0 1 = cc in absurd (omega arith)
-opened-by decoded.Version v w e = let z : _≡_ {A = ℕ} 0 1 = cc in absurd (omega arith)
-opened-by decoded.PageSize v w e = let z : _≡_ {A = ℕ} 0 1 = cc in absurd (omega arith)
+opened-by (decoded.Refused r) v w e = let z : _≡_ {A = ℕ} 0 1 = cc in absurd (omega arith)
 
 pub open-known : (l : List ℕ) (w : Wal) → openLog l ≡ opened.Opened w → OpenLog l w
 unfolding openLog walOf recovered

@@ -16,6 +16,7 @@ use Rattle.le.proofs.Tests.{le-or-lt}
 use Rattle.mvcc.proofs.Bytes.{bytes-take}
 use Rattle.frame.specs.Frame.{encodeFrame, bodyOf}
 use Rattle.frame.proofs.Stores.{length-encodeFrame}
+use Rattle.refusal.specs.declared.Refusal.the-variants as refusal
 use Rattle.wal.specs.Header.{encodeWalHeader, headerIn}
 use Rattle.wal.specs.Recovery.{chunks, readableAs, good, goodFront, sealed, pageIn, recovered, sealedFrames, walOf, openLog}
 use Rattle.wal.specs.Read.{committed, readPage, batchFrom, nextBatch}
@@ -38,19 +39,19 @@ use Rattle.wal.proofs.Kept.{Kept, keptFrames, kept-known, kept-long, ke
 
 -- ---- what an answer says
 
-created-as : (t : Bool) (x w : Wal) → pick t (created.Created x) created.Area ≡ created.Created w → (t ≡ true) × (x ≡ w)
+created-as : (t : Bool) (x w : Wal) → pick t (created.Created x) (created.Refused refusal.Area) ≡ created.Created w → (t ≡ true) × (x ≡ w)
 created-as true x w e = let h : x ≡ w = cc in (refl, h)
 created-as false x w e = let z : _≡_ {A = ℕ} 0 1 = cc in absurd (omega arith)
 
-truncated-as : (t : Bool) (x w : Wal) → pick t (truncated.Truncated x) truncated.Area ≡ truncated.Truncated w → (t ≡ true) × (x ≡ w)
+truncated-as : (t : Bool) (x w : Wal) → pick t (truncated.Truncated x) (truncated.Refused refusal.Area) ≡ truncated.Truncated w → (t ≡ true) × (x ≡ w)
 truncated-as true x w e = let h : x ≡ w = cc in (refl, h)
 truncated-as false x w e = let z : _≡_ {A = ℕ} 0 1 = cc in absurd (omega arith)
 
-clock-as : (t : Bool) (x w : Wal) → pick t (clock.Set x) clock.Clock ≡ clock.Set w → x ≡ w
+clock-as : (t : Bool) (x w : Wal) → pick t (clock.Set x) (clock.Refused refusal.Clock) ≡ clock.Set w → x ≡ w
 clock-as true x w e = cc
 clock-as false x w e = let z : _≡_ {A = ℕ} 0 1 = cc in absurd (omega arith)
 
-appended-by : (s t : Bool) (x w : Wal) → pick s (pick t (appended.Appended x) appended.LogFull) appended.Area ≡ appended.Appended w
+appended-by : (s t : Bool) (x w : Wal) → pick s (pick t (appended.Appended x) (appended.Refused refusal.LogFull)) (appended.Refused refusal.Area) ≡ appended.Appended w
     → (s ≡ true) × (t ≡ true) × (x ≡ w)
 appended-by true true x w e = let h : x ≡ w = cc in (refl, refl, h)
 appended-by true false x w e = let z : _≡_ {A = ℕ} 0 1 = cc in absurd (omega arith)

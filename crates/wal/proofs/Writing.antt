@@ -11,6 +11,7 @@ use Rattle.le.specs.Le.{put, store}
 use Rattle.le.proofs.Stores.{store-put}
 use Rattle.frame.specs.Frame.{encodeFrame, frameAfter}
 use Rattle.frame.proofs.Stores.{length-encodeFrame}
+use Rattle.refusal.specs.declared.Refusal.the-variants as refusal
 use Rattle.wal.specs.Header.{encodeWalHeader, headerIn, decodeWalHeader}
 use Rattle.wal.specs.Recovery.{chunks, readableAs, good, goodFront, undecodable, countOf, Recovered, recovered, walOf}
 use Rattle.wal.specs.Write.{emptyWal, headed, createdHeader, truncatedHeader, longer, joins, withFrame, appendAnswer, appendAfter}
@@ -41,22 +42,22 @@ module _ (l : List ℕ) (h : WalHeader) where
 -- ---- a frame
 
 module _ (l : List ℕ) (w : Wal) (page : ℕ) (body : List ℕ) (count : ℕ) where
-  pub body-refused : (length body ≡ 4096 → ⊥) → (appended.Area ≡ appendAnswer l w page body count) × (l ≡ appendAfter l w page body count)
+  pub body-refused : (length body ≡ 4096 → ⊥) → (appended.Refused refusal.Area ≡ appendAnswer l w page body count) × (l ≡ appendAfter l w page body count)
   unfolding appendAnswer appendAfter
   body-refused n = (rw (ne-eqb _ _ n), rw (ne-eqb _ _ n))
 
   module _ (nb : length body ≡ 4096) where
-    pub area-refused : (length l ≡ 4210720 → ⊥) → (appended.Area ≡ appendAnswer l w page body count) × (l ≡ appendAfter l w page body count)
+    pub area-refused : (length l ≡ 4210720 → ⊥) → (appended.Refused refusal.Area ≡ appendAnswer l w page body count) × (l ≡ appendAfter l w page body count)
     unfolding appendAnswer appendAfter
     area-refused n = (rw (eq-eqb _ _ nb, ne-eqb _ _ n), rw (eq-eqb _ _ nb, ne-eqb _ _ n))
 
     pub length-refused : length l ≡ 4210720 → 4210720 < w .len
-        → (appended.Area ≡ appendAnswer l w page body count) × (l ≡ appendAfter l w page body count)
+        → (appended.Refused refusal.Area ≡ appendAnswer l w page body count) × (l ≡ appendAfter l w page body count)
     unfolding appendAnswer appendAfter
     length-refused n h = (rw (eq-eqb _ _ nb, eq-eqb _ _ n, lt-leb _ _ h), rw (eq-eqb _ _ nb, eq-eqb _ _ n, lt-leb _ _ h))
 
     pub log-full : length l ≡ 4210720 → w .len ≤ 4210720 → 4210720 < w .len + 4112
-        → (appended.LogFull ≡ appendAnswer l w page body count) × (l ≡ appendAfter l w page body count)
+        → (appended.Refused refusal.LogFull ≡ appendAnswer l w page body count) × (l ≡ appendAfter l w page body count)
     unfolding appendAnswer appendAfter
     log-full n h k =
         (rw (eq-eqb _ _ nb, eq-eqb _ _ n, le-leb _ _ h, lt-leb _ _ k), rw (eq-eqb _ _ nb, eq-eqb _ _ n, le-leb _ _ h, lt-leb _ _ k))

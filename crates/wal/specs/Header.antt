@@ -4,9 +4,11 @@ use mathlib.Core.List.{List, [], _∷_, _++_}
 use Prim.Native.Nat.{ℕ}
 use lib.Dec.{leb, eqb}
 use lib.ListN.{length, take}
-use Rattle.le.specs.Choice.{pick, both}
+use Rattle.le.specs.Choice.{both}
 use Rattle.le.specs.Le.{leBytes, field, sameBytes}
 use Rattle.page.specs.Page.{pageSize}
+use Rattle.refusal.specs.Refusal.{answered}
+use Rattle.refusal.specs.Headers.{Tests, headerRefusal}
 use Rattle.wal.specs.declared.WalHeader.{WalHeader}
 use Rattle.wal.specs.declared.WalHeaderDecoded.{WalHeaderDecoded}
 use Rattle.wal.specs.declared.WalHeaderDecoded.the-variants as decoded
@@ -43,23 +45,15 @@ headerIn l =
 abbrev pub isWalVersion : ℕ → Bool
 isWalVersion v = both (leb 1 v) (leb v 3)
 
--- refusals in the order of their numbers: "log under 32", "wrong leading bytes", "not .. 1..3 (log)", "not 4,096"
-unfoldable pub decodeWalHeader : List ℕ → WalHeaderDecoded
-decodeWalHeader l =
-    pick (leb headerSize (length l))
-    (pick (sameBytes (take 8 l) walMagic)
-    (pick (isWalVersion (field 4 8 l))
-    (pick (eqb (field 4 12 l) pageSize)
-    (decoded.Header (headerIn l))
-    decoded.PageSize)
-    decoded.Version)
-    decoded.Magic)
-    decoded.Short
+-- "log under 32", "wrong leading bytes", "not .. 1..3 (log)", "not 4,096"
+abbrev pub walHeaderTests : List ℕ → Tests
+walHeaderTests l =
+    record {
+      long = leb headerSize (length l);
+      leading = sameBytes (take 8 l) walMagic;
+      version = isWalVersion (field 4 8 l);
+      paged = eqb (field 4 12 l) pageSize;
+    }
 
--- document 01's numbers; 0 is a header
-abbrev pub decodeRefusal : WalHeaderDecoded → ℕ
-decodeRefusal (decoded.Header h) = 0
-decodeRefusal decoded.Short = 2
-decodeRefusal decoded.Magic = 3
-decodeRefusal decoded.Version = 4
-decodeRefusal decoded.PageSize = 5
+unfoldable pub decodeWalHeader : List ℕ → WalHeaderDecoded
+decodeWalHeader l = answered decoded.Refused (decoded.Header (headerIn l)) (headerRefusal (walHeaderTests l))

@@ -8,6 +8,7 @@ use lib.ListN.{length, take, drop}
 use Rattle.le.specs.Choice.{pick, both}
 use Rattle.frame.specs.Frame.{frameSize, frameAt, headerOf, bodyOf, isCommit, intact, intactAt}
 use Rattle.mvcc.specs.Seen.{decodes}
+use Rattle.refusal.specs.declared.Refusal.the-variants as refusal
 use Rattle.wal.specs.Header.{headerSize, headerIn, decodeWalHeader}
 use Rattle.wal.specs.declared.WalHeader.{WalHeader}
 use Rattle.wal.specs.declared.WalHeaderDecoded.{WalHeaderDecoded}
@@ -165,20 +166,8 @@ walArea = 4210720
 -- the header's refusals, else the log
 abbrev pub openedBy : WalHeaderDecoded → Wal → WalOpened
 openedBy (decoded.Header h) w = opened.Opened w
-openedBy decoded.Short w = opened.Short
-openedBy decoded.Magic w = opened.Magic
-openedBy decoded.Version w = opened.Version
-openedBy decoded.PageSize w = opened.PageSize
+openedBy (decoded.Refused r) w = opened.Refused r
 
 -- "a log read without the pager may be any bytes up to the log area's length": longer is refusal 1, then come the header's
 unfoldable pub openLog : List ℕ → WalOpened
-openLog l = pick (leb (length l) walArea) (openedBy (decodeWalHeader l) (walOf (length l) (recovered l))) opened.Area
-
--- document 01's numbers; 0 is an open log
-abbrev pub openRefusal : WalOpened → ℕ
-openRefusal (opened.Opened w) = 0
-openRefusal opened.Area = 1
-openRefusal opened.Short = 2
-openRefusal opened.Magic = 3
-openRefusal opened.Version = 4
-openRefusal opened.PageSize = 5
+openLog l = pick (leb (length l) walArea) (openedBy (decodeWalHeader l) (walOf (length l) (recovered l))) (opened.Refused refusal.Area)

@@ -1,4 +1,4 @@
--- What creating, truncating, appending and setting the clock answer and leave. In a refusal's number 0 is none.
+-- What creating, truncating, appending and setting the clock answer and leave.
 use mathlib.Core.Bool.{Bool, true, not}
 use mathlib.Core.List.{List}
 use Prim.Native.Nat.{ℕ, _+_, _%_, _^_}
@@ -8,6 +8,7 @@ use Rattle.le.specs.Choice.{pick, both}
 use Rattle.le.specs.Le.{put}
 use Rattle.page.specs.Page.{pageSize}
 use Rattle.frame.specs.Frame.{frameSize, encodeFrame}
+use Rattle.refusal.specs.declared.Refusal.the-variants as refusal
 use Rattle.wal.specs.Header.{headerSize, walVersion, encodeWalHeader}
 use Rattle.wal.specs.Recovery.{readableAs, walArea}
 use Rattle.wal.specs.declared.WalHeader.{WalHeader}
@@ -46,14 +47,10 @@ createdHeader salt = record { version = walVersion; salt = salt; «checkpoint_se
 
 -- refusal 1: "a wrong area length"
 unfoldable pub createAnswer : List ℕ → ℕ → WalCreated
-createAnswer l salt = pick (eqb (length l) walArea) (created.Created (emptyWal (createdHeader salt))) created.Area
+createAnswer l salt = pick (eqb (length l) walArea) (created.Created (emptyWal (createdHeader salt))) (created.Refused refusal.Area)
 
 abbrev pub createAfter : List ℕ → ℕ → List ℕ
 createAfter l salt = headed l (createdHeader salt)
-
-abbrev pub createRefusal : WalCreated → ℕ
-createRefusal (created.Created w) = 0
-createRefusal created.Area = 1
 
 -- refusal 1 of a log that is lent with its area: "a wrong area length, or a file length above its area"
 abbrev pub areaFine : List ℕ → Wal → Bool
@@ -71,14 +68,10 @@ truncatedHeader h salt =
 
 unfoldable pub truncateAnswer : List ℕ → Wal → ℕ → WalTruncated
 truncateAnswer l w salt =
-    pick (areaFine l w) (truncated.Truncated (emptyWal (truncatedHeader (w .header) salt))) truncated.Area
+    pick (areaFine l w) (truncated.Truncated (emptyWal (truncatedHeader (w .header) salt))) (truncated.Refused refusal.Area)
 
 unfoldable pub truncateAfter : List ℕ → Wal → ℕ → List ℕ
 truncateAfter l w salt = pick (areaFine l w) (headed l (truncatedHeader (w .header) salt)) l
-
-abbrev pub truncateRefusal : WalTruncated → ℕ
-truncateRefusal (truncated.Truncated w) = 0
-truncateRefusal truncated.Area = 1
 
 -- ---- one frame more
 
@@ -119,18 +112,13 @@ appendAnswer l w page body count =
     pick (appendable l w body)
     (pick (hasRoom w)
     (appended.Appended (longer (joins w (readableAs page body)) w count))
-    appended.LogFull)
-    appended.Area
+    (appended.Refused refusal.LogFull))
+    (appended.Refused refusal.Area)
 
 -- "An added frame lands at the log's length, even where a torn tail leaves that off the frame places"
 unfoldable pub appendAfter : List ℕ → Wal → ℕ → List ℕ → ℕ → List ℕ
 appendAfter l w page body count =
     pick (both (appendable l w body) (hasRoom w)) (put l (w .len) (encodeFrame page count (w .header .salt) body)) l
-
-abbrev pub appendRefusal : FrameAppended → ℕ
-appendRefusal (appended.Appended w) = 0
-appendRefusal appended.Area = 1
-appendRefusal appended.LogFull = 15
 
 -- ---- the clock
 
@@ -150,8 +138,4 @@ withClock w value =
 
 -- 16: "set below the present clock"
 unfoldable pub clockAnswer : Wal → ℕ → ClockSet
-clockAnswer w value = pick (leb (w .header .«clock_high_water») value) (clock.Set (withClock w value)) clock.Clock
-
-abbrev pub clockRefusal : ClockSet → ℕ
-clockRefusal (clock.Set w) = 0
-clockRefusal clock.Clock = 16
+clockAnswer w value = pick (leb (w .header .«clock_high_water») value) (clock.Set (withClock w value)) (clock.Refused refusal.Clock)

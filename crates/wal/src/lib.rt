@@ -19,6 +19,7 @@ use frame::FrameHeader;
 use le::Stored;
 use mvcc::MVCC_FRAME_MARKER;
 use page::PAGE_SIZE;
+use refusal::Refusal;
 
 pub const WAL_HEADER_SIZE: usize = 32;
 
@@ -59,10 +60,7 @@ pub fn encode_wal_header(h: WalHeader, log: &mut [u8]) -> Stored
 // What decoding answers: the header, or the first of its refusals.
 pub enum WalHeaderDecoded {
     Header(WalHeader),
-    Short,
-    Magic,
-    Version,
-    PageSize,
+    Refused(Refusal),
 }
 
 // Reads the header from the log's start.
@@ -70,21 +68,21 @@ pub fn decode_wal_header(log: &[u8]) -> WalHeaderDecoded
     ensures { λ r. ⌜ r ≡ decodeWalHeader (now (log .entry)) ⌝ }
 {
     if log.len() < WAL_HEADER_SIZE {
-        return WalHeaderDecoded::Short;
+        return WalHeaderDecoded::Refused(Refusal::Short);
     }
     if !le::same(le::part(log, 0, 8), &WAL_MAGIC) {
-        return WalHeaderDecoded::Magic;
+        return WalHeaderDecoded::Refused(Refusal::Magic);
     }
     let version = le::read_u32(log, 8);
     if version < WAL_FORMAT_VERSION_MIN_SUPPORTED {
-        return WalHeaderDecoded::Version;
+        return WalHeaderDecoded::Refused(Refusal::Version);
     }
     if WAL_FORMAT_VERSION < version {
-        return WalHeaderDecoded::Version;
+        return WalHeaderDecoded::Refused(Refusal::Version);
     }
     let page_size = le::read_u32(log, 12) as usize;
     if page_size != PAGE_SIZE {
-        return WalHeaderDecoded::PageSize;
+        return WalHeaderDecoded::Refused(Refusal::PageSize);
     }
     WalHeaderDecoded::Header(WalHeader {
         version,
@@ -117,11 +115,7 @@ pub struct Wal {
 // What opening answers: the open log, or the first of its refusals.
 pub enum WalOpened {
     Opened(Wal),
-    Area,
-    Short,
-    Magic,
-    Version,
-    PageSize,
+    Refused(Refusal),
 }
 
 fn both(a: bool, b: bool) -> bool
@@ -198,14 +192,11 @@ impl Wal {
         ensures { λ r. ⌜ r ≡ openLog (now (file .entry)) ⌝ }
     {
         if WAL_AREA < file.len() {
-            return WalOpened::Area;
+            return WalOpened::Refused(Refusal::Area);
         }
         match decode_wal_header(file) {
             WalHeaderDecoded::Header(header) => WalOpened::Opened(replay_frames(file, header)),
-            WalHeaderDecoded::Short => WalOpened::Short,
-            WalHeaderDecoded::Magic => WalOpened::Magic,
-            WalHeaderDecoded::Version => WalOpened::Version,
-            WalHeaderDecoded::PageSize => WalOpened::PageSize,
+            WalHeaderDecoded::Refused(row) => WalOpened::Refused(row),
         }
     }
 }
@@ -354,7 +345,7 @@ pub fn next_batch(file: &[u8], wal: Wal, index: usize) -> BatchFound
 // What creating answers.
 pub enum WalCreated {
     Created(Wal),
-    Area,
+    Refused(Refusal),
 }
 
 // Makes the area a log without frames.
@@ -362,7 +353,7 @@ pub fn create(log: &mut [u8], salt: u32) -> WalCreated
     ensures { λ r. ⌜ (r ≡ createAnswer (now (log .entry)) salt) × (now (log .exit) ≡ createAfter (now (log .entry)) salt) ⌝ }
 {
     if log.len() != WAL_AREA {
-        return WalCreated::Area;
+        return WalCreated::Refused(Refusal::Area);
     }
     let header = WalHeader {
         version: WAL_FORMAT_VERSION,
@@ -377,7 +368,7 @@ pub fn create(log: &mut [u8], salt: u32) -> WalCreated
 // What truncating answers.
 pub enum WalTruncated {
     Truncated(Wal),
-    Area,
+    Refused(Refusal),
 }
 
 // Takes the log back to its header, with the next sequence and a new salt. The bytes behind stay in the area.
@@ -385,10 +376,10 @@ pub fn truncate(log: &mut [u8], wal: Wal, salt: u32) -> WalTruncated
     ensures { λ r. ⌜ (r ≡ truncateAnswer (now (log .entry)) wal salt) × (now (log .exit) ≡ truncateAfter (now (log .entry)) wal salt) ⌝ }
 {
     if log.len() != WAL_AREA {
-        return WalTruncated::Area;
+        return WalTruncated::Refused(Refusal::Area);
     }
     if WAL_AREA < wal.len {
-        return WalTruncated::Area;
+        return WalTruncated::Refused(Refusal::Area);
     }
     let old = wal.header;
     let header = WalHeader {
@@ -404,8 +395,7 @@ pub fn truncate(log: &mut [u8], wal: Wal, salt: u32) -> WalTruncated
 // What appending answers.
 pub enum FrameAppended {
     Appended(Wal),
-    Area,
-    LogFull,
+    Refused(Refusal),
 }
 
 // Stores a frame at the log's length; a nonzero count seals.
@@ -419,16 +409,16 @@ pub fn append_frame(
     ensures { λ r. ⌜ (r ≡ appendAnswer (now (log .entry)) wal «page_num» (now (content .entry)) «commit_page_count») × (now (log .exit) ≡ appendAfter (now (log .entry)) wal «page_num» (now (content .entry)) «commit_page_count») ⌝ }
 {
     if content.len() != PAGE_SIZE {
-        return FrameAppended::Area;
+        return FrameAppended::Refused(Refusal::Area);
     }
     if log.len() != WAL_AREA {
-        return FrameAppended::Area;
+        return FrameAppended::Refused(Refusal::Area);
     }
     if WAL_AREA < wal.len {
-        return FrameAppended::Area;
+        return FrameAppended::Refused(Refusal::Area);
     }
     if WAL_AREA - wal.len < FRAME_SIZE {
-        return FrameAppended::LogFull;
+        return FrameAppended::Refused(Refusal::LogFull);
     }
     let header = wal.header;
     frame::write_frame(
@@ -453,16 +443,16 @@ pub fn append_page_zero(
     ensures { λ r. ⌜ (r ≡ appendAnswer (now (log .entry)) wal 0 (frontPage (now (front .entry))) «commit_page_count») × (now (log .exit) ≡ appendAfter (now (log .entry)) wal 0 (frontPage (now (front .entry))) «commit_page_count») ⌝ }
 {
     if front.len() != 32 {
-        return FrameAppended::Area;
+        return FrameAppended::Refused(Refusal::Area);
     }
     if log.len() != WAL_AREA {
-        return FrameAppended::Area;
+        return FrameAppended::Refused(Refusal::Area);
     }
     if WAL_AREA < wal.len {
-        return FrameAppended::Area;
+        return FrameAppended::Refused(Refusal::Area);
     }
     if WAL_AREA - wal.len < FRAME_SIZE {
-        return FrameAppended::LogFull;
+        return FrameAppended::Refused(Refusal::LogFull);
     }
     let header = wal.header;
     frame::write_padded_frame(log, wal.len, 0, commit_page_count, header.salt, front);
@@ -472,7 +462,7 @@ pub fn append_page_zero(
 // What setting the clock answers.
 pub enum ClockSet {
     Set(Wal),
-    Clock,
+    Refused(Refusal),
 }
 
 // The log with a clock that is not below its own.
@@ -481,7 +471,7 @@ pub fn set_clock_high_water(wal: Wal, value: u64) -> ClockSet
 {
     let mut header = wal.header;
     if value < header.clock_high_water {
-        return ClockSet::Clock;
+        return ClockSet::Refused(Refusal::Clock);
     }
     header.clock_high_water = value;
     let last_commit_page_count = wal.last_commit_page_count;

@@ -1,4 +1,3 @@
-use Prim.Native.Nat.{_-_}
 use borrow.Author.Needs.{needs}
 use Rattle.wal.specs.Read.{nextBatch}
 use Rattle.wal.proofs.next_batch.Statement.{statement}

@@ -1,4 +1,3 @@
-use Prim.Native.Nat.{_-_}
 use borrow.Author.Tests.{le-leb, lt-leb}
 use Rattle.wal.specs.Write.{withClock, clockAnswer}
 use Rattle.wal.proofs.set_clock_high_water.Statement.{statement}

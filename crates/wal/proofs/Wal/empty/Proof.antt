@@ -1,5 +1,4 @@
 use mathlib.Core.Path.{refl}
-use Prim.Native.Nat.{_-_}
 use Rattle.wal.specs.Write.{emptyWal}
 use Rattle.wal.proofs.Wal.empty.Statement.{statement}
 use Rattle.wal.proofs.Wal.empty.Tie as tie

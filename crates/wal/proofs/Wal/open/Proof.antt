@@ -1,5 +1,4 @@
 use mathlib.Core.Path.{_≡_, sym, _∙_}
-use Prim.Native.Nat.{_-_}
 use denote.Ref.{now}
 use borrow.Author.Needs.{needs}
 use borrow.Author.Tests.{lt-leb}
@@ -31,23 +30,8 @@ returns-2 c =
 
 returns-3 : tie.Need-returns-3
 returns-3 c =
-    let d = c .before .before in
-    opened-as (now (d .before .before .before .args .file)) (d .before .if1 .left) (sym (d .decode-wal-header .ensures) ∙ c .enum-told .given .1)
-
-returns-4 : tie.Need-returns-4
-returns-4 c =
-    let d = c .before .before in
-    opened-as (now (d .before .before .before .args .file)) (d .before .if1 .left) (sym (d .decode-wal-header .ensures) ∙ c .enum-told2 .given .1)
-
-returns-5 : tie.Need-returns-5
-returns-5 c =
-    let d = c .before .before in
-    opened-as (now (d .before .before .before .args .file)) (d .before .if1 .left) (sym (d .decode-wal-header .ensures) ∙ c .enum-told3 .given .1)
-
-returns-6 : tie.Need-returns-6
-returns-6 c =
-    let d = c .before .before in
-    opened-as (now (d .before .before .before .args .file)) (d .before .if1 .left) (sym (d .decode-wal-header .ensures) ∙ c .enum-told4 .given .1)
+    let d = c .before .before .before in
+    opened-as (now (d .before .before .before .args .file)) (d .before .if1 .left) (sym (d .decode-wal-header .ensures) ∙ c .before .row .given .1)
 
 pub open-spec : {M : Type 1} → statement M
-open-spec = tie.close (tie.spec returns (search needs) (search needs) replay-frames-requires (search needs) (search needs) (search needs) (search needs) returns-2 returns-3 returns-4 returns-5 returns-6)
+open-spec = tie.close (tie.spec returns (search needs) (search needs) replay-frames-requires (search needs) returns-2 returns-3)
