@@ -1,11 +1,6 @@
 // The answers of the store's calls in numbers: document 01's refusal or 0, what the call gives, and the store after it.
 ghost use mathlib.Core.Path.{_≡_};
-ghost use Rattle.pager_state.specs.Staging.{stageRefusal, clearRefusal};
-ghost use Rattle.pager_state.specs.Queries.{observeRefusal};
-ghost use Rattle.pager_state.specs.Batches.{appendRefusal};
-ghost use Rattle.pager_state.specs.Opening.{createRefusal};
-ghost use Rattle.pager_state.specs.Steps.{isBegun, commitRefusal, isFolding, checkpointRefusal};
-ghost use Rattle.capi_answers.specs.Answers.{flagIn, flagOf, told, modeIn, createdAs, openNumber, headerAs, number, modeOf, modeAs, clockAs, observedAs, page, foundAs, place, recoveredAs, stagedAs, clearedAs, appendedAs, lowest, commitBegunAs, foldBegunAs, committedRefusal, committedNumber, committedAs, writtenRefusal, writtenNumber, writtenAs, fileOf, stored, noStep, steppedAs};
+ghost use Rattle.capi_answers.specs.Answers.{flagIn, flagOf, told, refusedAs, modeIn, createdAs, openedAs, headerAs, number, modeOf, modeAs, clockAs, observedAs, page, foundAs, place, recoveredAs, stagedAs, clearedAs, appendedAs, commitBegunAs, foldBegunAs, committedAs, writtenAs, fileOf, stored, noStep, steppedAs};
 use capi_numbers::Store;
 use capi_numbers::no_header;
 use capi_numbers::store_of;
@@ -42,6 +37,7 @@ use pager_state::StageAnswer;
 use pager_state::StagedCleared;
 use pager_state::StepAnswer;
 use pager_state::Stepped;
+use refusal::Refusal;
 use wal::WAL_AREA;
 
 // What a call answers that may change the store. Where it is refused, the store that was given; creation and openings are given none, and
@@ -112,6 +108,18 @@ fn told(refusal: u32, begun: u32, answer: usize, pager: Pager) -> Answered
     }
 }
 
+// A refusal, beside 14 with the lowest page; the store as the call left it.
+fn refused(refusal: Refusal, pager: Pager) -> Answered
+    ensures { λ r. ⌜ r ≡ refusedAs refusal pager ⌝ }
+{
+    told(
+        refusal::number(refusal),
+        0,
+        refusal::lowest_page(refusal),
+        pager,
+    )
+}
+
 // 0 is no, any other number yes.
 pub fn flag_in(n: u32) -> bool
     ensures { λ r. ⌜ r ≡ flagIn n ⌝ }
@@ -137,46 +145,26 @@ pub fn mode_in(n: u32) -> AccessMode
     AccessMode::ReadOnly
 }
 
-fn create_refusal(a: CreateAnswer) -> u32
-    ensures { λ r. ⌜ r ≡ createRefusal a ⌝ }
-{
-    match a {
-        CreateAnswer::Created => 0,
-        CreateAnswer::Area => 1,
-    }
-}
-
 pub fn created_as(call: PagerCreated) -> Answered
-    ensures { λ r. ⌜ r ≡ createdAs call ⌝ }
+    ensures { λ r. ⌜ r ≡ createdAs (call .answer) (call .pager) ⌝ }
 {
     let a = call.answer;
     let p = call.pager;
-    told(create_refusal(a), 0, 0, p)
-}
-
-fn open_number(a: OpenAnswer) -> u32
-    ensures { λ r. ⌜ r ≡ openNumber a ⌝ }
-{
     match a {
-        OpenAnswer::Opened => 0,
-        OpenAnswer::Area => 1,
-        OpenAnswer::Short => 2,
-        OpenAnswer::Magic => 3,
-        OpenAnswer::Version => 4,
-        OpenAnswer::PageSize => 5,
-        OpenAnswer::Limit => 6,
-        OpenAnswer::MainShort => 7,
-        OpenAnswer::PageZero => 8,
-        OpenAnswer::ReadOnly => 10,
+        CreateAnswer::Created => told(0, 0, 0, p),
+        CreateAnswer::Refused(refusal) => refused(refusal, p),
     }
 }
 
 pub fn opened_as(call: PagerOpened) -> Answered
-    ensures { λ r. ⌜ r ≡ told (openNumber (call .answer)) 0 0 (call .pager) ⌝ }
+    ensures { λ r. ⌜ r ≡ openedAs (call .answer) (call .pager) ⌝ }
 {
     let a = call.answer;
     let p = call.pager;
-    told(open_number(a), 0, 0, p)
+    match a {
+        OpenAnswer::Opened => told(0, 0, 0, p),
+        OpenAnswer::Refused(refusal) => refused(refusal, p),
+    }
 }
 
 // ---- queries
@@ -186,8 +174,8 @@ pub fn header_as(a: HeaderRead) -> HeaderAnswer
 {
     match a {
         HeaderRead::Header(header) => HeaderAnswer { refusal: 0, header },
-        HeaderRead::Busy => HeaderAnswer {
-            refusal: 9,
+        HeaderRead::Refused(refusal) => HeaderAnswer {
+            refusal: refusal::number(refusal),
             header: no_header(),
         },
     }
@@ -213,7 +201,7 @@ pub fn mode_as(a: ModeRead) -> NumberAnswer
 {
     match a {
         ModeRead::Mode(m) => number(0, mode_of(m)),
-        ModeRead::Busy => number(9, 0),
+        ModeRead::Refused(refusal) => number(refusal::number(refusal), 0),
     }
 }
 
@@ -222,25 +210,19 @@ pub fn clock_as(a: ClockRead) -> NumberAnswer
 {
     match a {
         ClockRead::Clock(clock) => number(0, clock),
-        ClockRead::Busy => number(9, 0),
-    }
-}
-
-fn observe_refusal(a: ObserveAnswer) -> u32
-    ensures { λ r. ⌜ r ≡ observeRefusal a ⌝ }
-{
-    match a {
-        ObserveAnswer::Observed => 0,
-        ObserveAnswer::Busy => 9,
+        ClockRead::Refused(refusal) => number(refusal::number(refusal), 0),
     }
 }
 
 pub fn observed_as(call: ClockObserved) -> Answered
-    ensures { λ r. ⌜ r ≡ observedAs call ⌝ }
+    ensures { λ r. ⌜ r ≡ observedAs (call .answer) (call .pager) ⌝ }
 {
     let a = call.answer;
     let p = call.pager;
-    told(observe_refusal(a), 0, 0, p)
+    match a {
+        ObserveAnswer::Observed => told(0, 0, 0, p),
+        ObserveAnswer::Refused(refusal) => refused(refusal, p),
+    }
 }
 
 // ---- pages and batches
@@ -256,7 +238,7 @@ fn in_log(at: usize) -> PageAnswer
     ensures { λ r. ⌜ r ≡ foundAs (PageFound.Log at) ⌝ }
 {
     if WAL_AREA - PAGE_SIZE < at {
-        return page(1, 0, 0);
+        return page(refusal::number(Refusal::Area), 0, 0);
     }
     page(0, 1, at)
 }
@@ -269,8 +251,7 @@ pub fn found_as(f: PageFound) -> PageAnswer
         PageFound::Log(at) => in_log(at),
         PageFound::Main(at) => page(0, 2, at),
         PageFound::Nothing => page(0, 0, 0),
-        PageFound::Area => page(1, 0, 0),
-        PageFound::Busy => page(9, 0, 0),
+        PageFound::Refused(refusal) => page(refusal::number(refusal), 0, 0),
     }
 }
 
@@ -291,156 +272,66 @@ pub fn recovered_as(f: RecoveredFound) -> BatchPlace
     match f {
         RecoveredFound::Batch { index, offset } => place(0, 1, index, offset),
         RecoveredFound::Nothing => place(0, 0, 0, 0),
-        RecoveredFound::Area => place(1, 0, 0, 0),
-        RecoveredFound::Busy => place(9, 0, 0, 0),
-    }
-}
-
-pub fn stage_refusal(a: StageAnswer) -> u32
-    ensures { λ r. ⌜ r ≡ stageRefusal a ⌝ }
-{
-    match a {
-        StageAnswer::Staged => 0,
-        StageAnswer::Area => 1,
-        StageAnswer::Busy => 9,
-        StageAnswer::Page => 11,
-        StageAnswer::Staging => 12,
+        RecoveredFound::Refused(refusal) => place(refusal::number(refusal), 0, 0, 0),
     }
 }
 
 pub fn staged_as(call: PageStaged) -> Answered
-    ensures { λ r. ⌜ r ≡ stagedAs call ⌝ }
+    ensures { λ r. ⌜ r ≡ stagedAs (call .answer) (call .pager) ⌝ }
 {
     let a = call.answer;
     let p = call.pager;
-    told(stage_refusal(a), 0, 0, p)
-}
-
-fn clear_refusal(a: ClearAnswer) -> u32
-    ensures { λ r. ⌜ r ≡ clearRefusal a ⌝ }
-{
     match a {
-        ClearAnswer::Cleared => 0,
-        ClearAnswer::Busy => 9,
+        StageAnswer::Staged => told(0, 0, 0, p),
+        StageAnswer::Refused(refusal) => refused(refusal, p),
     }
 }
 
 pub fn cleared_as(call: StagedCleared) -> Answered
-    ensures { λ r. ⌜ r ≡ clearedAs call ⌝ }
+    ensures { λ r. ⌜ r ≡ clearedAs (call .answer) (call .pager) ⌝ }
 {
     let a = call.answer;
     let p = call.pager;
-    told(clear_refusal(a), 0, 0, p)
-}
-
-fn append_refusal(a: BatchAnswer) -> u32
-    ensures { λ r. ⌜ r ≡ appendRefusal a ⌝ }
-{
     match a {
-        BatchAnswer::Appended => 0,
-        BatchAnswer::Area => 1,
-        BatchAnswer::Short => 2,
-        BatchAnswer::Magic => 3,
-        BatchAnswer::Busy => 9,
-        BatchAnswer::ReadOnly => 10,
-        BatchAnswer::LogFull => 15,
-        BatchAnswer::Truncated => 17,
-        BatchAnswer::Tag => 18,
-        BatchAnswer::Text => 19,
+        ClearAnswer::Cleared => told(0, 0, 0, p),
+        ClearAnswer::Refused(refusal) => refused(refusal, p),
     }
 }
 
 pub fn appended_as(call: PagerAppended) -> Answered
-    ensures { λ r. ⌜ r ≡ appendedAs call ⌝ }
+    ensures { λ r. ⌜ r ≡ appendedAs (call .answer) (call .pager) ⌝ }
 {
     let a = call.answer;
     let p = call.pager;
-    told(append_refusal(a), 0, 0, p)
+    match a {
+        BatchAnswer::Appended => told(0, 0, 0, p),
+        BatchAnswer::Refused(refusal) => refused(refusal, p),
+    }
 }
 
 // ---- commit and fold, begun
 
-fn commit_refusal(a: CommitStart) -> u32
-    ensures { λ r. ⌜ r ≡ commitRefusal a ⌝ }
-{
-    match a {
-        CommitStart::Begun => 0,
-        CommitStart::Area => 1,
-        CommitStart::Busy => 9,
-        CommitStart::ReadOnly => 10,
-        CommitStart::NewHeader => 13,
-        CommitStart::Joining(_) => 14,
-        CommitStart::LogFull => 15,
-    }
-}
-
-fn commit_begun(a: CommitStart) -> u32
-    ensures { λ r. ⌜ r ≡ flagOf (isBegun a) ⌝ }
-{
-    match a {
-        CommitStart::Begun => 1,
-        CommitStart::Area => 0,
-        CommitStart::Busy => 0,
-        CommitStart::ReadOnly => 0,
-        CommitStart::NewHeader => 0,
-        CommitStart::Joining(_) => 0,
-        CommitStart::LogFull => 0,
-    }
-}
-
-// The lowest page that is missing, beside refusal 14.
-fn lowest(a: CommitStart) -> usize
-    ensures { λ r. ⌜ r ≡ lowest a ⌝ }
-{
-    match a {
-        CommitStart::Begun => 0,
-        CommitStart::Area => 0,
-        CommitStart::Busy => 0,
-        CommitStart::ReadOnly => 0,
-        CommitStart::NewHeader => 0,
-        CommitStart::Joining(page) => page,
-        CommitStart::LogFull => 0,
-    }
-}
-
 pub fn commit_begun_as(call: CommitStarted) -> Answered
-    ensures { λ r. ⌜ r ≡ commitBegunAs call ⌝ }
+    ensures { λ r. ⌜ r ≡ commitBegunAs (call .answer) (call .pager) ⌝ }
 {
     let a = call.answer;
     let p = call.pager;
-    told(commit_refusal(a), commit_begun(a), lowest(a), p)
-}
-
-fn checkpoint_refusal(a: CheckpointStart) -> u32
-    ensures { λ r. ⌜ r ≡ checkpointRefusal a ⌝ }
-{
     match a {
-        CheckpointStart::Begun => 0,
-        CheckpointStart::Nothing => 0,
-        CheckpointStart::Area => 1,
-        CheckpointStart::Busy => 9,
-        CheckpointStart::ReadOnly => 10,
-    }
-}
-
-fn fold_begun(a: CheckpointStart) -> u32
-    ensures { λ r. ⌜ r ≡ flagOf (isFolding a) ⌝ }
-{
-    match a {
-        CheckpointStart::Begun => 1,
-        CheckpointStart::Nothing => 0,
-        CheckpointStart::Area => 0,
-        CheckpointStart::Busy => 0,
-        CheckpointStart::ReadOnly => 0,
+        CommitStart::Begun => told(0, 1, 0, p),
+        CommitStart::Refused(refusal) => refused(refusal, p),
     }
 }
 
 pub fn fold_begun_as(call: CheckpointStarted) -> Answered
-    ensures { λ r. ⌜ r ≡ foldBegunAs call ⌝ }
+    ensures { λ r. ⌜ r ≡ foldBegunAs (call .answer) (call .pager) ⌝ }
 {
     let a = call.answer;
     let p = call.pager;
-    told(checkpoint_refusal(a), fold_begun(a), 0, p)
+    match a {
+        CheckpointStart::Begun => told(0, 1, 0, p),
+        CheckpointStart::Nothing => told(0, 0, 0, p),
+        CheckpointStart::Refused(refusal) => refused(refusal, p),
+    }
 }
 
 // ---- the next step
@@ -492,69 +383,22 @@ pub fn stepped_as(call: Stepped) -> StepAnswered
     let p = call.pager;
     match a {
         StepAnswer::Idle => no_step(0, p),
-        StepAnswer::Area => no_step(1, p),
         StepAnswer::Stored(place) => stored(1, place, 0, p),
         StepAnswer::Last(place, answer) => stored(2, place, answer, p),
+        StepAnswer::Refused(refusal) => no_step(refusal::number(refusal), p),
     }
 }
 
 // ---- commit and fold in one call
-
-fn committed_refusal(a: CommitAnswer) -> u32
-    ensures { λ r. ⌜ r ≡ committedRefusal a ⌝ }
-{
-    match a {
-        CommitAnswer::Committed(_) => 0,
-        CommitAnswer::Area => 1,
-        CommitAnswer::Busy => 9,
-        CommitAnswer::ReadOnly => 10,
-        CommitAnswer::NewHeader => 13,
-        CommitAnswer::Joining(_) => 14,
-        CommitAnswer::LogFull => 15,
-    }
-}
-
-fn committed_number(a: CommitAnswer) -> usize
-    ensures { λ r. ⌜ r ≡ committedNumber a ⌝ }
-{
-    match a {
-        CommitAnswer::Committed(pages) => pages,
-        CommitAnswer::Area => 0,
-        CommitAnswer::Busy => 0,
-        CommitAnswer::ReadOnly => 0,
-        CommitAnswer::NewHeader => 0,
-        CommitAnswer::Joining(page) => page,
-        CommitAnswer::LogFull => 0,
-    }
-}
 
 pub fn committed_as(call: Committed) -> Answered
     ensures { λ r. ⌜ r ≡ committedAs (call .answer) (call .pager) ⌝ }
 {
     let a = call.answer;
     let p = call.pager;
-    told(committed_refusal(a), 0, committed_number(a), p)
-}
-
-fn written_refusal(a: CheckpointAnswer) -> u32
-    ensures { λ r. ⌜ r ≡ writtenRefusal a ⌝ }
-{
     match a {
-        CheckpointAnswer::Written(_) => 0,
-        CheckpointAnswer::Area => 1,
-        CheckpointAnswer::Busy => 9,
-        CheckpointAnswer::ReadOnly => 10,
-    }
-}
-
-fn written_number(a: CheckpointAnswer) -> usize
-    ensures { λ r. ⌜ r ≡ writtenNumber a ⌝ }
-{
-    match a {
-        CheckpointAnswer::Written(pages) => pages,
-        CheckpointAnswer::Area => 0,
-        CheckpointAnswer::Busy => 0,
-        CheckpointAnswer::ReadOnly => 0,
+        CommitAnswer::Committed(pages) => told(0, 0, pages, p),
+        CommitAnswer::Refused(refusal) => refused(refusal, p),
     }
 }
 
@@ -563,5 +407,8 @@ pub fn written_as(call: Checkpointed) -> Answered
 {
     let a = call.answer;
     let p = call.pager;
-    told(written_refusal(a), 0, written_number(a), p)
+    match a {
+        CheckpointAnswer::Written(pages) => told(0, 0, pages, p),
+        CheckpointAnswer::Refused(refusal) => refused(refusal, p),
+    }
 }

@@ -4,8 +4,8 @@ ghost use mathlib.Core.Path.{_≡_};
 ghost use mathlib.Core.Bool.{true};
 ghost use Prim.Native.Nat.{_-_};
 ghost use Rattle.pager_state.specs.World.{world};
-ghost use Rattle.pager_state.specs.Steps.{isFolding, answerOf, stepAnswer, stepped, steps, committedAs, commitAnswer, commitWorld, writtenAs, checkpointAnswer, checkpointWorld};
-ghost use Rattle.pager.specs.Jobs.{isCommit};
+ghost use Rattle.pager_state.specs.Steps.{answerOf, stepAnswer, stepped, steps, commitAnswer, commitWorld, checkpointAnswer, checkpointWorld};
+ghost use Rattle.pager.specs.Jobs.{isCommit, committedAs, writtenAs};
 use header::DbHeader;
 use pager_state::CheckpointAnswer;
 use pager_state::CheckpointStart;
@@ -17,6 +17,7 @@ use pager_state::Job;
 use pager_state::Pager;
 use pager_state::StepAnswer;
 use pager_state::Stepped;
+use refusal::Refusal;
 
 // More steps than any commit or fold has.
 const MOST_STEPS: usize = 2_200;
@@ -26,21 +27,13 @@ fn is_commit(job: Job) -> bool
     ensures { λ r. ⌜ r ≡ isCommit job ⌝ }
 {
     match job {
-        Job::Idle => false,
         Job::Commit {
             header: _,
             salt: _,
             page: _,
             answer: _,
         } => true,
-        Job::Fold {
-            salt: _,
-            page: _,
-            answer: _,
-        } => false,
-        Job::MainLength { salt: _, answer: _ } => false,
-        Job::LogLength { salt: _, answer: _ } => false,
-        Job::LogHeader { salt: _, answer: _ } => false,
+        _ => false,
     }
 }
 
@@ -57,7 +50,7 @@ pub fn next_step<'a>(
 {
     if !pager_state::are_fine(pager, table.len(), log.len(), main.len(), staging.len()) {
         return Stepped {
-            answer: StepAnswer::Area,
+            answer: StepAnswer::Refused(Refusal::Area),
             pager,
         };
     }
@@ -122,12 +115,7 @@ fn committed_as(answer: CommitStart, pages: usize) -> CommitAnswer
 {
     match answer {
         CommitStart::Begun => CommitAnswer::Committed(pages),
-        CommitStart::Area => CommitAnswer::Area,
-        CommitStart::Busy => CommitAnswer::Busy,
-        CommitStart::ReadOnly => CommitAnswer::ReadOnly,
-        CommitStart::NewHeader => CommitAnswer::NewHeader,
-        CommitStart::Joining(page) => CommitAnswer::Joining(page),
-        CommitStart::LogFull => CommitAnswer::LogFull,
+        CommitStart::Refused(refusal) => CommitAnswer::Refused(refusal),
     }
 }
 
@@ -147,13 +135,13 @@ pub fn commit<'a>(
     let run = pager_commit::commit_frames(pager, table, log, main, staging, new_header, salt);
     let start = run.answer;
     let store = run.pager;
-    if !pager_commit::is_begun(start) {
+    let answer = committed_as(start, run.pages);
+    let CommitStart::Begun = start else {
         return Committed {
-            answer: committed_as(start, 0),
+            answer,
             pager: store,
         };
-    }
-    let answer = committed_as(start, run.pages);
+    };
     let job = store.job;
     if !pager_state::is_busy(job) {
         return Committed {
@@ -165,18 +153,6 @@ pub fn commit<'a>(
     Committed { answer, pager: end }
 }
 
-fn is_folding(answer: CheckpointStart) -> bool
-    ensures { λ r. ⌜ r ≡ isFolding answer ⌝ }
-{
-    match answer {
-        CheckpointStart::Begun => true,
-        CheckpointStart::Nothing => false,
-        CheckpointStart::Area => false,
-        CheckpointStart::Busy => false,
-        CheckpointStart::ReadOnly => false,
-    }
-}
-
 // What the start of a fold comes to in one call.
 fn written_as(answer: CheckpointStart, pages: usize) -> CheckpointAnswer
     ensures { λ r. ⌜ r ≡ writtenAs answer pages ⌝ }
@@ -184,9 +160,7 @@ fn written_as(answer: CheckpointStart, pages: usize) -> CheckpointAnswer
     match answer {
         CheckpointStart::Begun => CheckpointAnswer::Written(pages),
         CheckpointStart::Nothing => CheckpointAnswer::Written(0),
-        CheckpointStart::Area => CheckpointAnswer::Area,
-        CheckpointStart::Busy => CheckpointAnswer::Busy,
-        CheckpointStart::ReadOnly => CheckpointAnswer::ReadOnly,
+        CheckpointStart::Refused(refusal) => CheckpointAnswer::Refused(refusal),
     }
 }
 
@@ -205,17 +179,14 @@ pub fn checkpoint<'a>(
     let begun = pager_fold::begin_checkpoint(pager, table, log, main, staging, salt);
     let start = begun.answer;
     let store = begun.pager;
-    if !is_folding(start) {
+    let job = store.job;
+    let answer = written_as(start, answer_of(job));
+    let CheckpointStart::Begun = start else {
         return Checkpointed {
-            answer: written_as(start, 0),
+            answer,
             pager: store,
         };
-    }
-    let job = store.job;
-    let pages = answer_of(job);
+    };
     let end = run_steps(store, 0, table, log, main, staging);
-    Checkpointed {
-        answer: written_as(start, pages),
-        pager: end,
-    }
+    Checkpointed { answer, pager: end }
 }

@@ -8,15 +8,17 @@ use lib.ListN.{length}
 use Rattle.le.specs.Choice.{pick, both}
 use Rattle.le.specs.Le.{sameBytes, put}
 use Rattle.page.specs.Page.{pageSize}
+use Rattle.refusal.specs.Refusal.{accepts}
+use Rattle.refusal.specs.declared.Refusal.the-variants as refusal
 use Rattle.header.specs.Header.{encodeHeader}
 use Rattle.header.specs.declared.DbHeader.{DbHeader}
 use Rattle.frame.specs.Frame.{encodeFrame}
 use Rattle.wal.specs.declared.Wal.{Wal}
-use Rattle.pager_state.specs.World.{World, world, pageLimit, countOf, withJob, withWal, noneStaged}
-use Rattle.pager_state.specs.Overlay.{pageFrom, findIn, slotOf, isStaged, inLog, onMain, mainAt, logBytes}
-use Rattle.pager_state.specs.Pages.{pagesFrom}
-use Rattle.pager_state.specs.Commit.{jobAfter, commitTodo, commitAdvance}
-use Rattle.pager_state.specs.Steps.{standsBefore, commitStart, isBegun, differing, beginCommit, answerOf, named, done, stepFine, steps, onStore}
+use Rattle.pager_state.specs.World.{World, world, pageLimit, countOf, withJob, withWal}
+use Rattle.pager_state.specs.Overlay.{pageFrom, findIn, slotOf, isStaged, committedIn}
+use Rattle.pager_state.specs.Pages.{pagesFrom, differsIn}
+use Rattle.pager_state.specs.Commit.{commitTodo, commitAdvance}
+use Rattle.pager_state.specs.Steps.{standsBefore, commitRefusal, differing, beginCommit, answerOf, named, done, stepFine, steps, onStore}
 use Rattle.pager_state.specs.declared.Job.the-variants as job
 use Rattle.pager_state.specs.declared.Staged.{Staged}
 use Rattle.pager_state.specs.declared.Pager.{Pager}
@@ -28,7 +30,7 @@ use Rattle.pager_commit.specs.declared.CommitRun.{CommitRun}
 
 -- refusal 1, then "each next-step call does the next store .. and no other" of a commit; of another job nothing and Idle
 unfoldable pub commitStepAnswer : List ℕ → World → StepAnswer
-commitStepAnswer g w = pick (stepFine g w) (named (answerOf (w .pager .job)) (commitTodo g (w .pager .job) w)) step.Area
+commitStepAnswer g w = pick (stepFine g w) (named (answerOf (w .pager .job)) (commitTodo g (w .pager .job) w)) (step.Refused refusal.Area)
 
 unfoldable pub commitStepped : List ℕ → World → World
 commitStepped g w = pick (stepFine g w) (done (commitTodo g (w .pager .job) w) (commitAdvance g (w .pager .job) w) w) w
@@ -37,7 +39,7 @@ commitStepped g w = pick (stepFine g w) (done (commitTodo g (w .pager .job) w) (
 
 -- begun, and as many steps as pages differ, and one; a refusal leaves the world
 unfoldable pub commitSealed : List ℕ → World → DbHeader → ℕ → World
-commitSealed g w h salt = pick (isBegun (commitStart g w h)) (steps g (differing g w + 1) (onStore w (beginCommit g w h salt .pager))) w
+commitSealed g w h salt = pick (accepts (commitRefusal g w h)) (steps g (differing g w + 1) (onStore w (beginCommit g w h salt .pager))) w
 
 -- ---- its parts
 
@@ -45,34 +47,13 @@ commitSealed g w h salt = pick (isBegun (commitStart g w h)) (steps g (differing
 unfoldable pub isIn : List ℕ → ℕ → Bool
 isIn l n = ltb (findIn l n) (length l)
 
--- "the log's, else the main file's", or no byte: by the page table and the areas alone
-unfoldable pub committedIn : List ℕ → List ℕ → List ℕ → ℕ → List ℕ
-committedIn t l m n = pick (inLog t n) (logBytes t l n) (pick (onMain t n) (pageFrom (mainAt n) m) [])
-
 -- the bytes of a slot of the staging area differ from a page's
 unfoldable pub slotDiffers : List ℕ → List ℕ → List ℕ → List ℕ → ℕ → ℕ → Bool
 slotDiffers g t l m n slot = not (sameBytes (pageFrom (pageSize * slot) g) (committedIn t l m n))
 
--- "staged pages whose bytes differ from the log's, else the main file's .., or that are in neither"
-unfoldable pub differsIn : Staged → List ℕ → List ℕ → List ℕ → List ℕ → ℕ → Bool
-differsIn s g t l m n = both (isStaged s n) (slotDiffers g t l m n (slotOf s n))
-
 -- a slot has a page that differs, and it is the first that has that page
 unfoldable pub countsAt : ℕ → List ℕ → List ℕ → List ℕ → List ℕ → ℕ → ℕ → Bool
 countsAt first g t l m n slot = both (ltb n pageLimit) (both (eqb first slot) (slotDiffers g t l m n slot))
-
--- the store once the seal stands and the log is v
-abbrev pub sealedWith : DbHeader → ℕ → ℕ → Wal → Pager → Pager
-sealedWith h salt answer v p =
-    record {
-      «current_header» = h;
-      wal = v;
-      recovered = p .recovered;
-      storage = p .storage;
-      staged = noneStaged (p .staged);
-      job = jobAfter v salt answer;
-      opening = p .opening;
-    }
 
 -- the log with a page's frame, and with the seal, at its length
 abbrev pub framePut : List ℕ → Wal → ℕ → List ℕ → List ℕ

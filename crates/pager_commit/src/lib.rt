@@ -6,16 +6,17 @@ ghost use Prim.Native.Nat.{ℕ, _+_, _*_, _≤_, _<_, min, max};
 ghost use lib.ListN.{length, take, drop, getD};
 ghost use Rattle.le.specs.Choice.{pick, both};
 ghost use Rattle.le.specs.Le.{sameBytes};
+ghost use Rattle.refusal.specs.Refusal.{accepts};
 ghost use Rattle.header.specs.Header.{encodeHeader};
 ghost use Rattle.frame.specs.Frame.{encodeFrame};
 ghost use Rattle.wal.specs.Write.{withFrame, hasRoom};
 ghost use Rattle.pager_state.specs.World.{world, countOf, headerOf, busyWith, withJob, withWal, noneStaged};
-ghost use Rattle.pager_state.specs.Overlay.{pageFrom, findIn, stagedPages, slotOf, entry};
+ghost use Rattle.pager_state.specs.Overlay.{pageFrom, findIn, stagedPages, slotOf, entry, committedIn};
 ghost use Rattle.pager_state.specs.Stores.{Put, Sealed, Other, placeOf};
-ghost use Rattle.pager_state.specs.Pages.{pagesFrom, firstOf, differs, lacks};
-ghost use Rattle.pager_state.specs.Commit.{entered, jobAfter, framesTodo, framesAdvance};
-ghost use Rattle.pager_state.specs.Steps.{named, done, headerGood, differing, standsBefore, allBefore, commitStart, isBegun, beginCommit, stepFine, steps};
-ghost use Rattle.pager_commit.specs.CommitStep.{commitStepAnswer, commitStepped, isIn, committedIn, slotDiffers, differsIn, countsAt, commitSealed, Marking, sealedWith, framePut, sealPut, startedAs, ranAs, FramesStored};
+ghost use Rattle.pager_state.specs.Pages.{pagesFrom, firstOf, differsIn, differs, lacks};
+ghost use Rattle.pager_state.specs.Commit.{entered, jobAfter, sealedWith, framesTodo, framesAdvance};
+ghost use Rattle.pager_state.specs.Steps.{named, done, headerGood, differing, standsBefore, allBefore, commitRefusal, commitStart, beginCommit, stepFine, steps};
+ghost use Rattle.pager_commit.specs.CommitStep.{commitStepAnswer, commitStepped, isIn, slotDiffers, countsAt, commitSealed, Marking, framePut, sealPut, startedAs, ranAs, FramesStored};
 use frame::FRAME_SIZE;
 use header::DbHeader;
 use page::PAGE_SIZE;
@@ -31,6 +32,7 @@ use pager_state::STAGED_PAGES;
 use pager_state::Staged;
 use pager_state::StepAnswer;
 use pager_state::Stepped;
+use refusal::Refusal;
 use wal::FrameAppended;
 use wal::WAL_AREA;
 use wal::Wal;
@@ -357,7 +359,7 @@ fn frame_step(
     staging: &[u8],
 ) -> Stepped
     requires { ⌜ (found .page < 1024) × ((found .index < 64) × ((length (now table) ≡ 1024) × ((length (now log) ≡ 4210720) × ((length (now staging) ≡ 262144) × (pager .wal .len ≤ 4210720))))) ⌝ }
-    ensures { λ r. ⌜ r .answer ≡ pick (hasRoom (pager .wal)) (StepAnswer.Stored (placeOf (Put Other FileKind.Log (pager .wal .len) (encodeFrame (found .page) 0 (pager .wal .header .salt) (pageFrom (4096 * found .index) (now (staging .entry)))) false))) StepAnswer.Area ⌝ }
+    ensures { λ r. ⌜ r .answer ≡ pick (hasRoom (pager .wal)) (StepAnswer.Stored (placeOf (Put Other FileKind.Log (pager .wal .len) (encodeFrame (found .page) 0 (pager .wal .header .salt) (pageFrom (4096 * found .index) (now (staging .entry)))) false))) (StepAnswer.Refused Refusal.Area) ⌝ }
     ensures { λ r. ⌜ r .pager ≡ pick (hasRoom (pager .wal)) (withJob (withWal pager (withFrame (pager .wal) 0)) (Job.Commit header salt (found .page + 1) answer)) pager ⌝ }
     ensures { λ _. ⌜ now (table .exit) ≡ pick (hasRoom (pager .wal)) (entered (now (table .entry)) (found .page) (pager .wal .len)) (now (table .entry)) ⌝ }
     ensures { λ _. ⌜ now (log .exit) ≡ pick (hasRoom (pager .wal)) (framePut (now (log .entry)) (pager .wal) (found .page) (pageFrom (4096 * found .index) (now (staging .entry)))) (now (log .entry)) ⌝ }
@@ -365,7 +367,7 @@ fn frame_step(
     let old = pager.wal;
     if WAL_AREA - old.len < FRAME_SIZE {
         return Stepped {
-            answer: StepAnswer::Area,
+            answer: StepAnswer::Refused(Refusal::Area),
             pager,
         };
     }
@@ -458,7 +460,7 @@ fn seal_step(
     log: &mut [u8],
 ) -> Stepped
     requires { ⌜ (length (now table) ≡ 1024) × ((length (now log) ≡ 4210720) × (pager .wal .len ≤ 4210720)) ⌝ }
-    ensures { λ r. ⌜ r .answer ≡ pick (hasRoom (pager .wal)) (pick (busyWith (jobAfter (withFrame (pager .wal) (countOf header)) salt answer)) (StepAnswer.Stored (placeOf (Put Sealed FileKind.Log (pager .wal .len) (encodeFrame 0 (countOf header) (pager .wal .header .salt) (encodeHeader header)) true))) (StepAnswer.Last (placeOf (Put Sealed FileKind.Log (pager .wal .len) (encodeFrame 0 (countOf header) (pager .wal .header .salt) (encodeHeader header)) true)) answer)) StepAnswer.Area ⌝ }
+    ensures { λ r. ⌜ r .answer ≡ pick (hasRoom (pager .wal)) (pick (busyWith (jobAfter (withFrame (pager .wal) (countOf header)) salt answer)) (StepAnswer.Stored (placeOf (Put Sealed FileKind.Log (pager .wal .len) (encodeFrame 0 (countOf header) (pager .wal .header .salt) (encodeHeader header)) true))) (StepAnswer.Last (placeOf (Put Sealed FileKind.Log (pager .wal .len) (encodeFrame 0 (countOf header) (pager .wal .header .salt) (encodeHeader header)) true)) answer)) (StepAnswer.Refused Refusal.Area) ⌝ }
     ensures { λ r. ⌜ r .pager ≡ pick (hasRoom (pager .wal)) (sealedWith header salt answer (withFrame (pager .wal) (countOf header)) pager) pager ⌝ }
     ensures { λ _. ⌜ now (table .exit) ≡ pick (hasRoom (pager .wal)) (entered (now (table .entry)) 0 (pager .wal .len)) (now (table .entry)) ⌝ }
     ensures { λ _. ⌜ now (log .exit) ≡ pick (hasRoom (pager .wal)) (sealPut (now (log .entry)) (pager .wal) header) (now (log .entry)) ⌝ }
@@ -466,7 +468,7 @@ fn seal_step(
     let old = pager.wal;
     if WAL_AREA - old.len < FRAME_SIZE {
         return Stepped {
-            answer: StepAnswer::Area,
+            answer: StepAnswer::Refused(Refusal::Area),
             pager,
         };
     }
@@ -523,7 +525,7 @@ pub fn commit_step<'a>(
 {
     if !pager_state::are_fine(pager, table.len(), log.len(), main.len(), staging.len()) {
         return Stepped {
-            answer: StepAnswer::Area,
+            answer: StepAnswer::Refused(Refusal::Area),
             pager,
         };
     }
@@ -573,12 +575,12 @@ struct Judged {
     marks: [u16; 64],
 }
 
-fn refused(answer: CommitStart) -> Judged
-    ensures { λ r. ⌜ (r .answer ≡ answer) × (r .pages ≡ 0) ⌝ }
+fn refused(refusal: Refusal) -> Judged
+    ensures { λ r. ⌜ (r .answer ≡ CommitStart.Refused refusal) × (r .pages ≡ 0) ⌝ }
 {
     let marks = [u16::MAX; 64];
     Judged {
-        answer,
+        answer: CommitStart::Refused(refusal),
         pages: 0,
         marks,
     }
@@ -594,57 +596,42 @@ fn judge<'a>(
     new_header: DbHeader,
 ) -> Judged
     ensures { λ r. ⌜ r .answer ≡ commitStart (now (staging .entry)) (world pager (now (table .entry)) (now (log .entry)) (now (main .entry))) «new_header» ⌝ }
-    ensures { λ r. ⌜ r .pages ≡ pick (isBegun (commitStart (now (staging .entry)) (world pager (now (table .entry)) (now (log .entry)) (now (main .entry))) «new_header»)) (differing (now (staging .entry)) (world pager (now (table .entry)) (now (log .entry)) (now (main .entry)))) 0 ⌝ }
-    ensures { λ r. ⌜ (isBegun (r .answer) ≡ true → (length (r .marks) ≡ 64) × Marking (now (staging .entry)) (now (main .entry)) (pager .staged) (pager .wal .len) (now (table .entry)) (now (log .entry)) (take (pager .staged .count) (r .marks)) 0) ⌝ }
+    ensures { λ r. ⌜ r .pages ≡ pick (accepts (commitRefusal (now (staging .entry)) (world pager (now (table .entry)) (now (log .entry)) (now (main .entry))) «new_header»)) (differing (now (staging .entry)) (world pager (now (table .entry)) (now (log .entry)) (now (main .entry)))) 0 ⌝ }
+    ensures { λ r. ⌜ (r .answer ≡ CommitStart.Begun → (length (r .marks) ≡ 64) × Marking (now (staging .entry)) (now (main .entry)) (pager .staged) (pager .wal .len) (now (table .entry)) (now (log .entry)) (take (pager .staged .count) (r .marks)) 0) ⌝ }
 {
     if !pager_state::are_fine(pager, table.len(), log.len(), main.len(), staging.len()) {
-        return refused(CommitStart::Area);
+        return refused(Refusal::Area);
     }
     let job = pager.job;
     if pager_state::is_busy(job) {
-        return refused(CommitStart::Busy);
+        return refused(Refusal::Busy);
     }
     let staged = pager.staged;
     let wal = pager.wal;
     if !all_stand_before(staged, table, wal.len) {
-        return refused(CommitStart::Area);
+        return refused(Refusal::Area);
     }
     let opening = pager.opening;
     if pager_state::is_read_only(opening) {
-        return refused(CommitStart::ReadOnly);
+        return refused(Refusal::ReadOnly);
     }
     if !is_header_good(new_header) {
-        return refused(CommitStart::NewHeader);
+        return refused(Refusal::NewHeader);
     }
     let old = pager.current_header;
     let lacking = first_lacking(staged, old.page_count, new_header.page_count);
     if lacking < PAGES {
-        return refused(CommitStart::Joining(lacking));
+        return refused(Refusal::Joining(lacking));
     }
     let found = mark_differing(staged, table, log, main, staging);
     if WAL_AREA < wal.len + FRAME_SIZE * (found.count + 1) {
-        return refused(CommitStart::LogFull);
+        return refused(Refusal::LogFull);
     }
     let marks = found.pages;
     Judged {
         answer: CommitStart::Begun,
         pages: found.count,
         marks,
-    }
-}
-
-// Whether a commit has begun.
-pub fn is_begun(answer: CommitStart) -> bool
-    ensures { λ r. ⌜ r ≡ isBegun answer ⌝ }
-{
-    match answer {
-        CommitStart::Begun => true,
-        CommitStart::Area => false,
-        CommitStart::Busy => false,
-        CommitStart::ReadOnly => false,
-        CommitStart::NewHeader => false,
-        CommitStart::Joining(_) => false,
-        CommitStart::LogFull => false,
     }
 }
 
@@ -662,9 +649,9 @@ pub fn begin_commit<'a>(
 {
     let judged = judge(pager, table, log, main, staging, new_header);
     let answer = judged.answer;
-    if !is_begun(answer) {
+    let CommitStart::Begun = answer else {
         return started(answer, pager);
-    }
+    };
     let wal = pager.wal;
     let job = Job::Commit {
         header: new_header,
@@ -761,15 +748,15 @@ pub fn commit_frames<'a>(
     salt: u32,
 ) -> CommitRun
     ensures { λ r. ⌜ r .answer ≡ commitStart (now (staging .entry)) (world pager (now (table .entry)) (now (log .entry)) (now (main .entry))) «new_header» ⌝ }
-    ensures { λ r. ⌜ r .pages ≡ pick (isBegun (commitStart (now (staging .entry)) (world pager (now (table .entry)) (now (log .entry)) (now (main .entry))) «new_header»)) (differing (now (staging .entry)) (world pager (now (table .entry)) (now (log .entry)) (now (main .entry)))) 0 ⌝ }
+    ensures { λ r. ⌜ r .pages ≡ pick (accepts (commitRefusal (now (staging .entry)) (world pager (now (table .entry)) (now (log .entry)) (now (main .entry))) «new_header»)) (differing (now (staging .entry)) (world pager (now (table .entry)) (now (log .entry)) (now (main .entry)))) 0 ⌝ }
     ensures { λ r. ⌜ world (r .pager) (now (table .exit)) (now (log .exit)) (now (main .entry)) ≡ commitSealed (now (staging .entry)) (world pager (now (table .entry)) (now (log .entry)) (now (main .entry))) «new_header» salt ⌝ }
 {
     let judged = judge(pager, table, log, main, staging, new_header);
     let answer = judged.answer;
     let pages = judged.pages;
-    if !is_begun(answer) {
+    let CommitStart::Begun = answer else {
         return ran(answer, pages, pager);
-    }
+    };
     let store = run_frames(
         pager,
         new_header,

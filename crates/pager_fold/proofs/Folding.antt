@@ -25,7 +25,7 @@ use Rattle.pager_state.specs.World.{World, world, countOf, headerOf, fine, busy
 use Rattle.pager_state.specs.Overlay.{frameOf, logBytes}
 use Rattle.pager_state.specs.Stores.{Act, placeOf, inside, diskOf, grown, putFile, lenFile}
 use Rattle.pager_state.specs.Pages.{pagesFrom, firstOf, folds}
-use Rattle.pager_state.specs.Fold.{foldedFrom, logHeaderAct, nextHeader, folded, logLengthAct, withoutFrames, emptied, mainLengthAct, lengthened, mainHeaderAct, headed, none, pageAct, paged, headerTodo, emptyTodo, lengthTodo, pagesTodo, foldTodo, pagesAdvance, foldAdvance}
+use Rattle.pager_state.specs.Fold.{foldedFrom, logHeaderAct, nextHeader, folded, logLengthAct, withoutFrames, emptied, mainLengthAct, lengthened, mainHeaderAct, headed, isEmpty, pageAct, paged, headerTodo, emptyTodo, lengthTodo, pagesTodo, foldTodo, pagesAdvance, foldAdvance}
 use Rattle.pager_state.specs.Steps.{stepFine, answerOf, namedBy, named, done, nothingToFold, checkpointStart, folding, beginCheckpoint}
 use Rattle.pager_state.specs.declared.Job.{Job}
 use Rattle.pager_state.specs.declared.Job.the-variants as job
@@ -59,9 +59,9 @@ module _ (w : World) where
   no-pages p q g h = none-found (folds w) p q (first-by p q g) h
 
   -- whether another page follows
-  none-as : (p q : ℕ) → q ≡ firstOf (pagesFrom by p) → (b : Bool) → leb 1024 q ≡ b → none (pagesFrom (folds w) p) ≡ b
-  none-as p q g true t = ap none (no-pages p q g (leb-true 1024 q t))
-  none-as p q g false t = ap none (some-pages p q g (leb-false 1024 q t))
+  none-as : (p q : ℕ) → q ≡ firstOf (pagesFrom by p) → (b : Bool) → leb 1024 q ≡ b → isEmpty (pagesFrom (folds w) p) ≡ b
+  none-as p q g true t = ap isEmpty (no-pages p q g (leb-true 1024 q t))
+  none-as p q g false t = ap isEmpty (some-pages p q g (leb-false 1024 q t))
 
   pub last-is : (p q : ℕ) → q ≡ firstOf (pagesFrom by (p + 1)) → none (pagesFrom (folds w) (suc p)) ≡ leb 1024 q
   last-is p q g = none-as (suc p) q (g ∙ ap (λ (k : ℕ). firstOf (pagesFrom by k)) (add-one p)) (leb 1024 q) refl
@@ -159,7 +159,7 @@ module _ (salt answer p : ℕ) (w : World) where
   unfolding pagesTodo
   some-done v q e h =
       let ps : List ℕ = pagesFrom (folds w) (suc q) in
-      rw (e, done-in (pageAct w q (none ps)) (pagesTodo salt answer ps (paged salt answer q w)) v w (page-inside w q (none ps) h))
+      rw (e, done-in (pageAct w q (isEmpty ps)) (pagesTodo salt answer ps (paged salt answer q w)) v w (page-inside w q (isEmpty ps) h))
 
   none-done : (v : World) → pagesFrom (folds w) p ≡ [] → done (pagesTodo salt answer (pagesFrom (folds w) p) w) v w ≡ v
   unfolding pagesTodo

@@ -1,13 +1,12 @@
 -- A step of a fold that is part done, and what its parts are by themselves.
-use mathlib.Core.Bool.{Bool}
 use mathlib.Core.List.{List}
 use Prim.Native.Nat.{ℕ, min}
-use lib.Dec.{leb, ltb}
-use Rattle.le.specs.Choice.{pick, both}
+use Rattle.le.specs.Choice.{pick}
+use Rattle.refusal.specs.declared.Refusal.the-variants as refusal
 use Rattle.header.specs.Header.{encodeHeader}
 use Rattle.header.specs.declared.DbHeader.{DbHeader}
 use Rattle.pager_state.specs.World.{World, pageLimit, fine, withJob, withStorage}
-use Rattle.pager_state.specs.Overlay.{inLog, logBytes, mainAt}
+use Rattle.pager_state.specs.Overlay.{logBytes, mainAt}
 use Rattle.pager_state.specs.Stores.{File, putFile}
 use Rattle.pager_state.specs.Fold.{foldTodo, foldAdvance}
 use Rattle.pager_state.specs.Steps.{answerOf, named, done}
@@ -20,16 +19,12 @@ use Rattle.pager_state.specs.declared.StepAnswer.the-variants as step
 
 -- refusal 1, then "each next-step call does the next store .. and no other" of a fold; of another job nothing and Idle
 unfoldable pub foldAnswer : World → StepAnswer
-foldAnswer w = pick (fine w) (named (answerOf (w .pager .job)) (foldTodo (w .pager .job) w)) step.Area
+foldAnswer w = pick (fine w) (named (answerOf (w .pager .job)) (foldTodo (w .pager .job) w)) (step.Refused refusal.Area)
 
 unfoldable pub foldStepped : World → World
 foldStepped w = pick (fine w) (done (foldTodo (w .pager .job) w) (foldAdvance (w .pager .job) w) w) w
 
 -- ---- its parts
-
--- "log pages from 1 below the page count", by the count and the page table alone
-unfoldable pub foldsBy : ℕ → List ℕ → ℕ → Bool
-foldsBy count t n = both (leb 1 n) (both (ltb n count) (inLog t n))
 
 -- the pages from there on are none of them
 abbrev pub foldingEnd : ℕ → ℕ → ℕ

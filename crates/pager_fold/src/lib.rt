@@ -13,10 +13,10 @@ ghost use Rattle.le.specs.Le.{put};
 ghost use Rattle.pager_state.specs.World.{world, headerOf, countOf, withJob, withWal};
 ghost use Rattle.pager_state.specs.Overlay.{logBytes, mainAt};
 ghost use Rattle.pager_state.specs.Stores.{Put, SetLen, Other, placeOf, grown, putFile};
-ghost use Rattle.pager_state.specs.Pages.{pagesFrom, firstOf, folds};
+ghost use Rattle.pager_state.specs.Pages.{pagesFrom, firstOf, foldsBy, folds};
 ghost use Rattle.pager_state.specs.Fold.{foldedFrom, withoutFrames, logLengthAct, pagesTodo, pagesAdvance};
 ghost use Rattle.pager_state.specs.Steps.{named, noLogPages, beginCheckpoint};
-ghost use Rattle.pager_fold.specs.FoldStep.{foldAnswer, foldStepped, foldsBy, foldingEnd, fileOf, withMain, pagePut, headerPut, startedAs};
+ghost use Rattle.pager_fold.specs.FoldStep.{foldAnswer, foldStepped, foldingEnd, fileOf, withMain, pagePut, headerPut, startedAs};
 use header::DbHeader;
 use page::PAGE_SIZE;
 use pager_state::CheckpointStart;
@@ -29,6 +29,7 @@ use pager_state::Pager;
 use pager_state::Place;
 use pager_state::StepAnswer;
 use pager_state::Stepped;
+use refusal::Refusal;
 use wal::WAL_HEADER_SIZE;
 use wal::Wal;
 use wal::WalTruncated;
@@ -401,7 +402,7 @@ fn last_step(pager: Pager, salt: u32, answer: usize, table: &mut [u32], log: &mu
     let old = pager.wal;
     let WalTruncated::Truncated(wal) = wal::truncate(log, old, salt) else {
         return Stepped {
-            answer: StepAnswer::Area,
+            answer: StepAnswer::Refused(Refusal::Area),
             pager,
         };
     };
@@ -427,7 +428,7 @@ pub fn fold_step(pager: Pager, table: &mut [u32], log: &mut [u8], main: &mut [u8
 {
     if !pager_state::is_fine(pager, table.len(), log.len(), main.len()) {
         return Stepped {
-            answer: StepAnswer::Area,
+            answer: StepAnswer::Refused(Refusal::Area),
             pager,
         };
     }
@@ -497,15 +498,15 @@ pub fn begin_checkpoint(
     ensures { λ r. ⌜ r ≡ beginCheckpoint (now (staging .entry)) (world pager (now (table .entry)) (now (log .entry)) (now (main .entry))) salt ⌝ }
 {
     if !pager_state::are_fine(pager, table.len(), log.len(), main.len(), staging.len()) {
-        return started(CheckpointStart::Area, pager);
+        return started(CheckpointStart::Refused(Refusal::Area), pager);
     }
     let job = pager.job;
     if pager_state::is_busy(job) {
-        return started(CheckpointStart::Busy, pager);
+        return started(CheckpointStart::Refused(Refusal::Busy), pager);
     }
     let opening = pager.opening;
     if pager_state::is_read_only(opening) {
-        return started(CheckpointStart::ReadOnly, pager);
+        return started(CheckpointStart::Refused(Refusal::ReadOnly), pager);
     }
     let wal = pager.wal;
     if nothing_to_fold(wal.frame_count, table) {

@@ -1,28 +1,21 @@
 -- What the parts of an opening answer: pieces of `openPager` over what the parts before them found.
 use mathlib.Core.Bool.{Bool, true, false}
 use Prim.Native.Nat.{ℕ, _-_, _*_, _/_}
-use lib.Dec.{leb, eqb}
+use lib.Dec.{leb}
 use Rattle.le.specs.Choice.{pick, both}
 use Rattle.page.specs.Page.{pageSize}
 use Rattle.frame.specs.Frame.{frameSize}
+use Rattle.refusal.specs.declared.Refusal.the-variants as refusal
 use Rattle.header.specs.declared.DbHeader.{DbHeader}
 use Rattle.wal.specs.Header.{headerSize, decodeWalHeader}
-use Rattle.wal.specs.Recovery.{walArea}
 use Rattle.wal.specs.declared.WalHeader.{WalHeader}
 use Rattle.wal.specs.declared.LastCommit.{LastCommit}
 use Rattle.wal.specs.declared.Wal.{Wal}
-use Rattle.pager_state.specs.World.{mainArea, stagingArea, pageLimit, countOf}
+use Rattle.pager_state.specs.World.{pageLimit, countOf}
 use Rattle.pager_state.specs.Stores.{File, Disk, content}
 use Rattle.pager_state.specs.Opening.{How, Found, writes, foundBy, mainHeader, judgedMain, judgedLog, judgedZero, headerBy, openingOf, opensAs}
 use Rattle.pager_state.specs.Opened.{Opens}
 use Rattle.pager_state.specs.Opened as opened
-use Rattle.pager_state.specs.declared.OpenAnswer.{OpenAnswer}
-use Rattle.pager_state.specs.declared.OpenAnswer.the-variants as answer
-
--- refusal 1 by the lengths of the table, the log's area, the log, the main area, the main file and the staging area
-abbrev pub lengthsFine : ℕ → ℕ → ℕ → ℕ → ℕ → ℕ → Bool
-lengthsFine t la l ma m g =
-    both (eqb t pageLimit) (both (both (eqb la walArea) (leb l walArea)) (both (both (eqb ma mainArea) (leb m mainArea)) (eqb g stagingArea)))
 
 -- an open log that ends with its last seal: "its frame count is the frames kept"
 unfoldable pub sealedWal : WalHeader → ℕ → LastCommit → Wal
@@ -48,8 +41,8 @@ barred how = both (how .clean) (pick (writes (how .access)) false true)
 unfoldable pub openedWith : How → ℕ → DbHeader → Wal → DbHeader → Opens
 openedWith how len mh v h =
     pick (leb (countOf h) pageLimit)
-    (pick (barred how) opened.ReadOnly (opened.Opened (opensAs h mh len v (v .«last_commit_offset») (openingOf how))))
-    opened.Limit
+    (pick (barred how) (opened.Refused refusal.ReadOnly) (opened.Opened (opensAs h mh len v (v .«last_commit_offset») (openingOf how))))
+    (opened.Refused refusal.Limit)
 
 -- 8, then the rest
 unfoldable pub judgedFound : How → ℕ → DbHeader → Found → Opens
@@ -59,20 +52,8 @@ judgedFound how len mh x = judgedZero (headerBy mh x) (openedWith how len mh (x 
 unfoldable pub judgedBehind : How → ℕ → File → DbHeader → Opens
 judgedBehind how len f mh =
     let rest = judgedFound how len mh (foundBy how f) in
-    pick (leb (pageSize * countOf mh) len) (pick (how .exists) (judgedLog (decodeWalHeader (content f)) rest) rest) opened.MainShort
+    pick (leb (pageSize * countOf mh) len) (pick (how .exists) (judgedLog (decodeWalHeader (content f)) rest) rest) (opened.Refused refusal.MainShort)
 
 -- all but refusal 1
 unfoldable pub judgedFiles : How → Disk → Opens
 judgedFiles how d = judgedMain (mainHeader (d .main)) (judgedBehind how (d .main .len) (d .log))
-
-abbrev pub isOpened : OpenAnswer → Bool
-isOpened answer.Opened = true
-isOpened answer.Area = false
-isOpened answer.Short = false
-isOpened answer.Magic = false
-isOpened answer.Version = false
-isOpened answer.PageSize = false
-isOpened answer.Limit = false
-isOpened answer.MainShort = false
-isOpened answer.PageZero = false
-isOpened answer.ReadOnly = false

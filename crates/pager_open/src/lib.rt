@@ -13,11 +13,13 @@ ghost use Rattle.header.specs.Header.{encodeHeader};
 ghost use Rattle.wal.specs.Header.{decodeWalHeader};
 ghost use Rattle.wal.specs.Recovery.{chunks, recovered, walOf};
 ghost use Rattle.wal.specs.Write.{emptyWal, createdHeader, headed};
+ghost use Rattle.pager_state.specs.World.{lengthsFine};
 ghost use Rattle.pager_state.specs.Overlay.{entry};
 ghost use Rattle.pager_state.specs.Commit.{entered};
 ghost use Rattle.pager_state.specs.Opening.{hasPage, tableOf, opensAs, firstHeader, create, createTable, createLog, createMain, writes, foundIn, foundFresh, mainHeader, judgedLog, recounted, headerBy, openingOf, openPager, openedAnswer, openTable, openLogArea, noPager};
+ghost use Rattle.pager_state.specs.Opened.{Refused};
 ghost use Rattle.pager_open.specs.Given.{how, howOf, files};
-ghost use Rattle.pager_open.specs.Judging.{lengthsFine, sealedWal, keptWal, barred, openedWith, judgedFound, judgedBehind, judgedFiles, isOpened};
+ghost use Rattle.pager_open.specs.Judging.{sealedWal, keptWal, barred, openedWith, judgedFound, judgedBehind, judgedFiles};
 use frame::FRAME_SIZE;
 use header::DbHeader;
 use header::HeaderDecoded;
@@ -36,6 +38,7 @@ use pager_state::PagerOpened;
 use pager_state::STAGED_PAGES;
 use pager_state::STAGING_AREA;
 use pager_state::Staged;
+use refusal::Refusal;
 use wal::LastCommit;
 use wal::WAL_AREA;
 use wal::WAL_HEADER_SIZE;
@@ -62,19 +65,7 @@ fn are_fine(
 ) -> bool
     ensures { λ r. ⌜ r ≡ lengthsFine table «log_area» log «main_area» main staging ⌝ }
 {
-    if table != PAGES {
-        return false;
-    }
-    if log_area != WAL_AREA {
-        return false;
-    }
-    if WAL_AREA < log {
-        return false;
-    }
-    if main_area != MAIN_AREA {
-        return false;
-    }
-    if MAIN_AREA < main {
+    if !pager_state::are_files_inside(table, log_area, log, main_area, main) {
         return false;
     }
     staging == STAGING_AREA
@@ -226,29 +217,12 @@ fn no_store() -> Pager
     open_store(header, header, 0, empty_wal(0), Opening::NoLog)
 }
 
-fn refused(answer: OpenAnswer) -> PagerOpened
-    ensures { λ r. ⌜ r ≡ record { answer = answer; pager = noPager } ⌝ }
+fn refused(refusal: Refusal) -> PagerOpened
+    ensures { λ r. ⌜ r ≡ openedAnswer (Refused refusal) ⌝ }
 {
     PagerOpened {
-        answer,
+        answer: OpenAnswer::Refused(refusal),
         pager: no_store(),
-    }
-}
-
-fn is_opened(answer: OpenAnswer) -> bool
-    ensures { λ r. ⌜ r ≡ isOpened answer ⌝ }
-{
-    match answer {
-        OpenAnswer::Opened => true,
-        OpenAnswer::Area => false,
-        OpenAnswer::Short => false,
-        OpenAnswer::Magic => false,
-        OpenAnswer::Version => false,
-        OpenAnswer::PageSize => false,
-        OpenAnswer::Limit => false,
-        OpenAnswer::MainShort => false,
-        OpenAnswer::PageZero => false,
-        OpenAnswer::ReadOnly => false,
     }
 }
 
@@ -301,10 +275,10 @@ fn opened_with(
     ensures { λ r. ⌜ r ≡ openedAnswer (openedWith (howOf options) «main_len» «main_header» wal header) ⌝ }
 {
     if !covers(MAIN_AREA, header) {
-        return refused(OpenAnswer::Limit);
+        return refused(Refusal::Limit);
     }
     if is_barred(options) {
-        return refused(OpenAnswer::ReadOnly);
+        return refused(Refusal::ReadOnly);
     }
     let opening = opening_of(options);
     PagerOpened {
@@ -360,10 +334,7 @@ fn judge_found(
             kept(wal, options.clean),
             header,
         ),
-        HeaderDecoded::Short => refused(OpenAnswer::PageZero),
-        HeaderDecoded::Magic => refused(OpenAnswer::PageZero),
-        HeaderDecoded::Version => refused(OpenAnswer::PageZero),
-        HeaderDecoded::PageSize => refused(OpenAnswer::PageZero),
+        HeaderDecoded::Refused(_) => refused(Refusal::PageZero),
     }
 }
 
@@ -379,11 +350,7 @@ fn judge_log(
 {
     match Wal::open(file) {
         WalOpened::Opened(wal) => judge_found(file, wal, main_len, main_header, options),
-        WalOpened::Area => refused(OpenAnswer::Area),
-        WalOpened::Short => refused(OpenAnswer::Short),
-        WalOpened::Magic => refused(OpenAnswer::Magic),
-        WalOpened::Version => refused(OpenAnswer::Version),
-        WalOpened::PageSize => refused(OpenAnswer::PageSize),
+        WalOpened::Refused(refusal) => refused(refusal),
     }
 }
 
@@ -410,7 +377,7 @@ fn judge_behind(
     ensures { λ r. ⌜ r ≡ openedAnswer (judgedBehind (howOf options) «main_len» (record { area = now (log .entry); len = «log_len» }) «main_header») ⌝ }
 {
     if !covers(main_len, main_header) {
-        return refused(OpenAnswer::MainShort);
+        return refused(Refusal::MainShort);
     }
     if options.log_exists {
         return judge_log(le::part(log, 0, log_len), main_len, main_header, options);
@@ -429,7 +396,7 @@ fn read_header(main: &[u8], main_len: usize) -> HeaderDecoded
     ensures { λ r. ⌜ r ≡ mainHeader (record { area = now (main .entry); len = «main_len» }) ⌝ }
 {
     if main_len < PAGE_SIZE {
-        return HeaderDecoded::Short;
+        return HeaderDecoded::Refused(Refusal::Short);
     }
     header::decode_header(le::part(main, 0, PAGE_SIZE))
 }
@@ -447,10 +414,7 @@ fn judge(
 {
     match read_header(main, main_len) {
         HeaderDecoded::Header(header) => judge_behind(log, log_len, main_len, header, options),
-        HeaderDecoded::Short => refused(OpenAnswer::Short),
-        HeaderDecoded::Magic => refused(OpenAnswer::Magic),
-        HeaderDecoded::Version => refused(OpenAnswer::Version),
-        HeaderDecoded::PageSize => refused(OpenAnswer::PageSize),
+        HeaderDecoded::Refused(refusal) => refused(refusal),
     }
 }
 
@@ -489,13 +453,13 @@ fn open(
         main_len,
         staging.len(),
     ) {
-        return refused(OpenAnswer::Area);
+        return refused(Refusal::Area);
     }
     let opened = judge(log, main, log_len, main_len, options);
     let answer = opened.answer;
-    if !is_opened(answer) {
+    let OpenAnswer::Opened = answer else {
         return opened;
-    }
+    };
     let pager = opened.pager;
     let storage = pager.storage;
     fill_table(table, le::part(log, 0, pager.recovered), storage.header);
@@ -577,7 +541,7 @@ pub fn create(
 {
     if !are_fine(table.len(), log.len(), 0, main.len(), 0, staging.len()) {
         return PagerCreated {
-            answer: CreateAnswer::Area,
+            answer: CreateAnswer::Refused(Refusal::Area),
             pager: no_store(),
         };
     }

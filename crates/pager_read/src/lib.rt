@@ -1,12 +1,11 @@
 // Reading the open store: its header, access mode and clock, its pages, and the batches that the opening found.
 // A page is read where it lies. Every public function is total.
 ghost use mathlib.Core.Path.{_≡_};
-ghost use Rattle.le.specs.Choice.{pick};
 ghost use Rattle.pager_state.specs.World.{world};
-ghost use Rattle.pager_state.specs.Overlay.{isStaged, stagedAt, below, findPage, readPage};
+ghost use Rattle.pager_state.specs.Overlay.{slots, below, placePage, findPage, readPage};
 ghost use Rattle.pager_state.specs.Queries.{header, modeBy, accessMode, clockHighWater, raised, observedBy, observeClock};
 ghost use Rattle.pager_state.specs.Batches.{recoveredAs, nextRecovered};
-ghost use Rattle.pager_read.specs.Reading.{mayRead, placePage, readEnd};
+ghost use Rattle.pager_read.specs.Reading.{mayRead, readEnd};
 use frame::FRAME_HEADER_SIZE;
 use page::PAGE_SIZE;
 use pager_state::AccessMode;
@@ -22,6 +21,7 @@ use pager_state::RecoveredFound;
 use pager_state::STAGED_PAGES;
 use pager_state::STAGING_AREA;
 use pager_state::Staged;
+use refusal::Refusal;
 use wal::BatchFound;
 use wal::ClockSet;
 use wal::WAL_AREA;
@@ -33,7 +33,7 @@ pub fn header(pager: Pager) -> HeaderRead
 {
     let job = pager.job;
     if pager_state::is_busy(job) {
-        return HeaderRead::Busy;
+        return HeaderRead::Refused(Refusal::Busy);
     }
     let current = pager.current_header;
     HeaderRead::Header(current)
@@ -56,7 +56,7 @@ pub fn access_mode(pager: Pager) -> ModeRead
 {
     let job = pager.job;
     if pager_state::is_busy(job) {
-        return ModeRead::Busy;
+        return ModeRead::Refused(Refusal::Busy);
     }
     let opening = pager.opening;
     ModeRead::Mode(mode_of(opening))
@@ -68,7 +68,7 @@ pub fn clock_high_water(pager: Pager) -> ClockRead
 {
     let job = pager.job;
     if pager_state::is_busy(job) {
-        return ClockRead::Busy;
+        return ClockRead::Refused(Refusal::Busy);
     }
     let wal = pager.wal;
     let header = wal.header;
@@ -104,7 +104,7 @@ pub fn observe_clock_high_water(pager: Pager, value: u64) -> ClockObserved
     let job = pager.job;
     if pager_state::is_busy(job) {
         return ClockObserved {
-            answer: ObserveAnswer::Busy,
+            answer: ObserveAnswer::Refused(Refusal::Busy),
             pager,
         };
     }
@@ -144,7 +144,7 @@ pub fn place_page(
     staged: &[u16; 64],
     table: &[u32],
 ) -> PageFound
-    ensures { λ r. ⌜ r ≡ placePage «page_count» «page_num» «staged_count» (now (staged .entry)) (now (table .entry)) ⌝ }
+    ensures { λ r. ⌜ r ≡ placePage «page_count» (slots «staged_count» (now (staged .entry))) (now (table .entry)) «page_num» ⌝ }
 {
     let slot = pager_state::find_in(staged, staged_count, page_num as usize);
     if staged_count <= slot {
@@ -158,7 +158,7 @@ pub fn place_page(
 
 // The same of a store's staged pages.
 fn overlay(staged: Staged, count: u32, table: &[u32], page_num: u32) -> PageFound
-    ensures { λ r. ⌜ r ≡ pick (isStaged staged «page_num») (PageFound.Staged (stagedAt staged «page_num»)) (below count (now (table .entry)) «page_num») ⌝ }
+    ensures { λ r. ⌜ r ≡ placePage count staged (now (table .entry)) «page_num» ⌝ }
 {
     let n = staged.count;
     place_page(count, page_num, n, &staged.pages, table)
@@ -176,11 +176,11 @@ pub fn find_page(
     ensures { λ r. ⌜ r ≡ findPage (world pager (now (table .entry)) (now (log .entry)) (now (main .entry))) (now (staging .entry)) «page_num» ⌝ }
 {
     if !pager_state::are_fine(pager, table.len(), log.len(), main.len(), staging.len()) {
-        return PageFound::Area;
+        return PageFound::Refused(Refusal::Area);
     }
     let job = pager.job;
     if pager_state::is_busy(job) {
-        return PageFound::Busy;
+        return PageFound::Refused(Refusal::Busy);
     }
     let staged = pager.staged;
     let header = pager.current_header;
@@ -203,8 +203,7 @@ pub fn read_end(page_count: u32, staged_count: usize) -> usize
 // What judging a reading answers.
 pub enum ReadAnswer {
     Allowed,
-    Area,
-    Busy,
+    Refused(Refusal),
 }
 
 // What a reading refuses, judged once for all pages of a store: for a host that reads often. A job of 0 is none.
@@ -228,13 +227,13 @@ pub fn may_read(
         log.len(),
         main.len(),
     ) {
-        return ReadAnswer::Area;
+        return ReadAnswer::Refused(Refusal::Area);
     }
     if staging.len() != STAGING_AREA {
-        return ReadAnswer::Area;
+        return ReadAnswer::Refused(Refusal::Area);
     }
     if job != 0 {
-        return ReadAnswer::Busy;
+        return ReadAnswer::Refused(Refusal::Busy);
     }
     ReadAnswer::Allowed
 }
@@ -256,8 +255,7 @@ pub fn read_page<'a>(
         PageFound::Log(at) => pager_state::page_from(log, at),
         PageFound::Main(at) => pager_state::page_from(main, at),
         PageFound::Nothing => &log[..0],
-        PageFound::Area => &log[..0],
-        PageFound::Busy => &log[..0],
+        PageFound::Refused(_) => &log[..0],
     }
 }
 
@@ -275,15 +273,15 @@ pub fn recovered_mvcc_commits(pager: Pager, log: &[u8], index: usize) -> Recover
     ensures { λ r. ⌜ r ≡ nextRecovered pager (now (log .entry)) index ⌝ }
 {
     if log.len() != WAL_AREA {
-        return RecoveredFound::Area;
+        return RecoveredFound::Refused(Refusal::Area);
     }
     let wal = pager.wal;
     if WAL_AREA < wal.len {
-        return RecoveredFound::Area;
+        return RecoveredFound::Refused(Refusal::Area);
     }
     let job = pager.job;
     if pager_state::is_busy(job) {
-        return RecoveredFound::Busy;
+        return RecoveredFound::Refused(Refusal::Busy);
     }
     recovered_as(wal::first_batch(le::part(log, 0, pager.recovered), index))
 }

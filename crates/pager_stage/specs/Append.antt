@@ -1,32 +1,23 @@
 -- Parts of appending a batch; the whole is `appendBatch` of the pager's definitions.
-use mathlib.Core.Bool.{Bool}
 use mathlib.Core.List.{List}
+use mathlib.Core.Option.{Option, none, some}
 use Prim.Native.Nat.{ℕ}
-use lib.Dec.{leb, eqb}
+use lib.Dec.{leb}
 use lib.ListN.{length}
 use Rattle.le.specs.Choice.{pick, both}
 use Rattle.page.specs.Page.{pageSize}
-use Rattle.mvcc.specs.Seen.{refusalOf}
+use Rattle.refusal.specs.declared.Refusal.{Refusal}
+use Rattle.refusal.specs.declared.Refusal.the-variants as refusal
+use Rattle.mvcc.specs.Seen.{headingRefusal}
 use Rattle.wal.specs.Recovery.{walArea}
-use Rattle.wal_batch.specs.declared.BatchAppended.{BatchAppended}
-use Rattle.wal_batch.specs.declared.BatchAppended.the-variants as done
-use Rattle.pager_state.specs.declared.BatchAnswer.{BatchAnswer}
-use Rattle.pager_state.specs.declared.BatchAnswer.the-variants as append
+use Rattle.pager_state.specs.World.{inArea}
 
--- "lowest number first": 1, 2 and 3 before another answer
-abbrev pub lowest : ℕ → ℕ → List ℕ → BatchAnswer → BatchAnswer
+-- the refusal itself, or another where there is none
+abbrev pub orElse : Option Refusal → Refusal → Refusal
+orElse none other = other
+orElse (some r) other = r
+
+-- "lowest number first": 1, 2 and 3 before another refusal
+abbrev pub lowest : ℕ → ℕ → List ℕ → Refusal → Refusal
 lowest log len body other =
-    pick (both (both (eqb log walArea) (leb len walArea)) (leb (length body) pageSize))
-    (pick (eqb (refusalOf body) 2) append.Short (pick (eqb (refusalOf body) 3) append.Magic other))
-    append.Area
-
--- the log's answers have the same numbers
-abbrev pub answerOf : BatchAppended → BatchAnswer
-answerOf (done.Appended w) = append.Appended
-answerOf done.Area = append.Area
-answerOf done.Short = append.Short
-answerOf done.Magic = append.Magic
-answerOf done.LogFull = append.LogFull
-answerOf done.Truncated = append.Truncated
-answerOf done.Tag = append.Tag
-answerOf done.Text = append.Text
+    pick (both (inArea walArea log len) (leb (length body) pageSize)) (orElse (headingRefusal body) other) refusal.Area

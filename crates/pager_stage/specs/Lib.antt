@@ -1,3 +1,2 @@
 -- The root of the definitions of `pager_stage`.
 pub mod Append
-pub mod StageIn

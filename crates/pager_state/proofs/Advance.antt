@@ -19,7 +19,7 @@ use Rattle.wal.proofs.Encoding.{length-encodeWalHeader}
 use Rattle.pager_state.specs.World.{World, pageLimit, stagingArea, countOf, headerOf, busyWith, busy}
 use Rattle.pager_state.specs.Overlay.{isStaged, stagedBytes, entry, onMain, committedBytes}
 use Rattle.pager_state.specs.Stores.{File, diskOf, Act, putFile, lenFile, stored}
-use Rattle.pager_state.specs.Pages.{pagesFrom, differs, folds}
+use Rattle.pager_state.specs.Pages.{pagesFrom, differsIn, differs, foldsBy, folds}
 use Rattle.pager_state.specs.Fold.{pageAct, mainHeaderAct, mainLengthAct, logLengthAct, logHeaderAct, nextHeader, paged, headed, lengthened, emptied, folded, pagesTodo, lengthTodo, emptyTodo, headerTodo, foldTodo}
 use Rattle.pager_state.specs.Commit.{saltOf, frameAct, framed, sealAct, sealedPager, sealedWorld, framesTodo, commitTodo}
 use Rattle.pager_state.specs.Steps.{todo, answerOf}
@@ -61,7 +61,7 @@ module _ (g : List ℕ) (h : DbHeader) (salt answer : ℕ) (w : World) (n : ℕ)
 
   pub framed-differs : {P : ℕ → Bool} → PlacedOf P w → Names P w → w .pager .wal .len ≤ length (w .log) → (m : ℕ) → suc n ≤ m → m < pageLimit
       → differs g (framed g h salt answer n w) m ≡ differs g w m
-  unfolding differs framed
+  unfolding differsIn framed
   framed-differs p c l m a b = framed-bytes p c l m a b (isStaged (w .pager .staged) m) refl
 
   framed-left : {P : ℕ → Bool} → PlacedOf P w → Names P w → w .pager .wal .len ≤ length (w .log)
@@ -155,7 +155,7 @@ module _ (g : List ℕ) (h : DbHeader) (salt answer : ℕ) (w : World) where
 module _ {P : ℕ → Bool} (g : List ℕ) (salt answer : ℕ) (w : World) (f : Fine w) (m : MadeOf P w) (q : answerOf (w .pager .job) ≡ answer) where
   pub after-paged : PlacedOf P w → (n : ℕ) (last : Bool)
       → After P g w (pageAct w n last) (pagesTodo salt answer (pagesFrom (folds w) (suc n)) (paged salt answer n w)) (paged salt answer n w)
-  unfolding paged todo commitTodo foldTodo folds
+  unfolding paged todo commitTodo foldTodo foldsBy
   after-paged p n last =
       record { disk = refl; left = refl; table = refl; count = f .count; made = record { slots = m .slots; asked = p }; answer = λ z. sym q }
 

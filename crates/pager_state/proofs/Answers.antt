@@ -2,13 +2,15 @@
 use mathlib.Core.Path.{_≡_, refl, sym, ap, _∙_}
 use mathlib.Core.Bool.{Bool, true, false}
 use mathlib.Core.List.{List, [], _∷_}
+use mathlib.Core.Option.{none}
 use Prim.Native.Nat.{ℕ, zero, suc}
 use native.Mathlib.Omega.{arith}
 use lib.ListN.{length, drop}
+use Rattle.refusal.specs.declared.Refusal.the-variants as refusal
 use Rattle.header.specs.declared.DbHeader.{DbHeader}
 use Rattle.pager_state.specs.World.{World, busyWith, busy}
 use Rattle.pager_state.specs.Stores.{Act, inside, placeOf}
-use Rattle.pager_state.specs.Steps.{differing, commitStart, isBegun, beginCommit, checkpointStart, isFolding, folding, beginCheckpoint, todo, answerOf, named, stepFine, stepAnswer, stepped, steps}
+use Rattle.pager_state.specs.Steps.{differing, commitRefusal, beginCommit, checkpointBegins, folding, beginCheckpoint, todo, answerOf, named, stepFine, stepAnswer, stepped, steps}
 use Rattle.pager_state.specs.declared.Job.{Job}
 use Rattle.pager_state.specs.declared.Job.the-variants as job
 use Rattle.pager_state.specs.declared.StepAnswer.the-variants as step
@@ -21,7 +23,7 @@ use Rattle.pager_state.proofs.Begun.{begun-commit, begun-checkpoint}
 -- ---- one step, in any store
 
 module _ (g : List ℕ) (w : World) where
-  pub answer-unfine : stepFine g w ≡ false → stepAnswer g w ≡ step.Area
+  pub answer-unfine : stepFine g w ≡ false → stepAnswer g w ≡ step.Refused refusal.Area
   unfolding stepAnswer
   answer-unfine e = rw e
 
@@ -34,7 +36,7 @@ module _ (g : List ℕ) (w : World) where
   unfolding named
   answer-idle e j = answer-fine e ∙ rw (idle-todo g w j)
 
-  pub answer-outside : (a : Act) (rest : List Act) → stepFine g w ≡ true → todo g w ≡ a ∷ rest → inside a ≡ false → stepAnswer g w ≡ step.Area
+  pub answer-outside : (a : Act) (rest : List Act) → stepFine g w ≡ true → todo g w ≡ a ∷ rest → inside a ≡ false → stepAnswer g w ≡ step.Refused refusal.Area
   unfolding named
   answer-outside a rest e t i = answer-fine e ∙ rw (t, i)
 
@@ -122,9 +124,9 @@ module _ (g : List ℕ) where
 
 -- ---- the number fixed at the start
 
-pub commit-answer : (g : List ℕ) (w : World) (h : DbHeader) (salt : ℕ) → isBegun (commitStart g w h) ≡ true
+pub commit-answer : (g : List ℕ) (w : World) (h : DbHeader) (salt : ℕ) → commitRefusal g w h ≡ none
     → answerOf (beginCommit g w h salt .pager .job) ≡ differing g w
 commit-answer g w h salt e = rw (begun-commit g w h e salt)
 
-pub checkpoint-answer : (g : List ℕ) (w : World) (salt : ℕ) → isFolding (checkpointStart g w) ≡ true → answerOf (beginCheckpoint g w salt .pager .job) ≡ folding w
+pub checkpoint-answer : (g : List ℕ) (w : World) (salt : ℕ) → checkpointBegins g w ≡ true → answerOf (beginCheckpoint g w salt .pager .job) ≡ folding w
 checkpoint-answer g w salt e = rw (begun-checkpoint g w e salt)

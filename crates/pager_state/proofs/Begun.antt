@@ -1,45 +1,38 @@
 -- What a commit or fold that was begun tells of the store, and that what the laws of steps ask holds then. Assumes nothing.
-use mathlib.Core.Path.{_≡_, refl, sym, _∙_, ap}
-use mathlib.Core.Bool.{Bool, true, false}
+use mathlib.Core.Path.{_≡_, refl, sym}
+use mathlib.Core.Bool.{Bool, true, false, not}
 use mathlib.Core.List.{List, append-nil}
+use mathlib.Core.Option.{none}
 use Prim.Native.Nat.{ℕ, _+_, _*_, _≤_}
 use native.Mathlib.Omega.{arith}
 use borrow.Author.Tests.{leb-true}
-use lib.Dec.{leb, ltb}
+use lib.Dec.{leb}
 use lib.ListN.{length}
 use Rattle.le.specs.Choice.{pick, both}
 use Rattle.le.proofs.Compare.{no-test, both-true}
+use Rattle.refusal.specs.Refusal.{accepts}
+use Rattle.refusal.specs.declared.Refusal.the-variants as refusal
+use Rattle.refusal.proofs.Judged.{met, passes}
 use Rattle.header.specs.Header.{isVersion}
 use Rattle.header.specs.declared.DbHeader.{DbHeader}
 use Rattle.frame.specs.Frame.{frameSize}
 use Rattle.wal.specs.Recovery.{walArea}
 use Rattle.pager_state.specs.World.{World, pageLimit, stagedLimit, countOf, fine, busyWith, busy, readOnly, withJob}
-use Rattle.pager_state.specs.Overlay.{isStaged, committedBytes}
+use Rattle.pager_state.specs.Overlay.{isStaged}
 use Rattle.pager_state.specs.Pages.{pagesFrom, differs}
 use Rattle.pager_state.specs.Fold.{foldTodo}
 use Rattle.pager_state.specs.Commit.{framesTodo, commitTodo}
-use Rattle.pager_state.specs.Steps.{headerGood, differing, lacking, roomFor, tableFits, commitFine, commitStart, isBegun, beginCommit, commitRefusal, nothingToFold, checkpointStart, checkpointRefusal, isFolding, folding, beginCheckpoint, todo, stepFine, onStore}
+use Rattle.pager_state.specs.Steps.{headerGood, differing, lacking, roomFor, tableFits, commitFine, commitRefusal, beginCommit, nothingToFold, checkpointRefusal, checkpointBegins, folding, beginCheckpoint, todo, stepFine, onStore}
 use Rattle.pager_state.specs.declared.Job.{Job}
 use Rattle.pager_state.specs.declared.Job.the-variants as job
-use Rattle.pager_state.specs.declared.CommitStart.{CommitStart}
-use Rattle.pager_state.specs.declared.CommitStart.the-variants as commit
-use Rattle.pager_state.specs.declared.CheckpointStart.{CheckpointStart}
-use Rattle.pager_state.specs.declared.CheckpointStart.the-variants as checkpoint
 use Rattle.pager_state.proofs.Stored.{AllInside}
 use Rattle.pager_state.proofs.Made.{ready-fine, PlacedOf, Names, Made, Ready, ReadyOf}
 use Rattle.pager_state.proofs.Before.{stands-frame, before-staged}
 use Rattle.pager_state.proofs.Inside.{fold-inside, frames-inside}
 
--- ---- choices that came out as begun
-
-module _ {A : Type 0} (f : A → Bool) where
-  chosen : (t : Bool) (x r : A) → f r ≡ false → f (pick t x r) ≡ true → (t ≡ true) × (f x ≡ true)
-  chosen true x r n e = (refl, e)
-  chosen false x r n e = no-test (sym n ∙ e)
-
-  passed : (t : Bool) (x r : A) → f r ≡ false → f (pick t r x) ≡ true → (t ≡ false) × (f x ≡ true)
-  passed true x r n e = no-test (sym n ∙ e)
-  passed false x r n e = (refl, e)
+pub off : (b : Bool) → not b ≡ true → b ≡ false
+off true e = no-test e
+off false e = refl
 
 -- nothing part done
 pub not-busy : (j : Job) → busyWith j ≡ false → j ≡ job.Idle
@@ -60,41 +53,32 @@ pub record CommitBegun (g : List ℕ) (w : World) (h : DbHeader) : Type 0 where
   pub low : 1 ≤ countOf h
   pub high : countOf h ≤ pageLimit
   pub version : isVersion (h .«format_version») ≡ true
-  pub joined : ltb (lacking w h) pageLimit ≡ false
+  pub joined : pageLimit ≤ lacking w h
   pub room : w .pager .wal .len + frameSize * (differing g w + 1) ≤ walArea
 
--- no refusal is Begun
-pub commit-unrefused : (a : CommitStart) → commitRefusal a ≡ 0 → isBegun a ≡ true
-commit-unrefused commit.Begun e = refl
-commit-unrefused commit.Area e = absurd (omega arith)
-commit-unrefused commit.Busy e = absurd (omega arith)
-commit-unrefused commit.ReadOnly e = absurd (omega arith)
-commit-unrefused commit.NewHeader e = absurd (omega arith)
-commit-unrefused (commit.Joining n) e = absurd (omega arith)
-commit-unrefused commit.LogFull e = absurd (omega arith)
-
-module _ (g : List ℕ) (w : World) (h : DbHeader) (e : isBegun (commitStart g w h) ≡ true) where
+module _ (g : List ℕ) (w : World) (h : DbHeader) (e : commitRefusal g w h ≡ none) where
   pub commit-begun : CommitBegun g w h
-  unfolding commitStart
+  unfolding commitRefusal
   commit-begun =
-      let a = chosen isBegun (commitFine g w) _ commit.Area refl e in
+      let a = met (commitFine g w) refusal.Area _ e in
       let f = both-true (stepFine g w) (pick (busy (w .pager)) true (tableFits w)) (a .0) in
-      let b = passed isBegun (busy (w .pager)) _ commit.Busy refl (a .1) in
-      let c = passed isBegun (readOnly (w .pager)) _ commit.ReadOnly refl (b .1) in
-      let d = chosen isBegun (headerGood h) _ commit.NewHeader refl (c .1) in
-      let i = passed isBegun (ltb (lacking w h) pageLimit) _ (commit.Joining (lacking w h)) refl (d .1) in
-      let k = chosen isBegun (roomFor w (differing g w + 1)) commit.Begun commit.LogFull refl (i .1) in
+      let b = met (not (busy (w .pager))) refusal.Busy _ (a .1) in
+      let c = met (not (readOnly (w .pager))) refusal.ReadOnly _ (b .1) in
+      let d = met (headerGood h) refusal.NewHeader _ (c .1) in
+      let i = met (leb pageLimit (lacking w h)) (refusal.Joining (lacking w h)) _ (d .1) in
+      let k = met (roomFor w (differing g w + 1)) refusal.LogFull none (i .1) in
+      let q : busy (w .pager) ≡ false = off _ (b .0) in
       let x = both-true (leb 1 (countOf h)) (both (leb (countOf h) pageLimit) (isVersion (h .«format_version»))) (d .0) in
       let y = both-true (leb (countOf h) pageLimit) (isVersion (h .«format_version»)) (x .1) in
       record {
         right = f .0;
-        before = rw (b .0) at (f .1);
-        idle = not-busy (w .pager .job) (b .0);
-        writes = c .0;
+        before = rw q at (f .1);
+        idle = not-busy (w .pager .job) q;
+        writes = off _ (c .0);
         low = leb-true 1 (countOf h) (x .0);
         high = leb-true (countOf h) pageLimit (y .0);
         version = y .1;
-        joined = i .0;
+        joined = leb-true _ _ (i .0);
         room = leb-true _ _ (k .0);
       }
 
@@ -106,7 +90,7 @@ module _ (g : List ℕ) (w : World) (h : DbHeader) (e : isBegun (commitStart g w
   -- no step of it is refused on the way
   commit-todo : (salt n : ℕ) → todo g (onStore w (withJob (w .pager) (job.Commit h salt 0 n)))
       ≡ framesTodo g h salt n (pagesFrom (differs g w) 0) (onStore w (withJob (w .pager) (job.Commit h salt 0 n)))
-  unfolding todo commitTodo foldTodo differs committedBytes
+  unfolding todo commitTodo foldTodo
   commit-todo salt n = append-nil _
 
   pub commit-inside : (salt : ℕ) → AllInside (todo g (onStore w (beginCommit g w h salt .pager)))
@@ -141,15 +125,15 @@ pub record CheckpointBegun (g : List ℕ) (w : World) : Type 0 where
   pub writes : readOnly (w .pager) ≡ false
   pub some : nothingToFold w ≡ false
 
-module _ (g : List ℕ) (w : World) (e : isFolding (checkpointStart g w) ≡ true) where
+module _ (g : List ℕ) (w : World) (e : checkpointBegins g w ≡ true) where
   pub checkpoint-begun : CheckpointBegun g w
-  unfolding checkpointStart
+  unfolding checkpointRefusal
   checkpoint-begun =
-      let a = chosen isFolding (stepFine g w) _ checkpoint.Area refl e in
-      let b = passed isFolding (busy (w .pager)) _ checkpoint.Busy refl (a .1) in
-      let c = passed isFolding (readOnly (w .pager)) _ checkpoint.ReadOnly refl (b .1) in
-      let d = passed isFolding (nothingToFold w) checkpoint.Begun checkpoint.Nothing refl (c .1) in
-      record { right = a .0; idle = not-busy (w .pager .job) (b .0); writes = c .0; some = d .0 }
+      let x = both-true (accepts (checkpointRefusal g w)) (not (nothingToFold w)) e in
+      let a = met (stepFine g w) refusal.Area _ (passes _ (x .0)) in
+      let b = met (not (busy (w .pager))) refusal.Busy _ (a .1) in
+      let c = met (not (readOnly (w .pager))) refusal.ReadOnly none (b .1) in
+      record { right = a .0; idle = not-busy (w .pager .job) (off _ (b .0)); writes = off _ (c .0); some = off _ (x .1) }
 
   pub begun-checkpoint : (salt : ℕ) → beginCheckpoint g w salt .pager ≡ withJob (w .pager) (job.Fold salt 0 (folding w))
   unfolding beginCheckpoint
@@ -177,10 +161,6 @@ module _ (g : List ℕ) (w : World) (e : isFolding (checkpointStart g w) ≡ tru
   pub checkpoint-made : (salt : ℕ) → Made w → Ready g (onStore w (beginCheckpoint g w salt .pager))
   checkpoint-made salt m = fold-ready salt (m .slots) (rw (checkpoint-begun .idle) at (m .asked))
 
--- no refusal stores anything
-pub checkpoint-unrefused : (a : CheckpointStart) → checkpointRefusal a ≡ 0 → isFolding a ≡ false → a ≡ checkpoint.Nothing
-checkpoint-unrefused checkpoint.Begun e f = absurd (omega (arith, ap {B = ℕ} (λ (b : Bool). pick b 1 0) f))
-checkpoint-unrefused checkpoint.Nothing e f = refl
-checkpoint-unrefused checkpoint.Area e f = absurd (omega arith)
-checkpoint-unrefused checkpoint.Busy e f = absurd (omega arith)
-checkpoint-unrefused checkpoint.ReadOnly e f = absurd (omega arith)
+-- a fold that is not refused and has something to do is begun
+pub begins : (g : List ℕ) (w : World) → checkpointRefusal g w ≡ none → nothingToFold w ≡ false → checkpointBegins g w ≡ true
+begins g w e n = rw (e, n)

@@ -2,6 +2,7 @@
 use mathlib.Core.Path.{_≡_, refl, sym, ap, _∙_}
 use mathlib.Core.Bool.{Bool, true, false}
 use mathlib.Core.List.{List, [], _∷_, _++_, append-nil}
+use mathlib.Core.Option.{none}
 use Prim.Native.Nat.{ℕ, _+_, _≤_, _<_}
 use native.Mathlib.Omega.{arith}
 use lib.ListN.{length, take, drop, drop-of-length-le}
@@ -13,7 +14,7 @@ use Rattle.pager_state.specs.Stores.{diskOf, Act, storedAll}
 use Rattle.pager_state.specs.Pages.{pagesFrom, differs, folds}
 use Rattle.pager_state.specs.Fold.{paged, pagesTodo, foldTodo}
 use Rattle.pager_state.specs.Commit.{framed, sealedWorld, framesTodo, commitTodo}
-use Rattle.pager_state.specs.Steps.{commitStart, isBegun, beginCommit, checkpointStart, isFolding, beginCheckpoint, todo, steps, mostSteps, onStore, commitWorld, checkpointWorld}
+use Rattle.pager_state.specs.Steps.{commitRefusal, beginCommit, checkpointBegins, beginCheckpoint, todo, steps, mostSteps, onStore, commitWorld, checkpointWorld}
 use Rattle.pager_state.specs.declared.Job.{Job}
 use Rattle.pager_state.specs.declared.Job.the-variants as job
 use Rattle.pager_state.proofs.Searches.{pages-length}
@@ -110,7 +111,7 @@ module _ {P : ℕ → Bool} (g : List ℕ) (w : World) (r : ReadyOf P g w) (h : 
 -- ---- in one call
 
 -- in any store; P says of which pages what the laws of steps ask is known
-module _ (g : List ℕ) (w : World) (h : DbHeader) (salt : ℕ) (e : isBegun (commitStart g w h) ≡ true) where
+module _ (g : List ℕ) (w : World) (h : DbHeader) (salt : ℕ) (e : commitRefusal g w h ≡ none) where
   begun-disk : diskOf (onStore w (beginCommit g w h salt .pager)) ≡ diskOf w
   begun-disk = rw (begun-commit g w h e salt)
 
@@ -126,7 +127,7 @@ module _ (g : List ℕ) (w : World) (h : DbHeader) (salt : ℕ) (e : isBegun (co
       → Rests (isStaged (w .pager .staged)) g (todo g (onStore w (beginCommit g w h salt .pager))) w (commitWorld g w h salt)
   commit-done s = commit-ended (commit-ready g w h e salt s)
 
-module _ (g : List ℕ) (w : World) (salt : ℕ) (e : isFolding (checkpointStart g w) ≡ true) where
+module _ (g : List ℕ) (w : World) (salt : ℕ) (e : checkpointBegins g w ≡ true) where
   fold-disk : diskOf (onStore w (beginCheckpoint g w salt .pager)) ≡ diskOf w
   fold-disk = rw (begun-checkpoint g w e salt)
 

@@ -14,7 +14,7 @@ use Rattle.le.proofs.Fields.{drop-take}
 use Rattle.le.proofs.Compare.{no-test}
 use Rattle.le.proofs.Stores.{take-put}
 use Rattle.pager_state.specs.World.{World, pageLimit}
-use Rattle.pager_state.specs.Overlay.{frameOf, inLog, onMain, entry, logBytes, committedBytes}
+use Rattle.pager_state.specs.Overlay.{frameOf, inLog, onMain, entry, logBytes, committedIn, committedBytes}
 use Rattle.pager_state.specs.Fold.{foldedFrom}
 use Rattle.pager_state.specs.Commit.{entered}
 
@@ -99,7 +99,7 @@ part-before l at bs i k h e = sym (drop-take i k (put l at bs)) ∙ ap (drop i) 
 module _ (v w : World) (q x at : ℕ) (bs : List ℕ) (t : v .table ≡ set (w .table) q x) (l : v .log ≡ put (w .log) at bs) (m : v .main ≡ w .main)
     (a : at ≤ length (w .log)) (n : ℕ) (d : n ≡ q → ⊥) (b : inLog (w .table) n ≡ true → frameOf (w .table) n + 4112 ≤ at) where
   bytes-at : (s : Bool) → inLog (w .table) n ≡ s → committedBytes v n ≡ committedBytes w n
-  unfolding committedBytes logBytes
+  unfolding committedIn logBytes
   bytes-at true s =
       rw (t, l, log-other (w .table) q x n d, s, frame-other (w .table) q x n d)
       (part-before (w .log) at bs (frameOf (w .table) n + 16) 4096 (omega (arith, b s)) a)

@@ -1,4 +1,5 @@
 -- The root of the laws of `pager_state`.
+pub mod Jobs
 pub mod Slots
 pub mod Held
 pub mod Searches

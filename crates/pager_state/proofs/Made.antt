@@ -11,7 +11,7 @@ use Rattle.le.proofs.Compare.{both-true}
 use Rattle.frame.specs.Frame.{frameSize}
 use Rattle.wal.specs.Header.{headerSize}
 use Rattle.wal.specs.Recovery.{walArea}
-use Rattle.pager_state.specs.World.{World, mainArea, stagingArea, stagedLimit, pageLimit, countOf, headerOf, tableFine, logFine, mainFine, countFine, stagingFine, fine}
+use Rattle.pager_state.specs.World.{World, mainArea, stagingArea, stagedLimit, pageLimit, countOf, headerOf, inArea, stagingFine, fine}
 use Rattle.pager_state.specs.Overlay.{isStaged, frameOf, inLog}
 use Rattle.pager_state.specs.Stores.{diskOf}
 use Rattle.pager_state.specs.Steps.{stepFine}
@@ -29,10 +29,12 @@ pub record Fine (w : World) : Type 0 where
 pub fine-parts : (w : World) → fine w ≡ true → Fine w
 unfolding fine
 fine-parts w e =
-    let l : Bool = both (logFine (w .pager .wal .len) (w .log)) (both (mainFine (w .pager .storage .len) (w .main)) (countFine (w .pager))) in
-    let a = both-true (tableFine (w .table)) l e in
-    let b = both-true (logFine (w .pager .wal .len) (w .log)) (both (mainFine (w .pager .storage .len) (w .main)) (countFine (w .pager))) (a .1) in
-    let c = both-true (mainFine (w .pager .storage .len) (w .main)) (countFine (w .pager)) (b .1) in
+    let l : Bool = inArea walArea (length (w .log)) (w .pager .wal .len) in
+    let m : Bool = inArea mainArea (length (w .main)) (w .pager .storage .len) in
+    let n : Bool = leb (countOf (headerOf (w .pager))) pageLimit in
+    let a = both-true (eqb (length (w .table)) pageLimit) (both l (both m n)) e in
+    let b = both-true l (both m n) (a .1) in
+    let c = both-true m n (b .1) in
     let x = both-true (eqb (length (w .log)) walArea) (leb (w .pager .wal .len) walArea) (b .0) in
     let y = both-true (eqb (length (w .main)) mainArea) (leb (w .pager .storage .len) mainArea) (c .0) in
     record {

@@ -8,7 +8,7 @@ use Rattle.header.specs.declared.DbHeader.{DbHeader}
 use Rattle.pager_state.specs.World.{World}
 use Rattle.pager_state.specs.Stores.{Act}
 use Rattle.pager_state.specs.Pages.{pagesFrom, differs, folds}
-use Rattle.pager_state.specs.Fold.{none, pageAct, mainHeaderAct, mainLengthAct, logLengthAct, logHeaderAct, paged, headed, lengthened, emptied, folded, pagesTodo, lengthTodo, emptyTodo, headerTodo, foldTodo, pagesAdvance, foldAdvance}
+use Rattle.pager_state.specs.Fold.{isEmpty, pageAct, mainHeaderAct, mainLengthAct, logLengthAct, logHeaderAct, paged, headed, lengthened, emptied, folded, pagesTodo, lengthTodo, emptyTodo, headerTodo, foldTodo, pagesAdvance, foldAdvance}
 use Rattle.pager_state.specs.Commit.{frameAct, framed, sealAct, sealedWorld, framesTodo, framesAdvance, commitTodo, commitAdvance}
 use Rattle.pager_state.specs.Steps.{todo, advance}
 use Rattle.pager_state.specs.declared.Job.{Job}
@@ -34,7 +34,7 @@ pub data Next (g : List ℕ) (w : World) (a : Act) (rest : List Act) (v : World)
       → rest ≡ framesTodo g h salt answer (pagesFrom (differs g w) (suc n)) (framed g h salt answer n w) → v ≡ framed g h salt answer n w → Next g w a rest v
   Seal : (h : DbHeader) (salt page answer : ℕ) → w .pager .job ≡ job.Commit h salt page answer → pagesFrom (differs g w) page ≡ [] → a ≡ sealAct h w
       → rest ≡ foldTodo (sealedWorld h salt answer w .pager .job) (sealedWorld h salt answer w) → v ≡ sealedWorld h salt answer w → Next g w a rest v
-  Page : (salt page answer n : ℕ) → w .pager .job ≡ job.Fold salt page answer → First (folds w) page n → a ≡ pageAct w n (none (pagesFrom (folds w) (suc n)))
+  Page : (salt page answer n : ℕ) → w .pager .job ≡ job.Fold salt page answer → First (folds w) page n → a ≡ pageAct w n (isEmpty (pagesFrom (folds w) (suc n)))
       → rest ≡ pagesTodo salt answer (pagesFrom (folds w) (suc n)) (paged salt answer n w) → v ≡ paged salt answer n w → Next g w a rest v
   MainHeader : (salt page answer : ℕ) → w .pager .job ≡ job.Fold salt page answer → pagesFrom (folds w) page ≡ [] → a ≡ mainHeaderAct w
       → rest ≡ lengthTodo salt answer (headed salt answer w) → v ≡ headed salt answer w → Next g w a rest v

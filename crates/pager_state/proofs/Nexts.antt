@@ -3,6 +3,7 @@ use mathlib.Core.Path.{_≡_}
 use mathlib.Core.Bool.{true, false}
 use mathlib.Core.List.{List, _∷_}
 use Prim.Native.Nat.{ℕ}
+use Rattle.refusal.specs.declared.Refusal.the-variants as refusal
 use Rattle.pager_state.specs.World.{World}
 use Rattle.pager_state.specs.Stores.{Act, inside}
 use Rattle.pager_state.specs.Steps.{namedBy, named, done}
@@ -13,7 +14,7 @@ module _ (a : Act) (rest : List Act) where
   unfolding named
   named-in answer e = rw e
 
-  pub named-out : (answer : ℕ) → inside a ≡ false → named answer (a ∷ rest) ≡ step.Area
+  pub named-out : (answer : ℕ) → inside a ≡ false → named answer (a ∷ rest) ≡ step.Refused refusal.Area
   unfolding named
   named-out answer e = rw e
 

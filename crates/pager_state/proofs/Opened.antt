@@ -8,6 +8,7 @@ use native.Mathlib.Omega.{arith}
 use borrow.Author.Tests.{eqb-false, not-true}
 use lib.Dec.{leb, eqb}
 use lib.ListN.{length, getD}
+use Rattle.refusal.specs.declared.Refusal.the-variants as refusal
 use Rattle.le.specs.Choice.{pick, both}
 use Rattle.header.specs.Header.{headerIn}
 use Rattle.header.specs.declared.DbHeader.{DbHeader}
@@ -128,36 +129,19 @@ found-by how f =
 module _ (P : Pager → Type 0) where
   abbrev IfOpened : Opens → Type 0
   IfOpened (opened.Opened p) = P p
-  IfOpened opened.Area = Unit {0}
-  IfOpened opened.Short = Unit {0}
-  IfOpened opened.Magic = Unit {0}
-  IfOpened opened.Version = Unit {0}
-  IfOpened opened.PageSize = Unit {0}
-  IfOpened opened.Limit = Unit {0}
-  IfOpened opened.MainShort = Unit {0}
-  IfOpened opened.PageZero = Unit {0}
-  IfOpened opened.ReadOnly = Unit {0}
+  IfOpened (opened.Refused r) = Unit {0}
 
   if-main : (d : HeaderDecoded) (next : DbHeader → Opens) → ((h : DbHeader) → IfOpened (next h)) → IfOpened (judgedMain d next)
   if-main (main.Header h) next k = k h
-  if-main main.Short next k = tt
-  if-main main.Magic next k = tt
-  if-main main.Version next k = tt
-  if-main main.PageSize next k = tt
+  if-main (main.Refused r) next k = tt
 
   if-zero : (d : HeaderDecoded) (next : DbHeader → Opens) → ((h : DbHeader) → IfOpened (next h)) → IfOpened (judgedZero d next)
   if-zero (main.Header h) next k = k h
-  if-zero main.Short next k = tt
-  if-zero main.Magic next k = tt
-  if-zero main.Version next k = tt
-  if-zero main.PageSize next k = tt
+  if-zero (main.Refused r) next k = tt
 
   if-log : (d : WalHeaderDecoded) (next : Opens) → IfOpened next → IfOpened (judgedLog d next)
   if-log (log.Header h) next k = k
-  if-log log.Short next k = tt
-  if-log log.Magic next k = tt
-  if-log log.Version next k = tt
-  if-log log.PageSize next k = tt
+  if-log (log.Refused r) next k = tt
 
   if-pick : (b : Bool) (x y : Opens) → IfOpened x → IfOpened y → IfOpened (pick b x y)
   if-pick true x y k l = k
@@ -173,8 +157,8 @@ module _ (P : Pager → Type 0) where
   if-judged how d mh k =
       let n : IfOpened (judgedZero (headerBy mh (foundBy how (d .log))) (openedAs how d mh (foundBy how (d .log)))) =
       if-zero (headerBy mh (foundBy how (d .log))) (openedAs how d mh (foundBy how (d .log)))
-      (λ h. if-pick (leb (countOf h) pageLimit) _ opened.Limit
-      (if-pick (both (how .clean) (pick (writes (how .access)) false true)) opened.ReadOnly
+      (λ h. if-pick (leb (countOf h) pageLimit) _ (opened.Refused refusal.Limit)
+      (if-pick (both (how .clean) (pick (writes (how .access)) false true)) (opened.Refused refusal.ReadOnly)
       (opened.Opened (opensAs h mh (d .main .len) (foundBy how (d .log) .log) (chunkAt (length (foundBy how (d .log) .frames))) (openingOf how))) tt (k h)) tt) in
       if-pick (how .exists) _ _ (if-log (decodeWalHeader (content (d .log))) _ n) n
 
@@ -183,9 +167,9 @@ if-open : (P : Pager → Type 0) (how : How) (t : List ℕ) (d : Disk) (g : List
     → IfOpened P (openPager how t d g)
 unfolding openPager
 if-open P how t d g k =
-    if-pick P (openFine t d g) (judgedMain (mainHeader (d .main)) (λ (mh : DbHeader). pick (isLong (d .main) mh) (judged how d mh) opened.MainShort)) opened.Area
-    (if-main P (mainHeader (d .main)) (λ (mh : DbHeader). pick (isLong (d .main) mh) (judged how d mh) opened.MainShort)
-    (λ mh. if-pick P (isLong (d .main) mh) (judged how d mh) opened.MainShort (if-judged P how d mh (λ h. k h mh)) tt)) tt
+    if-pick P (openFine t d g) (judgedMain (mainHeader (d .main)) (λ (mh : DbHeader). pick (isLong (d .main) mh) (judged how d mh) (opened.Refused refusal.MainShort))) (opened.Refused refusal.Area)
+    (if-main P (mainHeader (d .main)) (λ (mh : DbHeader). pick (isLong (d .main) mh) (judged how d mh) (opened.Refused refusal.MainShort))
+    (λ mh. if-pick P (isLong (d .main) mh) (judged how d mh) (opened.Refused refusal.MainShort) (if-judged P how d mh (λ h. k h mh)) tt)) tt
 
 -- an opening that is not refused
 abbrev OnFound : How → Disk → List ℕ → List ℕ → Pager → Type 0

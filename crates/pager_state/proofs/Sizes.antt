@@ -1,23 +1,51 @@
 -- Lengths: what is staged for a page, its frame, a seal, the log once a frame or none stands in it. Assumes nothing.
-use mathlib.Core.Path.{_≡_, refl}
-use mathlib.Core.Bool.{true}
+use mathlib.Core.Path.{_≡_, refl, sym}
+use mathlib.Core.Bool.{Bool, true, false}
 use mathlib.Core.List.{List}
 use Prim.Native.Nat.{ℕ, _+_, _≤_, _<_}
 use native.Mathlib.Omega.{arith}
 use borrow.Author.Tests.{ltb-true}
+use lib.Dec.{eqb}
 use lib.ListN.{length, length-append, length-take, length-drop}
+use Rattle.le.specs.Choice.{both}
+use Rattle.le.proofs.Compare.{no-test}
 use Rattle.le.proofs.Fields.{length-leBytes}
 use Rattle.header.specs.Header.{encodeHeader}
 use Rattle.header.specs.declared.DbHeader.{DbHeader}
 use Rattle.header.proofs.Encoding.{length-encodeHeader}
 use Rattle.frame.specs.Frame.{encodeFrame}
 use Rattle.frame.proofs.Stores.{length-heading, length-encodeFrame}
+use Rattle.wal.specs.Recovery.{walArea}
 use Rattle.wal.specs.Write.{longer, emptyWal, withFrame}
 use Rattle.wal.specs.declared.WalHeader.{WalHeader}
 use Rattle.wal.specs.declared.Wal.{Wal}
-use Rattle.pager_state.specs.World.{stagedLimit, stagingArea}
+use Rattle.pager_state.specs.World.{pageLimit, mainArea, stagedLimit, stagingArea, inArea, filesFine}
 use Rattle.pager_state.specs.Overlay.{pageFrom, stagedPages, slotOf, isStaged, stagedAt, stagedBytes, logAt, logBytes}
 use Rattle.pager_state.specs.declared.Staged.{Staged}
+
+pub both-right : (b : Bool) → both b true ≡ b
+both-right true = refl
+both-right false = refl
+
+-- what is judged besides counts just where the files are fine
+all-not : (a b c d : Bool) → both a (both b (both c true)) ≡ false → false ≡ both a (both b (both c d))
+all-not true true true d e = no-test (sym e)
+all-not true true false d e = refl
+all-not true false c d e = refl
+all-not false b c d e = refl
+
+all-are : (a b c d : Bool) → both a (both b (both c true)) ≡ true → d ≡ both a (both b (both c d))
+all-are true true true d e = refl
+all-are true true false d e = no-test e
+all-are true false c d e = no-test e
+all-are false b c d e = no-test e
+
+module _ (t la l ma m : ℕ) (d : Bool) where
+  pub files-not : filesFine t la l ma m true ≡ false → false ≡ filesFine t la l ma m d
+  files-not e = all-not (eqb t pageLimit) (inArea walArea la l) (inArea mainArea ma m) d e
+
+  pub files-are : filesFine t la l ma m true ≡ true → d ≡ filesFine t la l ma m d
+  files-are e = all-are (eqb t pageLimit) (inArea walArea la l) (inArea mainArea ma m) d e
 
 -- ---- staged pages
 

@@ -9,8 +9,8 @@ use Rattle.le.proofs.Compare.{both-true}
 use Rattle.pager_state.specs.World.{World, stagingArea}
 use Rattle.pager_state.specs.Overlay.{isStaged}
 use Rattle.pager_state.specs.Stores.{diskOf, Act, stored, inside}
-use Rattle.pager_state.specs.Pages.{pagesFrom, differs, folds}
-use Rattle.pager_state.specs.Fold.{none, foldTodo}
+use Rattle.pager_state.specs.Pages.{pagesFrom, differsIn, differs, folds}
+use Rattle.pager_state.specs.Fold.{isEmpty, foldTodo}
 use Rattle.pager_state.specs.Commit.{commitTodo}
 use Rattle.pager_state.specs.Steps.{todo, advance, answerOf, done, stepFine, stepped}
 use Rattle.pager_state.specs.declared.Job.{Job}
@@ -22,7 +22,7 @@ use Rattle.pager_state.proofs.Advance.{After, after-framed, after-seale
 
 -- a page that differs is staged
 pub differs-staged : (g : List ℕ) (w : World) (n : ℕ) → differs g w n ≡ true → isStaged (w .pager .staged) n ≡ true
-unfolding differs
+unfolding differsIn
 differs-staged g w n e = both-true (isStaged (w .pager .staged) n) _ e .0
 
 -- ---- the next store, done
@@ -40,7 +40,7 @@ module _ {P : ℕ → Bool} (g : List ℕ) (w : World) (a : Act) (rest : List Ac
       rw (x, y, z) (after-sealed g h salt answer w f m (p .0) (p .1 .1) (ap answerOf j))
   after-next (Page salt page answer n j r x y z) =
       rw (x, y, z)
-      (after-paged g salt answer w f m (ap answerOf j) (asked-by (job.Fold salt page answer) j) n (none (pagesFrom (folds w) (suc n))))
+      (after-paged g salt answer w f m (ap answerOf j) (asked-by (job.Fold salt page answer) j) n (isEmpty (pagesFrom (folds w) (suc n))))
   after-next (MainHeader salt page answer j r x y z) =
       rw (x, y, z) (after-headed g salt answer w f m (ap answerOf j) (asked-by (job.Fold salt page answer) j))
   after-next (MainLength salt answer j x y z) =

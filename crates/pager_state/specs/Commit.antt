@@ -51,10 +51,9 @@ sealAct h w = Put Sealed file.Log (w .pager .wal .len) (encodeFrame 0 (countOf h
 abbrev pub jobAfter : Wal → ℕ → ℕ → Job
 jobAfter v salt answer = pick (leb 100 (v .«frame_count»)) (job.Fold salt 0 answer) job.Idle
 
--- the store once the seal stands: the new header counts, "the staging is emptied"
-unfoldable pub sealedPager : DbHeader → ℕ → ℕ → Pager → Pager
-sealedPager h salt answer p =
-    let v = withFrame (p .wal) (countOf h) in
+-- the store once the seal stands: the new header counts, "the staging is emptied"; v is the log then
+abbrev pub sealedWith : DbHeader → ℕ → ℕ → Wal → Pager → Pager
+sealedWith h salt answer v p =
     record {
       «current_header» = h;
       wal = v;
@@ -64,6 +63,9 @@ sealedPager h salt answer p =
       job = jobAfter v salt answer;
       opening = p .opening;
     }
+
+unfoldable pub sealedPager : DbHeader → ℕ → ℕ → Pager → Pager
+sealedPager h salt answer p = sealedWith h salt answer (withFrame (p .wal) (countOf h)) p
 
 unfoldable pub sealedWorld : DbHeader → ℕ → ℕ → World → World
 sealedWorld h salt answer w =

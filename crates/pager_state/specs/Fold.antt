@@ -103,9 +103,9 @@ unfoldable pub headed : ℕ → ℕ → World → World
 headed salt answer w = mainStored (stored (mainHeaderAct w) (diskOf w)) (headerOf (w .pager)) (job.MainLength salt answer) w
 
 -- a page; a flush follows the last
-abbrev pub none : List ℕ → Bool
-none [] = true
-none (x ∷ xs) = false
+abbrev pub isEmpty : List ℕ → Bool
+isEmpty [] = true
+isEmpty (x ∷ xs) = false
 
 abbrev pub pageAct : World → ℕ → Bool → Act
 pageAct w n last = Put Other file.Main (mainAt n) (logBytes (w .table) (w .log) n) last
@@ -126,7 +126,7 @@ lengthTodo salt answer w = mainLengthAct w ∷ emptyTodo salt answer (lengthened
 
 unfoldable pub pagesTodo : ℕ → ℕ → List ℕ → World → List Act
 pagesTodo salt answer [] w = mainHeaderAct w ∷ lengthTodo salt answer (headed salt answer w)
-pagesTodo salt answer (n ∷ ns) w = pageAct w n (none ns) ∷ pagesTodo salt answer ns (paged salt answer n w)
+pagesTodo salt answer (n ∷ ns) w = pageAct w n (isEmpty ns) ∷ pagesTodo salt answer ns (paged salt answer n w)
 
 -- of a fold that is part done; none of another job
 unfoldable pub foldTodo : Job → World → List Act

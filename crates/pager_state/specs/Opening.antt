@@ -1,11 +1,15 @@
 -- Creation and opening: document 01's lines on `pager.rs` and "Added by design". What an opening knows is a function of the two files' bytes.
 use mathlib.Core.Bool.{Bool, true, false}
 use mathlib.Core.List.{List, [], _∷_}
+use mathlib.Core.Option.{Option, none}
 use Prim.Native.Nat.{ℕ, zero, suc, _*_}
 use lib.Dec.{leb, ltb, eqb}
 use lib.ListN.{length, take, replicate}
 use Rattle.le.specs.Choice.{pick, both}
 use Rattle.page.specs.Page.{pageSize, emptyTablePage}
+use Rattle.refusal.specs.Refusal.{number, unless, answered}
+use Rattle.refusal.specs.declared.Refusal.{Refusal}
+use Rattle.refusal.specs.declared.Refusal.the-variants as refusal
 use Rattle.header.specs.Header.{encodeHeader, headerIn, decodeHeader}
 use Rattle.header.specs.declared.DbHeader.{DbHeader}
 use Rattle.header.specs.declared.HeaderDecoded.{HeaderDecoded}
@@ -19,7 +23,7 @@ use Rattle.wal.specs.declared.WalHeaderDecoded.the-variants as log
 use Rattle.wal.specs.declared.LastCommit.{LastCommit}
 use Rattle.wal.specs.declared.LastCommit.the-variants as commit
 use Rattle.wal.specs.declared.Wal.{Wal}
-use Rattle.pager_state.specs.World.{pageLimit, countOf, tableFine, logFine, mainFine, stagingFine}
+use Rattle.pager_state.specs.World.{pageLimit, countOf, lengthsFine}
 use Rattle.pager_state.specs.Overlay.{entry}
 use Rattle.pager_state.specs.Stores.{File, Disk, content, Act, Put, SetLen, Other, storedAll}
 use Rattle.pager_state.specs.declared.AccessMode.{AccessMode}
@@ -30,7 +34,6 @@ use Rattle.pager_state.specs.declared.FileKind.the-variants as file
 use Rattle.pager_state.specs.declared.Staged.{Staged}
 use Rattle.pager_state.specs.declared.Job.the-variants as job
 use Rattle.pager_state.specs.declared.Pager.{Pager}
-use Rattle.pager_state.specs.declared.CreateAnswer.{CreateAnswer}
 use Rattle.pager_state.specs.declared.CreateAnswer.the-variants as created
 use Rattle.pager_state.specs.declared.PagerCreated.{PagerCreated}
 use Rattle.pager_state.specs.declared.OpenAnswer.the-variants as answer
@@ -115,11 +118,17 @@ createdPager salt = opensAs firstHeader firstHeader 8192 (emptyWal (createdHeade
 
 -- refusal 1: g is the staging area, of which only the length is looked at
 abbrev pub createFine : List ℕ → List ℕ → List ℕ → List ℕ → Bool
-createFine t l m g = both (tableFine t) (both (logFine 0 l) (both (mainFine 0 m) (stagingFine g)))
+createFine t l m g = lengthsFine (length t) (length l) 0 (length m) 0 (length g)
+
+abbrev pub createRefusal : List ℕ → List ℕ → List ℕ → List ℕ → Option Refusal
+createRefusal t l m g = unless (createFine t l m g) refusal.Area none
 
 unfoldable pub create : List ℕ → List ℕ → List ℕ → List ℕ → ℕ → PagerCreated
 create t l m g salt =
-    pick (createFine t l m g) (record { answer = created.Created; pager = createdPager salt }) (record { answer = created.Area; pager = noPager })
+    record {
+      answer = answered created.Refused created.Created (createRefusal t l m g);
+      pager = pick (createFine t l m g) (createdPager salt) noPager;
+    }
 
 unfoldable pub createTable : List ℕ → List ℕ → List ℕ → List ℕ → List ℕ
 createTable t l m g = pick (createFine t l m g) (tableOf firstHeader []) t
@@ -129,10 +138,6 @@ createLog t l m g salt = pick (createFine t l m g) (createdDisk l m salt .log .a
 
 unfoldable pub createMain : List ℕ → List ℕ → List ℕ → List ℕ → ℕ → List ℕ
 createMain t l m g salt = pick (createFine t l m g) (createdDisk l m salt .main .area) m
-
-abbrev pub createRefusal : CreateAnswer → ℕ
-createRefusal created.Created = 0
-createRefusal created.Area = 1
 
 -- ---- what an opening is given, besides the table
 
@@ -176,14 +181,11 @@ foundBy how f = pick (how .exists) (foundIn (how .clean) (content f)) (foundFres
 
 -- 2 to 5 of the main file; "main under 4,096"
 unfoldable pub mainHeader : File → HeaderDecoded
-mainHeader f = pick (leb pageSize (f .len)) (decodeHeader (take pageSize (f .area))) main.Short
+mainHeader f = pick (leb pageSize (f .len)) (decodeHeader (take pageSize (f .area))) (main.Refused refusal.Short)
 
 abbrev pub judgedMain : HeaderDecoded → (DbHeader → Opens) → Opens
 judgedMain (main.Header h) next = next h
-judgedMain main.Short next = opened.Short
-judgedMain main.Magic next = opened.Magic
-judgedMain main.Version next = opened.Version
-judgedMain main.PageSize next = opened.PageSize
+judgedMain (main.Refused r) next = opened.Refused r
 
 -- 7: "main below page count × 4,096"
 abbrev pub isLong : File → DbHeader → Bool
@@ -192,18 +194,12 @@ isLong f h = leb (pageSize * countOf h) (f .len)
 -- 2 to 5 of the log, where one exists
 abbrev pub judgedLog : WalHeaderDecoded → Opens → Opens
 judgedLog (log.Header h) next = next
-judgedLog log.Short next = opened.Short
-judgedLog log.Magic next = opened.Magic
-judgedLog log.Version next = opened.Version
-judgedLog log.PageSize next = opened.PageSize
+judgedLog (log.Refused r) next = opened.Refused r
 
 -- 8: "the log's page 0 has refusal 3, 4 or 5"
 abbrev pub judgedZero : HeaderDecoded → (DbHeader → Opens) → Opens
 judgedZero (main.Header h) next = next h
-judgedZero main.Short next = opened.PageZero
-judgedZero main.Magic next = opened.PageZero
-judgedZero main.Version next = opened.PageZero
-judgedZero main.PageSize next = opened.PageZero
+judgedZero (main.Refused r) next = opened.Refused refusal.PageZero
 
 abbrev pub recounted : DbHeader → LastCommit → DbHeader
 recounted h commit.Nothing = h
@@ -228,9 +224,9 @@ unfoldable pub openedAs : How → Disk → DbHeader → Found → DbHeader → O
 openedAs how d mh x h =
     pick (leb (countOf h) pageLimit)
     (pick (both (how .clean) (pick (writes (how .access)) false true))
-    opened.ReadOnly
+    (opened.Refused refusal.ReadOnly)
     (opened.Opened (opensAs h mh (d .main .len) (x .log) (chunkAt (length (x .frames))) (openingOf how))))
-    opened.Limit
+    (opened.Refused refusal.Limit)
 
 unfoldable pub judged : How → Disk → DbHeader → Opens
 judged how d mh =
@@ -240,43 +236,27 @@ judged how d mh =
 
 -- refusal 1
 abbrev pub openFine : List ℕ → Disk → List ℕ → Bool
-openFine t d g =
-    both (tableFine t) (both (logFine (d .log .len) (d .log .area)) (both (mainFine (d .main .len) (d .main .area)) (stagingFine g)))
+openFine t d g = lengthsFine (length t) (length (d .log .area)) (d .log .len) (length (d .main .area)) (d .main .len) (length g)
 
 unfoldable pub openPager : How → List ℕ → Disk → List ℕ → Opens
 openPager how t d g =
     pick (openFine t d g)
-    (judgedMain (mainHeader (d .main)) (λ (mh : DbHeader). pick (isLong (d .main) mh) (judged how d mh) opened.MainShort))
-    opened.Area
+    (judgedMain (mainHeader (d .main)) (λ (mh : DbHeader). pick (isLong (d .main) mh) (judged how d mh) (opened.Refused refusal.MainShort)))
+    (opened.Refused refusal.Area)
 
--- document 01's numbers; 0 is no refusal
+-- 0 is no refusal
 abbrev pub openRefusal : Opens → ℕ
 openRefusal (opened.Opened p) = 0
-openRefusal opened.Area = 1
-openRefusal opened.Short = 2
-openRefusal opened.Magic = 3
-openRefusal opened.Version = 4
-openRefusal opened.PageSize = 5
-openRefusal opened.Limit = 6
-openRefusal opened.MainShort = 7
-openRefusal opened.PageZero = 8
-openRefusal opened.ReadOnly = 10
+openRefusal (opened.Refused r) = number r
 
 abbrev pub opens : Opens → Bool
-opens a = eqb (openRefusal a) 0
+opens (opened.Opened p) = true
+opens (opened.Refused r) = false
 
 -- the same as the call gives it, the answer beside the store
 abbrev pub openedAnswer : Opens → PagerOpened
 openedAnswer (opened.Opened p) = record { answer = answer.Opened; pager = p }
-openedAnswer opened.Area = record { answer = answer.Area; pager = noPager }
-openedAnswer opened.Short = record { answer = answer.Short; pager = noPager }
-openedAnswer opened.Magic = record { answer = answer.Magic; pager = noPager }
-openedAnswer opened.Version = record { answer = answer.Version; pager = noPager }
-openedAnswer opened.PageSize = record { answer = answer.PageSize; pager = noPager }
-openedAnswer opened.Limit = record { answer = answer.Limit; pager = noPager }
-openedAnswer opened.MainShort = record { answer = answer.MainShort; pager = noPager }
-openedAnswer opened.PageZero = record { answer = answer.PageZero; pager = noPager }
-openedAnswer opened.ReadOnly = record { answer = answer.ReadOnly; pager = noPager }
+openedAnswer (opened.Refused r) = record { answer = answer.Refused r; pager = noPager }
 
 -- ---- the areas afterwards; a refusal leaves them
 

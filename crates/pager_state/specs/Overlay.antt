@@ -2,11 +2,15 @@
 -- the main file's pages from 1 to below its own header's count; else none".
 use mathlib.Core.Bool.{Bool, true, false, not}
 use mathlib.Core.List.{List, [], _∷_}
+use mathlib.Core.Option.{Option, none}
 use Prim.Native.Nat.{ℕ, suc, _+_, _*_, _/_, _%_}
 use lib.Dec.{leb, ltb, eqb}
 use lib.ListN.{length, take, drop, getD}
 use Rattle.le.specs.Choice.{pick, both}
 use Rattle.page.specs.Page.{pageSize}
+use Rattle.refusal.specs.Refusal.{number, unless, answered}
+use Rattle.refusal.specs.declared.Refusal.{Refusal}
+use Rattle.refusal.specs.declared.Refusal.the-variants as refusal
 use Rattle.pager_state.specs.World.{World, countOf, headerOf, fine, stagingFine, busy}
 use Rattle.pager_state.specs.declared.Staged.{Staged}
 use Rattle.pager_state.specs.declared.Pager.{Pager}
@@ -23,6 +27,10 @@ pageFrom at l = take pageSize (drop at l)
 abbrev pub findIn : List ℕ → ℕ → ℕ
 findIn [] p = 0
 findIn (x ∷ xs) p = pick (eqb x p) 0 (suc (findIn xs p))
+
+-- the first k of the numbers s
+abbrev pub slots : ℕ → List ℕ → Staged
+slots k s = record { count = k; pages = s }
 
 abbrev pub stagedPages : Staged → List ℕ
 stagedPages s = take (s .count) (s .pages)
@@ -67,10 +75,12 @@ mainAt n = pageSize * n
 unfoldable pub logBytes : List ℕ → List ℕ → ℕ → List ℕ
 logBytes t l n = pageFrom (logAt t n) l
 
--- "the log's, else the main file's", or no byte
-unfoldable pub committedBytes : World → ℕ → List ℕ
-committedBytes w n =
-    pick (inLog (w .table) n) (logBytes (w .table) (w .log) n) (pick (onMain (w .table) n) (pageFrom (mainAt n) (w .main)) [])
+-- "the log's, else the main file's", or no byte: by the page table, the log and the main file
+unfoldable pub committedIn : List ℕ → List ℕ → List ℕ → ℕ → List ℕ
+committedIn t l m n = pick (inLog t n) (logBytes t l n) (pick (onMain t n) (pageFrom (mainAt n) m) [])
+
+abbrev pub committedBytes : World → ℕ → List ℕ
+committedBytes w n = committedIn (w .table) (w .log) (w .main) n
 
 -- ---- the overlay
 
@@ -81,13 +91,23 @@ below count t n =
     (pick (inLog t n) (found.Log (logAt t n))
     (pick (onMain t n) (found.Main (mainAt n)) found.Nothing))
 
-unfoldable pub overlay : Pager → List ℕ → ℕ → PageFound
-overlay p t n = pick (isStaged (p .staged) n) (found.Staged (stagedAt (p .staged) n)) (below (countOf (headerOf p)) t n)
+-- by the page count, the staged pages and the page table
+unfoldable pub placePage : ℕ → Staged → List ℕ → ℕ → PageFound
+placePage count s t n = pick (isStaged s n) (found.Staged (stagedAt s n)) (below count t n)
 
--- refusals 1 and 9, then the overlay
+abbrev pub overlay : Pager → List ℕ → ℕ → PageFound
+overlay p t n = placePage (countOf (headerOf p)) (p .staged) t n
+
+-- refusals 1 and 9: whether the areas are fine, and whether something is part done
+abbrev pub readRefusalBy : Bool → Bool → Option Refusal
+readRefusalBy ok busy = unless ok refusal.Area (unless (not busy) refusal.Busy none)
+
+unfoldable pub readRefusal : World → List ℕ → Option Refusal
+readRefusal w g = readRefusalBy (both (fine w) (stagingFine g)) (busy (w .pager))
+
+-- then the overlay
 unfoldable pub findPage : World → List ℕ → ℕ → PageFound
-findPage w g n =
-    pick (both (fine w) (stagingFine g)) (pick (busy (w .pager)) found.Busy (overlay (w .pager) (w .table) n)) found.Area
+findPage w g n = answered found.Refused (overlay (w .pager) (w .table) n) (readRefusal w g)
 
 -- "Page reads answer with the page's own bytes inside log, main or staging area"; no byte where there is no page
 abbrev pub bytesAt : World → List ℕ → PageFound → List ℕ
@@ -95,17 +115,15 @@ bytesAt w g (found.Staged at) = pageFrom at g
 bytesAt w g (found.Log at) = pageFrom at (w .log)
 bytesAt w g (found.Main at) = pageFrom at (w .main)
 bytesAt w g found.Nothing = []
-bytesAt w g found.Area = []
-bytesAt w g found.Busy = []
+bytesAt w g (found.Refused r) = []
 
 unfoldable pub readPage : World → List ℕ → ℕ → List ℕ
 readPage w g n = bytesAt w g (findPage w g n)
 
--- document 01's numbers; 0 is no refusal
+-- 0 is no refusal
 abbrev pub findRefusal : PageFound → ℕ
 findRefusal (found.Staged at) = 0
 findRefusal (found.Log at) = 0
 findRefusal (found.Main at) = 0
 findRefusal found.Nothing = 0
-findRefusal found.Area = 1
-findRefusal found.Busy = 9
+findRefusal (found.Refused r) = number r

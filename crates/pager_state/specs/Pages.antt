@@ -6,7 +6,7 @@ use lib.Dec.{leb, ltb}
 use Rattle.le.specs.Choice.{pick, both}
 use Rattle.le.specs.Le.{sameBytes}
 use Rattle.pager_state.specs.World.{World, pageLimit, countOf, headerOf}
-use Rattle.pager_state.specs.Overlay.{isStaged, stagedBytes, inLog, committedBytes}
+use Rattle.pager_state.specs.Overlay.{isStaged, stagedBytes, inLog, committedIn}
 use Rattle.pager_state.specs.declared.Staged.{Staged}
 
 -- k numbers from p on: those for which f holds
@@ -25,13 +25,20 @@ abbrev pub firstOf : List ℕ → ℕ
 firstOf [] = pageLimit
 firstOf (n ∷ ns) = n
 
--- "staged pages whose bytes differ from the log's, else the main file's .., even at or above the page count, or that are in neither"
-unfoldable pub differs : List ℕ → World → ℕ → Bool
-differs g w n = both (isStaged (w .pager .staged) n) (not (sameBytes (stagedBytes (w .pager .staged) g n) (committedBytes w n)))
+-- "staged pages whose bytes differ from the log's, else the main file's .., even at or above the page count, or that are in neither":
+-- by the staged pages, the staging area, the page table, the log and the main file
+unfoldable pub differsIn : Staged → List ℕ → List ℕ → List ℕ → List ℕ → ℕ → Bool
+differsIn s g t l m n = both (isStaged s n) (not (sameBytes (stagedBytes s g n) (committedIn t l m n)))
 
--- "log pages from 1 below the page count"
-unfoldable pub folds : World → ℕ → Bool
-folds w n = both (leb 1 n) (both (ltb n (countOf (headerOf (w .pager)))) (inLog (w .table) n))
+abbrev pub differs : List ℕ → World → ℕ → Bool
+differs g w n = differsIn (w .pager .staged) g (w .table) (w .log) (w .main) n
+
+-- "log pages from 1 below the page count": by the count and the page table
+unfoldable pub foldsBy : ℕ → List ℕ → ℕ → Bool
+foldsBy count t n = both (leb 1 n) (both (ltb n count) (inLog t n))
+
+abbrev pub folds : World → ℕ → Bool
+folds w n = foldsBy (countOf (headerOf (w .pager))) (w .table) n
 
 -- 14: "a page, 1 or higher, from old count to below new count isn't staged"
 unfoldable pub lacks : Staged → ℕ → ℕ → ℕ → Bool

@@ -2,9 +2,10 @@
 use Prim.Native.Nat.{ℕ}
 use lib.Dec.{leb}
 use Rattle.le.specs.Choice.{pick}
+use Rattle.refusal.specs.Refusal.{accepts, answered}
 use Rattle.wal.specs.Write.{withClock}
 use Rattle.wal.specs.declared.Wal.{Wal}
-use Rattle.pager_state.specs.World.{headerOf, busy, withWal}
+use Rattle.pager_state.specs.World.{headerOf, busyRefusal, withWal}
 use Rattle.pager_state.specs.declared.AccessMode.{AccessMode}
 use Rattle.pager_state.specs.declared.AccessMode.the-variants as mode
 use Rattle.pager_state.specs.declared.Opening.{Opening}
@@ -16,18 +17,13 @@ use Rattle.pager_state.specs.declared.ModeRead.{ModeRead}
 use Rattle.pager_state.specs.declared.ModeRead.the-variants as moded
 use Rattle.pager_state.specs.declared.ClockRead.{ClockRead}
 use Rattle.pager_state.specs.declared.ClockRead.the-variants as clock
-use Rattle.pager_state.specs.declared.ObserveAnswer.{ObserveAnswer}
 use Rattle.pager_state.specs.declared.ObserveAnswer.the-variants as observe
 use Rattle.pager_state.specs.declared.ClockObserved.{ClockObserved}
 
 -- ---- the header that counts
 
 unfoldable pub header : Pager → HeaderRead
-header p = pick (busy p) head.Busy (head.Header (headerOf p))
-
-abbrev pub headerRefusal : HeaderRead → ℕ
-headerRefusal (head.Header h) = 0
-headerRefusal head.Busy = 9
+header p = answered head.Refused (head.Header (headerOf p)) (busyRefusal p)
 
 -- ---- the access mode
 
@@ -38,11 +34,7 @@ modeBy opening.ReadOnly = mode.ReadOnly
 modeBy opening.NoLog = mode.ReadOnly
 
 unfoldable pub accessMode : Pager → ModeRead
-accessMode p = pick (busy p) moded.Busy (moded.Mode (modeBy (p .opening)))
-
-abbrev pub modeRefusal : ModeRead → ℕ
-modeRefusal (moded.Mode m) = 0
-modeRefusal moded.Busy = 9
+accessMode p = answered moded.Refused (moded.Mode (modeBy (p .opening))) (busyRefusal p)
 
 -- ---- the clock
 
@@ -50,11 +42,7 @@ abbrev pub clockOf : Pager → ℕ
 clockOf p = p .wal .header .«clock_high_water»
 
 unfoldable pub clockHighWater : Pager → ClockRead
-clockHighWater p = pick (busy p) clock.Busy (clock.Clock (clockOf p))
-
-abbrev pub clockReadRefusal : ClockRead → ℕ
-clockReadRefusal (clock.Clock c) = 0
-clockReadRefusal clock.Busy = 9
+clockHighWater p = answered clock.Refused (clock.Clock (clockOf p)) (busyRefusal p)
 
 -- "a lower one is .. ignored by the pager"
 unfoldable pub raised : Wal → ℕ → Wal
@@ -69,10 +57,7 @@ observedBy opening.NoLog v c = v
 
 unfoldable pub observeClock : Pager → ℕ → ClockObserved
 observeClock p c =
-    pick (busy p)
-    (record { answer = observe.Busy; pager = p })
-    (record { answer = observe.Observed; pager = withWal p (observedBy (p .opening) (p .wal) c) })
-
-abbrev pub observeRefusal : ObserveAnswer → ℕ
-observeRefusal observe.Observed = 0
-observeRefusal observe.Busy = 9
+    record {
+      answer = answered observe.Refused observe.Observed (busyRefusal p);
+      pager = pick (accepts (busyRefusal p)) (withWal p (observedBy (p .opening) (p .wal) c)) p;
+    }

@@ -1,10 +1,14 @@
 -- Starting a commit or fold, the next step, and either in one call. g is the staging area.
-use mathlib.Core.Bool.{Bool, true, false}
+use mathlib.Core.Bool.{Bool, true, not}
 use mathlib.Core.List.{List, [], _∷_, _++_}
+use mathlib.Core.Option.{Option, none}
 use Prim.Native.Nat.{ℕ, zero, suc, _+_, _*_}
-use lib.Dec.{leb, ltb, eqb}
+use lib.Dec.{leb, eqb}
 use lib.ListN.{length}
 use Rattle.le.specs.Choice.{pick, both}
+use Rattle.refusal.specs.Refusal.{number, unless, accepts, answered}
+use Rattle.refusal.specs.declared.Refusal.{Refusal}
+use Rattle.refusal.specs.declared.Refusal.the-variants as refusal
 use Rattle.header.specs.Header.{isVersion}
 use Rattle.header.specs.declared.DbHeader.{DbHeader}
 use Rattle.frame.specs.Frame.{frameSize}
@@ -67,41 +71,25 @@ tableFits w = allBefore (w .table) (w .pager .wal .len) (stagedPages (w .pager .
 abbrev pub commitFine : List ℕ → World → Bool
 commitFine g w = both (both (fine w) (stagingFine g)) (pick (busy (w .pager)) true (tableFits w))
 
--- refusals in the order of their numbers: 1, 9, 10, 13, 14, 15
-unfoldable pub commitStart : List ℕ → World → DbHeader → CommitStart
-commitStart g w h =
-    pick (commitFine g w)
-    (pick (busy (w .pager)) commit.Busy
-    (pick (readOnly (w .pager)) commit.ReadOnly
-    (pick (headerGood h)
-    (pick (ltb (lacking w h) pageLimit) (commit.Joining (lacking w h))
-    (pick (roomFor w (differing g w + 1)) commit.Begun
-    commit.LogFull))
-    commit.NewHeader)))
-    commit.Area
+-- refusals 1, 9, 10, 13, 14, 15
+unfoldable pub commitRefusal : List ℕ → World → DbHeader → Option Refusal
+commitRefusal g w h =
+    unless (commitFine g w) refusal.Area
+    (unless (not (busy (w .pager))) refusal.Busy
+    (unless (not (readOnly (w .pager))) refusal.ReadOnly
+    (unless (headerGood h) refusal.NewHeader
+    (unless (leb pageLimit (lacking w h)) (refusal.Joining (lacking w h))
+    (unless (roomFor w (differing g w + 1)) refusal.LogFull none)))))
 
-abbrev pub isBegun : CommitStart → Bool
-isBegun commit.Begun = true
-isBegun commit.Area = false
-isBegun commit.Busy = false
-isBegun commit.ReadOnly = false
-isBegun commit.NewHeader = false
-isBegun (commit.Joining n) = false
-isBegun commit.LogFull = false
+unfoldable pub commitStart : List ℕ → World → DbHeader → CommitStart
+commitStart g w h = answered commit.Refused commit.Begun (commitRefusal g w h)
 
 unfoldable pub beginCommit : List ℕ → World → DbHeader → ℕ → CommitStarted
 beginCommit g w h salt =
-    let a = commitStart g w h in
-    record { answer = a; pager = pick (isBegun a) (withJob (w .pager) (job.Commit h salt 0 (differing g w))) (w .pager) }
-
-abbrev pub commitRefusal : CommitStart → ℕ
-commitRefusal commit.Begun = 0
-commitRefusal commit.Area = 1
-commitRefusal commit.Busy = 9
-commitRefusal commit.ReadOnly = 10
-commitRefusal commit.NewHeader = 13
-commitRefusal (commit.Joining n) = 14
-commitRefusal commit.LogFull = 15
+    record {
+      answer = commitStart g w h;
+      pager = pick (accepts (commitRefusal g w h)) (withJob (w .pager) (job.Commit h salt 0 (differing g w))) (w .pager);
+    }
 
 -- no page is in the log
 unfoldable pub noLogPages : List ℕ → Bool
@@ -113,20 +101,18 @@ unfoldable pub nothingToFold : World → Bool
 nothingToFold w = both (eqb (w .pager .wal .«frame_count») 0) (noLogPages (w .table))
 
 -- refusals 1, 9, 10
-unfoldable pub checkpointStart : List ℕ → World → CheckpointStart
-checkpointStart g w =
-    pick (both (fine w) (stagingFine g))
-    (pick (busy (w .pager)) checkpoint.Busy
-    (pick (readOnly (w .pager)) checkpoint.ReadOnly
-    (pick (nothingToFold w) checkpoint.Nothing checkpoint.Begun)))
-    checkpoint.Area
+unfoldable pub checkpointRefusal : List ℕ → World → Option Refusal
+checkpointRefusal g w =
+    unless (both (fine w) (stagingFine g)) refusal.Area
+    (unless (not (busy (w .pager))) refusal.Busy
+    (unless (not (readOnly (w .pager))) refusal.ReadOnly none))
 
-abbrev pub isFolding : CheckpointStart → Bool
-isFolding checkpoint.Begun = true
-isFolding checkpoint.Nothing = false
-isFolding checkpoint.Area = false
-isFolding checkpoint.Busy = false
-isFolding checkpoint.ReadOnly = false
+unfoldable pub checkpointStart : List ℕ → World → CheckpointStart
+checkpointStart g w = answered checkpoint.Refused (pick (nothingToFold w) checkpoint.Nothing checkpoint.Begun) (checkpointRefusal g w)
+
+-- stores are to be done
+abbrev pub checkpointBegins : List ℕ → World → Bool
+checkpointBegins g w = both (accepts (checkpointRefusal g w)) (not (nothingToFold w))
 
 -- "It answers the pages written"
 unfoldable pub folding : World → ℕ
@@ -134,15 +120,10 @@ folding w = length (pagesFrom (folds w) 0)
 
 unfoldable pub beginCheckpoint : List ℕ → World → ℕ → CheckpointStarted
 beginCheckpoint g w salt =
-    let a = checkpointStart g w in
-    record { answer = a; pager = pick (isFolding a) (withJob (w .pager) (job.Fold salt 0 (folding w))) (w .pager) }
-
-abbrev pub checkpointRefusal : CheckpointStart → ℕ
-checkpointRefusal checkpoint.Begun = 0
-checkpointRefusal checkpoint.Nothing = 0
-checkpointRefusal checkpoint.Area = 1
-checkpointRefusal checkpoint.Busy = 9
-checkpointRefusal checkpoint.ReadOnly = 10
+    record {
+      answer = checkpointStart g w;
+      pager = pick (checkpointBegins g w) (withJob (w .pager) (job.Fold salt 0 (folding w))) (w .pager);
+    }
 
 -- ---- the next step: "does the next store .. and no other"
 
@@ -172,7 +153,7 @@ namedBy answer a (b ∷ rest) = step.Stored (placeOf a)
 -- made-up store has such a one
 unfoldable pub named : ℕ → List Act → StepAnswer
 named answer [] = step.Idle
-named answer (a ∷ rest) = pick (inside a) (namedBy answer a rest) step.Area
+named answer (a ∷ rest) = pick (inside a) (namedBy answer a rest) (step.Refused refusal.Area)
 
 -- v is the world w after the first store
 unfoldable pub done : List Act → World → World → World
@@ -183,16 +164,17 @@ abbrev pub stepFine : List ℕ → World → Bool
 stepFine g w = both (fine w) (stagingFine g)
 
 unfoldable pub stepAnswer : List ℕ → World → StepAnswer
-stepAnswer g w = pick (stepFine g w) (named (answerOf (w .pager .job)) (todo g w)) step.Area
+stepAnswer g w = pick (stepFine g w) (named (answerOf (w .pager .job)) (todo g w)) (step.Refused refusal.Area)
 
 unfoldable pub stepped : List ℕ → World → World
 stepped g w = pick (stepFine g w) (done (todo g w) (advance g w) w) w
 
+-- 0 is no refusal
 abbrev pub stepRefusal : StepAnswer → ℕ
 stepRefusal step.Idle = 0
-stepRefusal step.Area = 1
 stepRefusal (step.Stored p) = 0
 stepRefusal (step.Last p n) = 0
+stepRefusal (step.Refused r) = number r
 
 -- ---- in one call: "these steps run to the end"
 
@@ -207,30 +189,14 @@ mostSteps = 2200
 abbrev pub onStore : World → Pager → World
 onStore w p = world p (w .table) (w .log) (w .main)
 
-abbrev pub committedAs : CommitStart → ℕ → CommitAnswer
-committedAs commit.Begun n = committed.Committed n
-committedAs commit.Area n = committed.Area
-committedAs commit.Busy n = committed.Busy
-committedAs commit.ReadOnly n = committed.ReadOnly
-committedAs commit.NewHeader n = committed.NewHeader
-committedAs (commit.Joining p) n = committed.Joining p
-committedAs commit.LogFull n = committed.LogFull
-
 unfoldable pub commitAnswer : List ℕ → World → DbHeader → CommitAnswer
-commitAnswer g w h = committedAs (commitStart g w h) (differing g w)
+commitAnswer g w h = answered committed.Refused (committed.Committed (differing g w)) (commitRefusal g w h)
 
 unfoldable pub commitWorld : List ℕ → World → DbHeader → ℕ → World
-commitWorld g w h salt = pick (isBegun (commitStart g w h)) (steps g mostSteps (onStore w (beginCommit g w h salt .pager))) w
-
-abbrev pub writtenAs : CheckpointStart → ℕ → CheckpointAnswer
-writtenAs checkpoint.Begun n = written.Written n
-writtenAs checkpoint.Nothing n = written.Written 0
-writtenAs checkpoint.Area n = written.Area
-writtenAs checkpoint.Busy n = written.Busy
-writtenAs checkpoint.ReadOnly n = written.ReadOnly
+commitWorld g w h salt = pick (accepts (commitRefusal g w h)) (steps g mostSteps (onStore w (beginCommit g w h salt .pager))) w
 
 unfoldable pub checkpointAnswer : List ℕ → World → CheckpointAnswer
-checkpointAnswer g w = writtenAs (checkpointStart g w) (folding w)
+checkpointAnswer g w = answered written.Refused (written.Written (pick (nothingToFold w) 0 (folding w))) (checkpointRefusal g w)
 
 unfoldable pub checkpointWorld : List ℕ → World → ℕ → World
-checkpointWorld g w salt = pick (isFolding (checkpointStart g w)) (steps g mostSteps (onStore w (beginCheckpoint g w salt .pager))) w
+checkpointWorld g w salt = pick (checkpointBegins g w) (steps g mostSteps (onStore w (beginCheckpoint g w salt .pager))) w

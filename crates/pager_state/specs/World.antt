@@ -1,10 +1,14 @@
 -- The open store with the areas lent to it, and what refusals 1 and 9 judge. The staging area is handed beside it: only staging stores there.
-use mathlib.Core.Bool.{Bool, true, false}
+use mathlib.Core.Bool.{Bool, true, false, not}
 use mathlib.Core.List.{List}
+use mathlib.Core.Option.{Option, none}
 use Prim.Native.Nat.{ℕ, _*_}
 use lib.Dec.{leb, eqb}
 use lib.ListN.{length}
 use Rattle.le.specs.Choice.{both}
+use Rattle.refusal.specs.Refusal.{unless}
+use Rattle.refusal.specs.declared.Refusal.{Refusal}
+use Rattle.refusal.specs.declared.Refusal.the-variants as refusal
 use Rattle.header.specs.declared.DbHeader.{DbHeader}
 use Rattle.wal.specs.Recovery.{walArea}
 use Rattle.wal.specs.declared.Wal.{Wal}
@@ -48,28 +52,27 @@ headerOf p = p .«current_header»
 
 -- ---- refusal 1: "a wrong area length, or a file length above its area"
 
-abbrev pub tableFine : List ℕ → Bool
-tableFine t = eqb (length t) pageLimit
+-- a file of `len` bytes in an area of `area` bytes, which must have `size`
+abbrev pub inArea : ℕ → ℕ → ℕ → Bool
+inArea size area len = both (eqb area size) (leb len size)
 
 abbrev pub logFine : ℕ → List ℕ → Bool
-logFine n l = both (eqb (length l) walArea) (leb n walArea)
-
-abbrev pub mainFine : ℕ → List ℕ → Bool
-mainFine n m = both (eqb (length m) mainArea) (leb n mainArea)
+logFine n l = inArea walArea (length l) n
 
 abbrev pub stagingFine : List ℕ → Bool
 stagingFine g = eqb (length g) stagingArea
 
--- and the length that the main file has once it is folded
-abbrev pub countFine : Pager → Bool
-countFine p = leb (countOf (headerOf p)) pageLimit
+-- the table's length, the log's area and length, those of the main file, and what is judged besides
+abbrev pub filesFine : ℕ → ℕ → ℕ → ℕ → ℕ → Bool → Bool
+filesFine t la l ma m rest = both (eqb t pageLimit) (both (inArea walArea la l) (both (inArea mainArea ma m) rest))
 
--- by the page count and the files' lengths, and the lengths of table, log and main area
+-- besides, the staging area
+abbrev pub lengthsFine : ℕ → ℕ → ℕ → ℕ → ℕ → ℕ → Bool
+lengthsFine t la l ma m g = filesFine t la l ma m (eqb g stagingArea)
+
+-- besides, the page count: the main file has that length once it is folded
 abbrev pub fineIn : ℕ → ℕ → ℕ → ℕ → ℕ → ℕ → Bool
-fineIn count log main t l m =
-    both (eqb t pageLimit)
-    (both (both (eqb l walArea) (leb log walArea))
-    (both (both (eqb m mainArea) (leb main mainArea)) (leb count pageLimit)))
+fineIn count log main t l m = filesFine t l log m main (leb count pageLimit)
 
 abbrev pub fineBy : Pager → ℕ → ℕ → ℕ → Bool
 fineBy p t l m = fineIn (countOf (headerOf p)) (p .wal .len) (p .storage .len) t l m
@@ -89,6 +92,10 @@ busyWith (job.LogHeader salt answer) = true
 
 abbrev pub busy : Pager → Bool
 busy p = busyWith (p .job)
+
+-- of calls that have no other refusal
+abbrev pub busyRefusal : Pager → Option Refusal
+busyRefusal p = unless (not (busy p)) refusal.Busy none
 
 -- ---- refusal 10: the kinds of opening that write nothing
 

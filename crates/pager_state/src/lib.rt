@@ -1,13 +1,15 @@
 // The open store: what it holds, and what its calls answer. The definitions of every call are this crate's specs.
 ghost use mathlib.Core.Path.{_≡_};
+ghost use mathlib.Core.Bool.{true};
 ghost use Prim.Native.Nat.{_+_, min, max};
-ghost use lib.Dec.{leb, eqb};
+ghost use lib.Dec.{eqb};
 ghost use lib.ListN.{length, take};
 ghost use Rattle.le.specs.Choice.{pick, both};
-ghost use Rattle.pager_state.specs.World.{busyWith, readOnlyBy, fineIn, fineBy, withJob, withWal};
+ghost use Rattle.pager_state.specs.World.{stagingArea, busyWith, readOnlyBy, inArea, filesFine, fineIn, fineBy, withJob, withWal};
 ghost use Rattle.pager_state.specs.Overlay.{pageFrom, findIn, slotOf, frameOf, onMain};
 use header::DbHeader;
 use page::PAGE_SIZE;
+use refusal::Refusal;
 use wal::WAL_AREA;
 use wal::Wal;
 
@@ -103,16 +105,12 @@ pub enum PageFound {
     Log(usize),
     Main(usize),
     Nothing,
-    Area,
-    Busy,
+    Refused(Refusal),
 }
 
 pub enum StageAnswer {
     Staged,
-    Area,
-    Busy,
-    Page,
-    Staging,
+    Refused(Refusal),
 }
 
 pub struct PageStaged {
@@ -122,7 +120,7 @@ pub struct PageStaged {
 
 pub enum ClearAnswer {
     Cleared,
-    Busy,
+    Refused(Refusal),
 }
 
 pub struct StagedCleared {
@@ -132,22 +130,22 @@ pub struct StagedCleared {
 
 pub enum HeaderRead {
     Header(DbHeader),
-    Busy,
+    Refused(Refusal),
 }
 
 pub enum ModeRead {
     Mode(AccessMode),
-    Busy,
+    Refused(Refusal),
 }
 
 pub enum ClockRead {
     Clock(u64),
-    Busy,
+    Refused(Refusal),
 }
 
 pub enum ObserveAnswer {
     Observed,
-    Busy,
+    Refused(Refusal),
 }
 
 pub struct ClockObserved {
@@ -157,15 +155,7 @@ pub struct ClockObserved {
 
 pub enum BatchAnswer {
     Appended,
-    Area,
-    Short,
-    Magic,
-    Busy,
-    ReadOnly,
-    LogFull,
-    Truncated,
-    Tag,
-    Text,
+    Refused(Refusal),
 }
 
 pub struct PagerAppended {
@@ -177,13 +167,12 @@ pub struct PagerAppended {
 pub enum RecoveredFound {
     Batch { index: usize, offset: usize },
     Nothing,
-    Area,
-    Busy,
+    Refused(Refusal),
 }
 
 pub enum CreateAnswer {
     Created,
-    Area,
+    Refused(Refusal),
 }
 
 // Where the answer is a refusal, the store is one without pages that writes nothing.
@@ -194,15 +183,7 @@ pub struct PagerCreated {
 
 pub enum OpenAnswer {
     Opened,
-    Area,
-    Short,
-    Magic,
-    Version,
-    PageSize,
-    Limit,
-    MainShort,
-    PageZero,
-    ReadOnly,
+    Refused(Refusal),
 }
 
 // Where the answer is a refusal, the store is one without pages that writes nothing.
@@ -227,9 +208,9 @@ pub struct Place {
 // What a next step answers: Last has the answer of the commit or fold besides.
 pub enum StepAnswer {
     Idle,
-    Area,
     Stored(Place),
     Last(Place, usize),
+    Refused(Refusal),
 }
 
 pub struct Stepped {
@@ -240,12 +221,7 @@ pub struct Stepped {
 // What starting a commit answers.
 pub enum CommitStart {
     Begun,
-    Area,
-    Busy,
-    ReadOnly,
-    NewHeader,
-    Joining(usize),
-    LogFull,
+    Refused(Refusal),
 }
 
 pub struct CommitStarted {
@@ -257,9 +233,7 @@ pub struct CommitStarted {
 pub enum CheckpointStart {
     Begun,
     Nothing,
-    Area,
-    Busy,
-    ReadOnly,
+    Refused(Refusal),
 }
 
 pub struct CheckpointStarted {
@@ -270,12 +244,7 @@ pub struct CheckpointStarted {
 // What a commit in one call answers: the number of differing pages.
 pub enum CommitAnswer {
     Committed(usize),
-    Area,
-    Busy,
-    ReadOnly,
-    NewHeader,
-    Joining(usize),
-    LogFull,
+    Refused(Refusal),
 }
 
 pub struct Committed {
@@ -286,9 +255,7 @@ pub struct Committed {
 // What a fold in one call answers: the number of pages written.
 pub enum CheckpointAnswer {
     Written(usize),
-    Area,
-    Busy,
-    ReadOnly,
+    Refused(Refusal),
 }
 
 pub struct Checkpointed {
@@ -302,20 +269,7 @@ pub fn is_busy(job: Job) -> bool
 {
     match job {
         Job::Idle => false,
-        Job::Commit {
-            header: _,
-            salt: _,
-            page: _,
-            answer: _,
-        } => true,
-        Job::Fold {
-            salt: _,
-            page: _,
-            answer: _,
-        } => true,
-        Job::MainLength { salt: _, answer: _ } => true,
-        Job::LogLength { salt: _, answer: _ } => true,
-        Job::LogHeader { salt: _, answer: _ } => true,
+        _ => true,
     }
 }
 
@@ -332,7 +286,7 @@ pub fn is_read_only(opening: Opening) -> bool
 }
 
 fn in_area(area: usize, size: usize, len: usize) -> bool
-    ensures { λ r. ⌜ r ≡ both (eqb area size) (leb len size) ⌝ }
+    ensures { λ r. ⌜ r ≡ inArea size area len ⌝ }
 {
     if area != size {
         return false;
@@ -340,7 +294,26 @@ fn in_area(area: usize, size: usize, len: usize) -> bool
     len <= size
 }
 
-// Whether the lent areas have the pager's lengths, and a store's page count and lengths lie inside them.
+// Whether table and areas have the pager's lengths, and the files lie inside their areas.
+pub fn are_files_inside(
+    table: usize,
+    log_area: usize,
+    log: usize,
+    main_area: usize,
+    main: usize,
+) -> bool
+    ensures { λ r. ⌜ r ≡ filesFine table «log_area» log «main_area» main true ⌝ }
+{
+    if table != PAGES {
+        return false;
+    }
+    if !in_area(log_area, WAL_AREA, log) {
+        return false;
+    }
+    in_area(main_area, MAIN_AREA, main)
+}
+
+// The same, and the page count is one that a store can have.
 pub fn is_inside(
     page_count: u32,
     log_len: usize,
@@ -351,13 +324,7 @@ pub fn is_inside(
 ) -> bool
     ensures { λ r. ⌜ r ≡ fineIn «page_count» «log_len» «main_len» table log main ⌝ }
 {
-    if table != PAGES {
-        return false;
-    }
-    if !in_area(log, WAL_AREA, log_len) {
-        return false;
-    }
-    if !in_area(main, MAIN_AREA, main_len) {
+    if !are_files_inside(table, log, log_len, main, main_len) {
         return false;
     }
     page_count <= PAGES as u32
@@ -375,7 +342,7 @@ pub fn is_fine(pager: Pager, table: usize, log: usize, main: usize) -> bool
 
 // The same, with the staging area's length.
 pub fn are_fine(pager: Pager, table: usize, log: usize, main: usize, staging: usize) -> bool
-    ensures { λ r. ⌜ r ≡ both (fineBy pager table log main) (eqb staging 262144) ⌝ }
+    ensures { λ r. ⌜ r ≡ both (fineBy pager table log main) (eqb staging stagingArea) ⌝ }
 {
     if !is_fine(pager, table, log, main) {
         return false;

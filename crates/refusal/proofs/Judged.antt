@@ -4,13 +4,22 @@ use mathlib.Core.Bool.{Bool, true, false}
 use mathlib.Core.Option.{Option, none, some}
 use Prim.Native.Nat.{ℕ}
 use native.Mathlib.Omega.{arith}
-use Rattle.refusal.specs.Refusal.{unless, answered}
+use Rattle.refusal.specs.Refusal.{unless, first, accepts, answered}
 use Rattle.refusal.specs.declared.Refusal.{Refusal}
 
 -- the condition is met, and so is what is judged behind it
 pub met : (b : Bool) (r : Refusal) (rest : Option Refusal) → unless b r rest ≡ none → (b ≡ true) × (rest ≡ none)
 met true r rest e = (refl, e)
 met false r rest e = let z : _≡_ {A = ℕ} 0 1 = cc in absurd (omega arith)
+
+-- and behind one that comes first
+pub behind : (v rest : Option Refusal) → first v rest ≡ none → rest ≡ none
+behind none rest e = e
+behind (some r) rest e = let z : _≡_ {A = ℕ} 0 1 = cc in absurd (omega arith)
+
+pub passes : (v : Option Refusal) → accepts v ≡ true → v ≡ none
+passes none e = refl
+passes (some r) e = let z : _≡_ {A = ℕ} 0 1 = cc in absurd (omega arith)
 
 -- an answer that is none of the refusals is the result
 pub resulted : {A : Type 0} (refused : Refusal → A) (result answer : A) → ((r : Refusal) → refused r ≡ answer → ⊥) → (v : Option Refusal)
