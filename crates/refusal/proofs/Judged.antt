@@ -4,7 +4,7 @@ use mathlib.Core.Bool.{Bool, true, false}
 use mathlib.Core.Option.{Option, none, some}
 use Prim.Native.Nat.{ℕ}
 use native.Mathlib.Omega.{arith}
-use Rattle.refusal.specs.Refusal.{unless, answered}
+use Rattle.refusal.specs.Refusal.{unless, accepts, answered}
 use Rattle.refusal.specs.declared.Refusal.{Refusal}
 
 -- the condition is met, and so is what is judged behind it
@@ -17,3 +17,7 @@ pub resulted : {A : Type 0} (refused : Refusal → A) (result answer : A) → ((
     → answered refused result v ≡ answer → (v ≡ none) × (result ≡ answer)
 resulted refused result answer apart none e = (refl, e)
 resulted refused result answer apart (some r) e = absurd (apart r e)
+
+pub accepts-none : (v : Option Refusal) → accepts v ≡ true → v ≡ none
+accepts-none none a = refl
+accepts-none (some r) a = let z : _≡_ {A = ℕ} 0 1 = cc in absurd (omega arith)
