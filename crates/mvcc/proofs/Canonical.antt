@@ -1,15 +1,18 @@
 -- What crates above cite of a batch's body: they never see how its records are found. Assumes nothing.
 use mathlib.Core.Path.{_≡_, sym, ap, _∙_}
-use mathlib.Core.Bool.{true, false}
+use mathlib.Core.Bool.{true}
 use mathlib.Core.List.{List, _++_}
+use mathlib.Core.Option.{none}
 use Prim.Native.Nat.{ℕ, _-_, _≤_}
 use native.Mathlib.Omega.{arith}
-use borrow.Author.Tests.{eq-eqb, ne-eqb}
 use lib.ListN.{length, replicate, length-append, length-replicate}
 use Rattle.le.specs.Le.{Bytes}
+use Rattle.refusal.specs.Refusal.{accepts, numberOf}
+use Rattle.refusal.proofs.Rows.{accepted}
+use Rattle.refusal.proofs.Judged.{accepts-none}
 use Rattle.mvcc.specs.Decode.{batchOf}
 use Rattle.mvcc.specs.Batch.{Rec, encodeBatch, padded, encodeBody, GoodBatch}
-use Rattle.mvcc.specs.Seen.{refusalOf, decodes, commitTs, records, canonical}
+use Rattle.mvcc.specs.Seen.{decodeRefusal, refusalOf, decodes, commitTs, records, canonical}
 use Rattle.mvcc.specs.declared.BatchDecoded.the-variants as batch
 use Rattle.mvcc.proofs.Bytes.{bytes-append, bytes-zeros}
 use Rattle.mvcc.proofs.Whole.{time-read, encoded-decodes, encoded-records, encoded-batch, held-good, held-size, held-bytes, held-batch}
@@ -60,14 +63,23 @@ module _ (t : ℕ) (rs : List Rec) (g : GoodBatch t rs) where
 
 -- ---- a body that decodes
 
--- it is told by its refusal's number
-pub decodes-zero : (s : List ℕ) {n : ℕ} → n ≡ refusalOf s → n ≡ 0 → decodes s ≡ true
-unfolding decodes
-decodes-zero s e z = eq-eqb _ _ (sym e ∙ z)
+-- it has no refusal, and no number
+module _ (s : List ℕ) where
+  pub decodes-none : decodes s ≡ true → decodeRefusal s ≡ none
+  unfolding decodes
+  decodes-none d = accepts-none (decodeRefusal s) d
 
-pub decodes-not : (s : List ℕ) {n : ℕ} → n ≡ refusalOf s → (n ≡ 0 → ⊥) → decodes s ≡ false
-unfolding decodes
-decodes-not s e z = ne-eqb _ _ (λ f. z (e ∙ f))
+  pub none-decodes : decodeRefusal s ≡ none → decodes s ≡ true
+  unfolding decodes
+  none-decodes e = ap accepts e
+
+  pub decodes-zero : decodes s ≡ true → refusalOf s ≡ 0
+  unfolding refusalOf
+  decodes-zero d = ap numberOf (decodes-none d)
+
+  pub zero-decodes : refusalOf s ≡ 0 → decodes s ≡ true
+  unfolding refusalOf
+  zero-decodes z = none-decodes (accepted (decodeRefusal s) z)
 
 module _ (s : List ℕ) (sb : Bytes s) (d : decodes s ≡ true) where
   -- its fields fit their widths, and its texts are UTF-8

@@ -1,71 +1,68 @@
--- Refusals 2 and 3 of a body are told by its length and its leading bytes alone: each comes exactly there. Assumes nothing.
+-- A body's heading: what it is refused for, and that decoding refuses it for the same. Assumes nothing.
 use mathlib.Core.Path.{_≡_, refl, sym, ap, _∙_}
 use mathlib.Core.Bool.{Bool, true, false}
 use mathlib.Core.List.{List}
+use mathlib.Core.Option.{Option, none, some}
 use Prim.Native.Nat.{ℕ, _≤_, _<_}
 use native.Mathlib.Omega.{arith}
-use borrow.Author.Tests.{le-leb, eq-eqb, ne-eqb}
-use lib.Dec.{eqb}
+use borrow.Author.Tests.{le-leb, lt-leb, eq-eqb, ne-eqb}
+use lib.Dec.{leb, eqb}
 use lib.ListN.{length}
-use Rattle.le.specs.Choice.{pick}
 use Rattle.le.specs.Le.{wholeField, field}
 use Rattle.le.proofs.Fields.{field-whole}
-use Rattle.mvcc.specs.Answer.{Answer, taken, refused}
-use Rattle.mvcc.specs.Fields.{batchNumber}
-use Rattle.mvcc.specs.Decode.{magic, recordsAt, batchEnd, batchOf}
-use Rattle.mvcc.specs.Seen.{refusalOf, headingRefusal}
-use Rattle.mvcc.specs.declared.Refusal.the-variants.{Truncated, Tag, Text}
-use Rattle.mvcc.specs.declared.MvccLogRecord.{MvccLogRecord}
-use Rattle.mvcc.proofs.Laws.{batch-short, batch-alien}
+use Rattle.le.proofs.Compare.{no-test}
+use Rattle.refusal.specs.Refusal.{unless, first, accepts, numberOf, answered}
+use Rattle.refusal.specs.declared.Refusal.{Refusal}
+use Rattle.refusal.specs.declared.Refusal.the-variants.{Short, Magic}
+use Rattle.mvcc.specs.Decode.{magic, batchOf}
+use Rattle.mvcc.specs.Seen.{headingRefusal, headingJudged, refusalIn, decodeRefusal, refusalOf, decodes}
+use Rattle.mvcc.specs.declared.BatchDecoded.{BatchDecoded}
+use Rattle.mvcc.specs.declared.BatchDecoded.the-variants as batch
+use Rattle.mvcc.specs.declared.HeadingJudged.the-variants as heading
 
--- no number of a body whose records are read
-record Neither (n : ℕ) : Type 0 where
-  long : n ≡ 2 → ⊥
-  marked : n ≡ 3 → ⊥
-
-neither-by : (t n : ℕ) (x : Answer (List MvccLogRecord)) → Neither (batchNumber (batchEnd t n x))
-neither-by t n (taken rs at) = record { long = λ e. omega arith; marked = λ e. omega arith }
-neither-by t n (refused Truncated) = record { long = λ e. omega arith; marked = λ e. omega arith }
-neither-by t n (refused Tag) = record { long = λ e. omega arith; marked = λ e. omega arith }
-neither-by t n (refused Text) = record { long = λ e. omega arith; marked = λ e. omega arith }
-
-by-cases : {A : Type 0} (x y z : A) (a b : Bool)
-    → pick (eqb (pick a 2 (pick b 3 0)) 2) x (pick (eqb (pick a 2 (pick b 3 0)) 3) y z) ≡ pick a x (pick b y z)
-by-cases x y z true b = refl
-by-cases x y z false true = refl
-by-cases x y z false false = refl
+-- ---- the heading by its tests
 
 module _ (s : List ℕ) where
-  refusal-short : length s < 18 → refusalOf s ≡ 2
-  unfolding refusalOf
-  refusal-short h = ap batchNumber (sym (batch-short s h))
-
-  refusal-alien : 18 ≤ length s → (wholeField 8 0 s ≡ magic → ⊥) → refusalOf s ≡ 3
-  unfolding refusalOf
-  refusal-alien h m = ap batchNumber (sym (batch-alien s h m))
-
-  refusal-other : 18 ≤ length s → wholeField 8 0 s ≡ magic → Neither (refusalOf s)
-  unfolding refusalOf batchOf
-  refusal-other h m =
-      rw (le-leb 18 (length s) h, eq-eqb (field 8 0 s) magic (sym (field-whole 8 0 s (omega arith)) ∙ m))
-      (neither-by _ _ (recordsAt s))
-
-  pub heading-short : length s < 18 → 2 ≡ headingRefusal s
+  pub heading-short : length s < 18 → heading.Refused Short ≡ headingJudged s
   unfolding headingRefusal
-  heading-short h = rw (refusal-short h)
+  heading-short h = rw (lt-leb 18 (length s) h)
 
-  pub heading-alien : 18 ≤ length s → (wholeField 8 0 s ≡ magic → ⊥) → 3 ≡ headingRefusal s
+  pub heading-alien : 18 ≤ length s → (wholeField 8 0 s ≡ magic → ⊥) → heading.Refused Magic ≡ headingJudged s
   unfolding headingRefusal
-  heading-alien h m = rw (refusal-alien h m)
+  heading-alien h m = rw (le-leb 18 (length s) h, ne-eqb (field 8 0 s) magic (λ e. m (field-whole 8 0 s (omega arith) ∙ e)))
 
-  pub heading-other : 18 ≤ length s → wholeField 8 0 s ≡ magic → 0 ≡ headingRefusal s
+  pub heading-fine : 18 ≤ length s → wholeField 8 0 s ≡ magic → heading.Fine ≡ headingJudged s
   unfolding headingRefusal
-  heading-other h m =
-      let n = refusal-other h m in
-      rw (ne-eqb _ _ (n .long), ne-eqb _ _ (n .marked))
+  heading-fine h m = rw (le-leb 18 (length s) h, eq-eqb (field 8 0 s) magic (sym (field-whole 8 0 s (omega arith)) ∙ m))
 
-  -- by the heading's number 2 and 3 are told apart from what else may come just as by decoding's
-  pub heading-told : {A : Type 0} (x y z : A) → pick (eqb (headingRefusal s) 2) x (pick (eqb (headingRefusal s) 3) y z)
-      ≡ pick (eqb (refusalOf s) 2) x (pick (eqb (refusalOf s) 3) y z)
-  unfolding headingRefusal
-  heading-told x y z = by-cases x y z (eqb (refusalOf s) 2) (eqb (refusalOf s) 3)
+-- ---- decoding refuses it first
+
+answered-first : (d : BatchDecoded) (v : Option Refusal) → refusalIn (answered batch.Refused d v) ≡ first v (refusalIn (answered batch.Refused d v))
+answered-first d none = refl
+answered-first d (some r) = refl
+
+accepted-first : (v w : Option Refusal) → w ≡ first v w → accepts w ≡ true → v ≡ none
+accepted-first none w e a = refl
+accepted-first (some r) w e a = no-test (sym (ap accepts e) ∙ a)
+
+-- the heading's numbers are 2 and 3
+unnumbered : (a b : Bool) (w : Option Refusal) → w ≡ first (unless a Short (unless b Magic none)) w → (numberOf w ≡ 2 → ⊥) → (numberOf w ≡ 3 → ⊥)
+    → unless a Short (unless b Magic none) ≡ none
+unnumbered false b w e l m = absurd (l (ap numberOf e))
+unnumbered true false w e l m = absurd (m (ap numberOf e))
+unnumbered true true w e l m = refl
+
+module _ (s : List ℕ) where
+  pub decode-first : decodeRefusal s ≡ first (headingRefusal s) (decodeRefusal s)
+  unfolding decodeRefusal batchOf
+  decode-first = answered-first _ (headingRefusal s)
+
+  -- so the heading of a body that decodes is fine
+  pub decodes-heading : decodes s ≡ true → headingRefusal s ≡ none
+  unfolding decodes
+  decodes-heading d = accepted-first (headingRefusal s) (decodeRefusal s) decode-first d
+
+  -- and so is that of one whose number is neither 2 nor 3
+  pub heading-none : (refusalOf s ≡ 2 → ⊥) → (refusalOf s ≡ 3 → ⊥) → headingRefusal s ≡ none
+  unfolding refusalOf headingRefusal
+  heading-none l m = unnumbered (leb 18 (length s)) (eqb (field 8 0 s) magic) (decodeRefusal s) decode-first l m

@@ -21,10 +21,10 @@ use Rattle.text.specs.Utf8.{wellFormed, utf8Of}
 use Rattle.text.proofs.Answers.{well-is, ill-is}
 use Rattle.text.specs.declared.Utf8.{Utf8}
 use Rattle.text.specs.declared.Utf8.the-variants.{WellFormed, IllFormed}
+use Rattle.refusal.specs.declared.Refusal.{Refusal}
+use Rattle.refusal.specs.declared.Refusal.the-variants.{Short, Magic, Truncated, Text}
 use Rattle.mvcc.specs.Answer.{Answer, taken, refused, then, many, why}
-use Rattle.mvcc.specs.Decode.{fitsIn, numAt, textOf, textAt, signed, columnAt, presentAt, judgedAt, recordAt, magic, recordsAt, batchEnd, batchOf}
-use Rattle.mvcc.specs.declared.Refusal.{Refusal}
-use Rattle.mvcc.specs.declared.Refusal.the-variants.{Truncated, Text}
+use Rattle.mvcc.specs.Decode.{fitsIn, numAt, textOf, textAt, signed, columnAt, presentAt, judgedAt, recordAt, magic, recordsAt, batchEnd, headingRefusal, batchOf}
 use Rattle.mvcc.specs.declared.TextPlace.{TextPlace}
 use Rattle.mvcc.specs.declared.RowID.{RowID}
 use Rattle.mvcc.specs.declared.VersionPayload.the-variants as payload
@@ -198,12 +198,12 @@ end-bad t n (taken l end) e = let z : _≡_ {A = ℕ} 0 1 = cc in absurd (omega 
 end-bad t n {k} (refused j) e = let q : k ≡ j = cc in rw q
 
 module _ (s : List ℕ) where
-  pub batch-short : length s < 18 → batch.Short ≡ batchOf s
-  unfolding batchOf
+  pub batch-short : length s < 18 → batch.Refused Short ≡ batchOf s
+  unfolding batchOf headingRefusal
   batch-short h = rw (lt-leb 18 (length s) h)
 
-  pub batch-alien : 18 ≤ length s → (wholeField 8 0 s ≡ magic → ⊥) → batch.Magic ≡ batchOf s
-  unfolding batchOf
+  pub batch-alien : 18 ≤ length s → (wholeField 8 0 s ≡ magic → ⊥) → batch.Refused Magic ≡ batchOf s
+  unfolding batchOf headingRefusal
   batch-alien h m = rw (le-leb 18 (length s) h, ne-eqb (field 8 0 s) magic (λ e. m (field-whole 8 0 s (omega arith) ∙ e)))
 
   -- a body with a good heading, by where its records end
@@ -219,9 +219,9 @@ module _ (s : List ℕ) where
 
     pub batch-good : {at : ℕ} → ends (many (recordAt s) n 18) ≡ taken tt at
         → batch.Batch (record { «commit_ts» = t; records = n; end = at }) ≡ batchOf s
-    unfolding batchOf recordsAt
+    unfolding batchOf headingRefusal recordsAt
     batch-good g = rw (← count, ← time, le-leb 18 (length s) h, eq-eqb _ _ leading) (end-good (many (recordAt s) n 18) g)
 
     pub batch-bad : {k : Refusal} → ends (many (recordAt s) n 18) ≡ refused k → batch.Refused k ≡ batchOf s
-    unfolding batchOf recordsAt
+    unfolding batchOf headingRefusal recordsAt
     batch-bad g = rw (← count, ← time, le-leb 18 (length s) h, eq-eqb _ _ leading) (end-bad t n (many (recordAt s) n 18) g)

@@ -26,7 +26,7 @@ use Rattle.mvcc.specs.declared.MvccLogRecord.{MvccLogRecord}
 use Rattle.mvcc.specs.declared.Value.{Value}
 use Rattle.mvcc.specs.declared.Value.the-variants as value
 use Rattle.mvcc.specs.declared.VersionPayload.the-variants as payload
-use Rattle.mvcc.specs.declared.Refusal.the-variants.{Truncated}
+use Rattle.refusal.specs.declared.Refusal.the-variants.{Truncated}
 use Rattle.mvcc.proofs.Laws.{signed-fits-high}
 use Rattle.mvcc.proofs.Trip.{length-encodeText, length-words, real-seen}
 use Rattle.mvcc.proofs.Bytes.{field-small, bytes-none, bytes-cons, bytes-append, bytes-part, bytes-leBytes}

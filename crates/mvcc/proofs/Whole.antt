@@ -2,21 +2,21 @@
 use mathlib.Core.Path.{_≡_, refl, sym, _∙_}
 use mathlib.Core.Bool.{Bool, true, false}
 use mathlib.Core.List.{List, [], _∷_, _++_, map}
+use mathlib.Core.Option.{none}
 use Prim.Native.Nat.{ℕ, _+_, _≤_}
 use native.Mathlib.Omega.{arith}
 use borrow.Author.Tests.{le-leb, leb-true, eq-eqb, eqb-true}
 use lib.Dec.{leb, eqb, lit<}
 use lib.ListN.{length, length-append}
-use Rattle.le.specs.Choice.{pick}
 use Rattle.le.specs.Le.{Bytes, leOf, leBytes, field}
 use Rattle.le.proofs.Compare.{no-test}
 use Rattle.le.proofs.Fields.{length-leBytes}
+use Rattle.refusal.specs.Refusal.{unless, accepts, answered}
+use Rattle.refusal.specs.declared.Refusal.the-variants.{Short, Magic}
 use Rattle.mvcc.specs.Answer.{Answer, taken, refused}
-use Rattle.mvcc.specs.Fields.{batchNumber}
-use Rattle.mvcc.specs.Decode.{recordAt, magic, recordsAt, batchEnd, batchOf}
+use Rattle.mvcc.specs.Decode.{recordAt, magic, recordsAt, batchEnd, headingRefusal, batchOf}
 use Rattle.mvcc.specs.Batch.{Rec, all, encodeRecord, encodeBatch, GoodRecord, GoodBatch}
-use Rattle.mvcc.specs.Seen.{seenRecord, refusalOf, decodes, commitTs, records}
-use Rattle.mvcc.specs.declared.Refusal.the-variants.{Truncated, Tag, Text}
+use Rattle.mvcc.specs.Seen.{seenRecord, refusalIn, decodeRefusal, decodes, commitTs, records}
 use Rattle.mvcc.specs.declared.MvccLogRecord.{MvccLogRecord}
 use Rattle.mvcc.specs.declared.BatchDecoded.the-variants as batch
 use Rattle.mvcc.proofs.Has.{Has, has-left, has-after, has-field}
@@ -34,25 +34,23 @@ pub record Found (s : List ℕ) : Type 0 where
   pub is : recordsAt s ≡ taken list end
 
 found-cases : (s : List ℕ) (a b : Bool) (x : Answer (List MvccLogRecord)) → leb 18 (length s) ≡ a → eqb (field 8 0 s) magic ≡ b → recordsAt s ≡ x
-    → eqb (batchNumber (pick a (pick b (batchEnd (field 8 8 s) (field 2 16 s) x) batch.Magic) batch.Short)) 0 ≡ true → Found s
+    → accepts (refusalIn (answered batch.Refused (batchEnd (field 8 8 s) (field 2 16 s) x) (unless a Short (unless b Magic none)))) ≡ true → Found s
 found-cases s true true (taken l e) p q r t = record { long = leb-true _ _ p; marked = eqb-true _ _ q; list = l; end = e; is = r }
-found-cases s true true (refused Truncated) p q r t = no-test t
-found-cases s true true (refused Tag) p q r t = no-test t
-found-cases s true true (refused Text) p q r t = no-test t
+found-cases s true true (refused k) p q r t = no-test t
 found-cases s true false x p q r t = no-test t
 found-cases s false b x p q r t = no-test t
 
 pub found : (s : List ℕ) → decodes s ≡ true → Found s
-unfolding decodes refusalOf batchOf
+unfolding decodes decodeRefusal batchOf headingRefusal
 found s t = found-cases s (leb 18 (length s)) (eqb (field 8 0 s) magic) (recordsAt s) refl refl refl t
 
 -- its answer
 pub found-batch : (s : List ℕ) (f : Found s) → batchOf s ≡ batch.Batch (record { «commit_ts» = field 8 8 s; records = field 2 16 s; end = f .end })
-unfolding batchOf
+unfolding batchOf headingRefusal
 found-batch s f = rw (le-leb 18 (length s) (f .long), eq-eqb _ _ (f .marked), f .is)
 
 pub found-decodes : (s : List ℕ) → Found s → decodes s ≡ true
-unfolding decodes refusalOf
+unfolding decodes decodeRefusal
 found-decodes s f = rw (found-batch s f)
 
 pub found-records : (s : List ℕ) (f : Found s) → records s ≡ map (seenRecord s) (f .list)

@@ -1,8 +1,8 @@
 -- How fields follow one another: "each field is either taken with the next cursor or decoding ends".
 use mathlib.Core.List.{List, [], _∷_}
 use Prim.Native.Nat.{ℕ, zero, suc}
-use Rattle.mvcc.specs.declared.Refusal.{Refusal}
-use Rattle.mvcc.specs.declared.Refusal.the-variants.{Truncated, Tag, Text}
+use Rattle.refusal.specs.declared.Refusal.{Refusal}
+use Rattle.refusal.specs.declared.Refusal.the-variants.{Truncated}
 
 -- what reading at a cursor gives: what was read and the next cursor, or a refusal
 pub data Answer (A : Type 0) : Type 0 where
@@ -28,14 +28,3 @@ items (refused k) = []
 abbrev pub why : {A : Type 0} → Answer A → Refusal
 why (taken a next) = Truncated
 why (refused k) = k
-
--- document 01's numbers: "a batch field runs past the body", "unknown op or value tag", "not UTF-8"
-abbrev pub refusal : Refusal → ℕ
-refusal Truncated = 17
-refusal Tag = 18
-refusal Text = 19
-
--- 0 for what was taken
-abbrev pub number : {A : Type 0} → Answer A → ℕ
-number (taken a next) = 0
-number (refused k) = refusal k

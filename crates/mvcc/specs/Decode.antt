@@ -1,6 +1,7 @@
 -- Reading a batch's body s from a cursor on, by document 01's line on `mvcc/log.rs`.
 use mathlib.Core.Bool.{Bool, not}
 use mathlib.Core.List.{List, [], _∷_}
+use mathlib.Core.Option.{Option, none}
 use Prim.Native.Nat.{ℕ, _+_, _-_, _*_}
 use lib.Dec.{leb, ltb, eqb}
 use lib.ListN.{length, take, drop}
@@ -9,8 +10,10 @@ use lib.Ieee.{binary64, nanBits, ofBits}
 use Rattle.le.specs.Choice.{pick}
 use Rattle.le.specs.Le.{leOf, field}
 use Rattle.text.specs.Utf8.{wellFormed}
+use Rattle.refusal.specs.Refusal.{unless, answered}
+use Rattle.refusal.specs.declared.Refusal.{Refusal}
+use Rattle.refusal.specs.declared.Refusal.the-variants.{Short, Magic, Truncated, Tag, Text}
 use Rattle.mvcc.specs.Answer.{Answer, taken, refused, then, many}
-use Rattle.mvcc.specs.declared.Refusal.the-variants.{Truncated, Tag, Text}
 use Rattle.mvcc.specs.declared.TextPlace.{TextPlace}
 use Rattle.mvcc.specs.declared.Value.{Value}
 use Rattle.mvcc.specs.declared.Value.the-variants as value
@@ -124,9 +127,10 @@ abbrev pub batchEnd : ℕ → ℕ → Answer (List MvccLogRecord) → BatchDecod
 batchEnd t n (taken rs at) = batch.Batch (record { «commit_ts» = t; records = n; end = at })
 batchEnd t n (refused k) = batch.Refused k
 
+-- what the heading alone is refused for: "batch body under 18", "wrong leading bytes"
+unfoldable pub headingRefusal : List ℕ → Option Refusal
+headingRefusal s = unless (leb 18 (length s)) Short (unless (eqb (field 8 0 s) magic) Magic none)
+
 -- "Body: `MVCC0001`, commit time (8), record count (2), records"; "Bytes after the last record are ignored on reading"
 unfoldable pub batchOf : List ℕ → BatchDecoded
-batchOf s =
-    pick (leb 18 (length s))
-    (pick (eqb (field 8 0 s) magic) (batchEnd (field 8 8 s) (field 2 16 s) (recordsAt s)) batch.Magic)
-    batch.Short
+batchOf s = answered batch.Refused (batchEnd (field 8 8 s) (field 2 16 s) (recordsAt s)) (headingRefusal s)

@@ -1,7 +1,7 @@
 -- What each answer of the code says.
 use Prim.Native.Nat.{ℕ}
-use Rattle.mvcc.specs.Answer.{Answer, taken, refused, refusal}
-use Rattle.mvcc.specs.declared.Refusal.the-variants.{Truncated}
+use Rattle.mvcc.specs.Answer.{Answer, taken, refused}
+use Rattle.refusal.specs.declared.Refusal.the-variants.{Truncated}
 use Rattle.mvcc.specs.declared.TextPlace.{TextPlace}
 use Rattle.mvcc.specs.declared.Value.{Value}
 use Rattle.mvcc.specs.declared.Column.{Column}
@@ -16,8 +16,6 @@ use Rattle.mvcc.specs.declared.ColumnField.{ColumnField}
 use Rattle.mvcc.specs.declared.ColumnField.the-variants as column
 use Rattle.mvcc.specs.declared.RecordField.{RecordField}
 use Rattle.mvcc.specs.declared.RecordField.the-variants as rec
-use Rattle.mvcc.specs.declared.BatchDecoded.{BatchDecoded}
-use Rattle.mvcc.specs.declared.BatchDecoded.the-variants as batch
 
 abbrev pub numAnswer : NumField → Answer ℕ
 numAnswer (num.Taken n next) = taken n next
@@ -38,10 +36,3 @@ columnAnswer (column.Refused k) = refused k
 abbrev pub recordAnswer : RecordField → Answer MvccLogRecord
 recordAnswer (rec.Taken r next) = taken r next
 recordAnswer (rec.Refused k) = refused k
-
--- document 01's number of a batch's answer: 2 "batch body under 18", 3 "wrong leading bytes"; 0 for a batch
-abbrev pub batchNumber : BatchDecoded → ℕ
-batchNumber (batch.Batch b) = 0
-batchNumber batch.Short = 2
-batchNumber batch.Magic = 3
-batchNumber (batch.Refused k) = refusal k

@@ -1,15 +1,16 @@
 -- What a body says: contents in place of offsets, and what crates above cite of a body.
 use mathlib.Core.Bool.{Bool}
 use mathlib.Core.List.{List, [], _∷_, map}
+use mathlib.Core.Option.{Option, none, some}
 use Prim.Native.Nat.{ℕ, zero, suc, _+_}
-use lib.Dec.{eqb}
 use lib.ListN.{take, drop}
 use lib.Ieee.{binary64, toBits}
-use Rattle.le.specs.Choice.{pick}
 use Rattle.le.specs.Le.{field}
+use Rattle.refusal.specs.Refusal.{accepts, numberOf, answered}
+use Rattle.refusal.specs.declared.Refusal.{Refusal}
 use Rattle.mvcc.specs.Answer.{many, items}
-use Rattle.mvcc.specs.Fields.{batchNumber}
 use Rattle.mvcc.specs.Decode.{columnAt, recordsAt, batchOf}
+unfoldable pub use Rattle.mvcc.specs.Decode.{headingRefusal}
 use Rattle.mvcc.specs.Batch.{Val, null, integer, real, text, bool, vector, Col, Rec, tombstone, present, encodeBody}
 use Rattle.mvcc.specs.declared.TextPlace.{TextPlace}
 use Rattle.mvcc.specs.declared.Value.{Value}
@@ -19,6 +20,10 @@ use Rattle.mvcc.specs.declared.RowID.{RowID}
 use Rattle.mvcc.specs.declared.VersionPayload.{VersionPayload}
 use Rattle.mvcc.specs.declared.VersionPayload.the-variants as payload
 use Rattle.mvcc.specs.declared.MvccLogRecord.{MvccLogRecord}
+use Rattle.mvcc.specs.declared.BatchDecoded.{BatchDecoded}
+use Rattle.mvcc.specs.declared.BatchDecoded.the-variants as batch
+use Rattle.mvcc.specs.declared.HeadingJudged.{HeadingJudged}
+use Rattle.mvcc.specs.declared.HeadingJudged.the-variants as heading
 
 -- the bytes of a text
 abbrev pub bytesOf : List ℕ → TextPlace → List ℕ
@@ -51,17 +56,26 @@ seenRecord s r = seenRow s (r .row) (r .payload)
 
 -- ---- of a body, for crates above
 
--- document 01's number for it; 0 where it decodes
-unfoldable pub refusalOf : List ℕ → ℕ
-refusalOf s = batchNumber (batchOf s)
+-- what its heading alone comes to
+abbrev pub headingJudged : List ℕ → HeadingJudged
+headingJudged s = answered heading.Refused heading.Fine (headingRefusal s)
 
--- the same where it is one of the heading's, 2 "batch body under 18" or 3 "wrong leading bytes"; otherwise 0
-unfoldable pub headingRefusal : List ℕ → ℕ
-headingRefusal s = pick (eqb (refusalOf s) 2) 2 (pick (eqb (refusalOf s) 3) 3 0)
+-- the refusal in an answer
+abbrev pub refusalIn : BatchDecoded → Option Refusal
+refusalIn (batch.Batch b) = none
+refusalIn (batch.Refused r) = some r
+
+-- its refusal; none where it decodes
+unfoldable pub decodeRefusal : List ℕ → Option Refusal
+decodeRefusal s = refusalIn (batchOf s)
+
+-- document 01's number of that; 0 where it decodes
+unfoldable pub refusalOf : List ℕ → ℕ
+refusalOf s = numberOf (decodeRefusal s)
 
 -- the body decodes
 unfoldable pub decodes : List ℕ → Bool
-decodes s = eqb (refusalOf s) 0
+decodes s = accepts (decodeRefusal s)
 
 -- "commit time (8)"
 unfoldable pub commitTs : List ℕ → ℕ

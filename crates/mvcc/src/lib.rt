@@ -6,8 +6,9 @@ ghost use lib.ListN.{drop, take};
 ghost use Rattle.mvcc.specs.Answer.{why};
 ghost use Rattle.mvcc.specs.Fields.{numAnswer, textAnswer, valueAnswer, columnAnswer, recordAnswer};
 ghost use Rattle.mvcc.specs.Decode.{numAt, textOf, textAt, signed, realOf, integerAt, realAt, boolAt, textValueAt, vectorAt, valueAt, columnAt, presentAt, recordAt, batchOf};
-ghost use Rattle.mvcc.specs.Seen.{headingRefusal, refusalOf, decodes};
+ghost use Rattle.mvcc.specs.Seen.{headingJudged, decodes};
 ghost use Rattle.mvcc.specs.Vector.{bitsAt, elementAt};
+use refusal::Refusal;
 
 // The page number of a frame that holds a batch in place of a page.
 pub const MVCC_FRAME_MARKER: u32 = 0xffff_ffff;
@@ -63,16 +64,6 @@ pub struct MvccCommitBatch {
     pub end: usize,
 }
 
-// Why a body does not decode, once its heading is read.
-pub enum Refusal {
-    // A field runs past the body.
-    Truncated,
-    // An unknown op or value tag.
-    Tag,
-    // Not UTF-8.
-    Text,
-}
-
 // A number field: its number and the next cursor, or it runs past the body.
 enum NumField {
     Taken(u64, usize),
@@ -101,8 +92,12 @@ pub enum RecordField {
 
 pub enum BatchDecoded {
     Batch(MvccCommitBatch),
-    Short,
-    Magic,
+    Refused(Refusal),
+}
+
+// What a body's heading alone says.
+pub enum HeadingJudged {
+    Fine,
     Refused(Refusal),
 }
 
@@ -394,10 +389,10 @@ impl MvccCommitBatch {
         ensures { λ r. ⌜ r ≡ batchOf (now (body .entry)) ⌝ }
     {
         if body.len() < 18 {
-            return BatchDecoded::Short;
+            return BatchDecoded::Refused(Refusal::Short);
         }
         if le::read_u64(body, 0) != MVCC_BODY_MAGIC {
-            return BatchDecoded::Magic;
+            return BatchDecoded::Refused(Refusal::Magic);
         }
         let commit_ts = le::read_u64(body, 8);
         let records = le::read_u16(body, 16) as usize;
@@ -419,41 +414,27 @@ impl MvccCommitBatch {
     }
 }
 
-// Document 01's number where a body's heading is refused: 2 or 3. It is 0 where the records are read, of which none is looked at here.
-pub fn heading_refusal(body: &[u8]) -> u8
-    ensures { λ r. ⌜ r ≡ headingRefusal (now (body .entry)) ⌝ }
+// Judges a body by its heading: it is too short, or its leading bytes are wrong. No record is looked at.
+pub fn heading_refusal(body: &[u8]) -> HeadingJudged
+    ensures { λ r. ⌜ r ≡ headingJudged (now (body .entry)) ⌝ }
 {
     if body.len() < 18 {
-        return 2;
+        return HeadingJudged::Refused(Refusal::Short);
     }
     if le::read_u64(body, 0) != MVCC_BODY_MAGIC {
-        return 3;
+        return HeadingJudged::Refused(Refusal::Magic);
     }
-    0
-}
-
-// Document 01's number for a body that does not decode; 0 for one that does.
-pub fn refusal_number(body: &[u8]) -> u8
-    ensures { λ r. ⌜ r ≡ refusalOf (now (body .entry)) ⌝ }
-{
-    let d = MvccCommitBatch::decode(body);
-    match d {
-        BatchDecoded::Batch(_) => 0,
-        BatchDecoded::Short => 2,
-        BatchDecoded::Magic => 3,
-        BatchDecoded::Refused(k) => match k {
-            Refusal::Truncated => 17,
-            Refusal::Tag => 18,
-            Refusal::Text => 19,
-        },
-    }
+    HeadingJudged::Fine
 }
 
 // Whether a body decodes.
 pub fn decodes(body: &[u8]) -> bool
     ensures { λ r. ⌜ r ≡ decodes (now (body .entry)) ⌝ }
 {
-    refusal_number(body) == 0
+    match MvccCommitBatch::decode(body) {
+        BatchDecoded::Batch(_) => true,
+        BatchDecoded::Refused(_) => false,
+    }
 }
 
 // ---- what stands at a place

@@ -12,7 +12,7 @@ use Rattle.le.specs.Choice.{pick, both}
 use Rattle.le.proofs.Compare.{no-test, both-true}
 use Rattle.refusal.specs.Refusal.{accepts}
 use Rattle.refusal.specs.declared.Refusal.the-variants as refusal
-use Rattle.refusal.proofs.Judged.{met, passes}
+use Rattle.refusal.proofs.Judged.{met, accepts-none}
 use Rattle.header.specs.Header.{isVersion}
 use Rattle.header.specs.declared.DbHeader.{DbHeader}
 use Rattle.frame.specs.Frame.{frameSize}
@@ -130,7 +130,7 @@ module _ (g : List ℕ) (w : World) (e : checkpointBegins g w ≡ true) where
   unfolding checkpointRefusal
   checkpoint-begun =
       let x = both-true (accepts (checkpointRefusal g w)) (not (nothingToFold w)) e in
-      let a = met (stepFine g w) refusal.Area _ (passes _ (x .0)) in
+      let a = met (stepFine g w) refusal.Area _ (accepts-none _ (x .0)) in
       let b = met (not (busy (w .pager))) refusal.Busy _ (a .1) in
       let c = met (not (readOnly (w .pager))) refusal.ReadOnly none (b .1) in
       record { right = a .0; idle = not-busy (w .pager .job) (off _ (b .0)); writes = off _ (c .0); some = off _ (x .1) }

@@ -17,12 +17,12 @@ pub behind : (v rest : Option Refusal) → first v rest ≡ none → rest ≡ no
 behind none rest e = e
 behind (some r) rest e = let z : _≡_ {A = ℕ} 0 1 = cc in absurd (omega arith)
 
-pub passes : (v : Option Refusal) → accepts v ≡ true → v ≡ none
-passes none e = refl
-passes (some r) e = let z : _≡_ {A = ℕ} 0 1 = cc in absurd (omega arith)
-
 -- an answer that is none of the refusals is the result
 pub resulted : {A : Type 0} (refused : Refusal → A) (result answer : A) → ((r : Refusal) → refused r ≡ answer → ⊥) → (v : Option Refusal)
     → answered refused result v ≡ answer → (v ≡ none) × (result ≡ answer)
 resulted refused result answer apart none e = (refl, e)
 resulted refused result answer apart (some r) e = absurd (apart r e)
+
+pub accepts-none : (v : Option Refusal) → accepts v ≡ true → v ≡ none
+accepts-none none a = refl
+accepts-none (some r) a = let z : _≡_ {A = ℕ} 0 1 = cc in absurd (omega arith)

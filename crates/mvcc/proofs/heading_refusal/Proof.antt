@@ -2,7 +2,7 @@ use mathlib.Core.Path.{sym, _∙_}
 use borrow.Author.Needs.{needs}
 use Rattle.le.specs.Le.{leOf}
 use Rattle.mvcc.specs.Decode.{magic}
-use Rattle.mvcc.proofs.Heading.{heading-short, heading-alien, heading-other}
+use Rattle.mvcc.proofs.Heading.{heading-short, heading-alien, heading-fine}
 use Rattle.mvcc.proofs.heading_refusal.Statement.{statement}
 use Rattle.mvcc.proofs.heading_refusal.Tie as tie
 
@@ -19,7 +19,7 @@ returns-3 : tie.Need-returns-3
 unfolding magic leOf
 returns-3 c =
     let h = c .before .before in
-    heading-other (h .before .before .args .body .now) (h .if1 .left) (sym (c .before .read-u64 .ensures) ∙ c .if2 .left)
+    heading-fine (h .before .before .args .body .now) (h .if1 .left) (sym (c .before .read-u64 .ensures) ∙ c .if2 .left)
 
 pub heading-refusal-spec : {M : Type 1} → statement M
 heading-refusal-spec = tie.close (tie.spec returns (search needs) returns-2 returns-3)
