@@ -18,8 +18,8 @@ use Rattle.pager_state.proofs.Runs.{made-steps}
 use Rattle.pager_state.proofs.Begun.{commit-made, checkpoint-made}
 use Rattle.pager_state.proofs.Opened.{open-made}
 use Rattle.pager_state.proofs.Calls.{stage-made, clear-made, observe-made, append-made}
-use Rattle.history.specs.Calls.{Lent, Call, Open, ReadHeader, ReadMode, ReadClock, ReadPage, ReadBatch, Stage, Clear, Append, Observe, Commit, Checkpoint, BeginCommit, BeginCheckpoint, Step}
-use Rattle.history.specs.Run.{Run, cleanly, laid, openedOr, openedWorld, worldAfter, whole, reopened, Event, Whole, Cut, next}
+use Rattle.history.specs.Calls.{Lent, Call, Ask, Open, Stage, Clear, Append, Observe, Commit, Checkpoint, BeginCommit, BeginCheckpoint, Step, cleanly, laid, openedOr, openedWorld, worldAfter}
+use Rattle.history.specs.Run.{Run, whole, reopened, Event, Whole, Cut, next}
 use Rattle.history.specs.Guards.{after}
 
 -- ---- openings
@@ -69,12 +69,8 @@ module _ (g : List ℕ) (w : World) (salt : ℕ) (k : Made w) where
 
 made-after : (c : Call) (w : World) (g : List ℕ) → Made w → Made (worldAfter c w g)
 unfolding worldAfter
+made-after (Ask q) w g k = k
 made-after (Open m lent) w g k = made-opened m lent _ w k
-made-after ReadHeader w g k = k
-made-after ReadMode w g k = k
-made-after ReadClock w g k = k
-made-after (ReadPage n) w g k = k
-made-after (ReadBatch i) w g k = k
 made-after (Stage n bytes) w g k = stage-made w g n bytes k
 made-after Clear w g k = clear-made w k
 made-after (Append body) w g k = append-made w body k
