@@ -8,7 +8,7 @@ use lib.Dec.{eqb}
 use Rattle.pager_state.specs.World.{World, busy, busyWith}
 use Rattle.pager_state.specs.Queries.{header}
 use Rattle.pager_state.specs.Stores.{Disk, diskOf, cutAll}
-use Rattle.pager_state.specs.Opening.{createFine, openPager, openRefusal}
+use Rattle.pager_state.specs.Opening.{createFine, openRefusal}
 use Rattle.pager_state.specs.declared.AccessMode.the-variants as mode
 use Rattle.pager_state.specs.declared.HeaderRead.the-variants as head
 use Rattle.pager_state.specs.Opened.{Opens}
@@ -16,7 +16,7 @@ use Rattle.pager_state.specs.Opened as opened
 use Rattle.pager_state.proofs.Made.{Made}
 use Rattle.pager_state.proofs.Opened.{open-idle}
 use Rattle.history.specs.Book.{bookRead}
-use Rattle.history.specs.Calls.{Lent, ReadMode, Call, Ask, Open, cleanly, laid, openedOr, openedWorld, refusedBy, storesOf, worldAfter}
+use Rattle.history.specs.Calls.{Lent, ReadMode, Call, Ask, Open, cleanly, laid, opening, openedOr, openedWorld, refusedBy, storesOf, worldAfter}
 use Rattle.history.specs.Run.{Run, whole, Left, cutCall, Attempt, cutOpening, cutOpenings, reopening, reopened, Event, Whole, Cut, next, start}
 use Rattle.history.specs.Demand3.{Same, AtRest, Returns, Answers, Holds, Reopens, Sized, AllSized, Typed, TypedEvent, AllTyped, Demand3}
 use Rattle.history.specs.Guards.{after, Accepted, reading}
@@ -84,7 +84,7 @@ uncut r = uncut-by r (eqb (refusedBy (Ask ReadMode) (r .world) (r .staging)) 0) 
 -- ---- nothing is part done after an opening that is not refused
 
 module _ (lent : Lent) (d : Disk) (w : World) where
-  opened-by : (a : Opens) → openPager (cleanly mode.ReadWrite) (lent .table) (laid lent d) (lent .staging) ≡ a → openRefusal a ≡ 0 → (t l m : List ℕ)
+  opened-by : (a : Opens) → opening mode.ReadWrite lent d ≡ a → openRefusal a ≡ 0 → (t l m : List ℕ)
       → busy (openedOr a w t l m .pager) ≡ false
   opened-by (opened.Opened p) e z t l m = ap busyWith (open-idle (cleanly mode.ReadWrite) (lent .table) (laid lent d) (lent .staging) p e)
   opened-by opened.Area e z t l m = absurd (omega arith)
@@ -97,10 +97,10 @@ module _ (lent : Lent) (d : Disk) (w : World) where
   opened-by opened.PageZero e z t l m = absurd (omega arith)
   opened-by opened.ReadOnly e z t l m = absurd (omega arith)
 
-  opened-rests : openRefusal (openPager (cleanly mode.ReadWrite) (lent .table) (laid lent d) (lent .staging)) ≡ 0
+  opened-rests : openRefusal (opening mode.ReadWrite lent d) ≡ 0
       → busy (openedWorld mode.ReadWrite lent d w .pager) ≡ false
   unfolding openedWorld
-  opened-rests z = opened-by (openPager (cleanly mode.ReadWrite) (lent .table) (laid lent d) (lent .staging)) refl z _ _ _
+  opened-rests z = opened-by (opening mode.ReadWrite lent d) refl z _ _ _
 
 -- the opening behind a cut and other openings is not refused
 reopens-end : (attempts : List Attempt) (lent : Lent) (w : World) (x : Left) → Reopens attempts lent w x

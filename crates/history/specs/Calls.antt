@@ -29,7 +29,7 @@ pub record Lent : Type 0 where
   pub log : List ℕ
   pub main : List ℕ
 
--- "read": a call that only answers
+-- "read": the calls that only answer
 pub data Query : Type 0 where
   ReadHeader : Query
   ReadMode : Query
@@ -100,35 +100,11 @@ pub record Effect : Type 1 where
   pub opens : Bool  -- whether it is an opening
   pub typed : Type 0  -- what the types of its arguments let through
 
--- "read: no change"
-abbrev pub query : (World → List ℕ → ℕ) → Effect
-query refusal =
-    record {
-      refusal = refusal;
-      stores = λ w g. [];
-      world = λ w g. w;
-      staging = λ w g. g;
-      book = λ b. b;
-      body = [];
-      opens = false;
-      typed = Unit {0};
-    }
+-- "Idle, read, clock: no change"; of a batch append and a fold the book hears the stores alone
+abbrev pub untold : Book → Book
+untold b = b
 
--- a call that changes the open store and neither area nor file
-abbrev pub unstored : (World → List ℕ → ℕ) → (World → List ℕ → Pager) → (Book → Book) → Type 0 → Effect
-unstored refusal pager book typed =
-    record {
-      refusal = refusal;
-      stores = λ w g. [];
-      world = λ w g. onStore w (pager w g);
-      staging = λ w g. g;
-      book = book;
-      body = [];
-      opens = false;
-      typed = typed;
-    }
-
--- steps of a commit or a fold
+-- a call that is no opening, is lent no batch and leaves the staging area
 abbrev pub storing : (World → List ℕ → ℕ) → (World → List ℕ → List Act) → (World → List ℕ → World) → (Book → Book) → Type 0 → Effect
 storing refusal stores world book typed =
     record {
@@ -142,7 +118,15 @@ storing refusal stores world book typed =
       typed = typed;
     }
 
--- the fields of a header that a commit is given
+-- one that changes the open store alone
+abbrev pub unstored : (World → List ℕ → ℕ) → (World → List ℕ → Pager) → (Book → Book) → Type 0 → Effect
+unstored refusal pager book typed = storing refusal (λ w g. []) (λ w g. onStore w (pager w g)) book typed
+
+-- one that changes nothing
+abbrev pub query : (World → List ℕ → ℕ) → Effect
+query refusal = storing refusal (λ w g. []) (λ w g. w) untold (Unit {0})
+
+-- the words of a header that a commit is given
 pub record Words (h : DbHeader) : Type 0 where
   pub count : h .«page_count» < 2 ^ 32
   pub root : h .«schema_root_page» < 2 ^ 32
@@ -158,12 +142,12 @@ queryRefusal (ReadBatch i) w g = recoveredRefusal (nextRecovered (w .pager) (w .
 
 abbrev pub effect : Call → Effect
 effect (Ask q) = query (queryRefusal q)
--- one that is not refused is lent another staging area
 effect (Open m lent) =
     record {
       refusal = λ w g. openRefusal (opening m lent (diskOf w));
       stores = λ w g. openStores (cleanly m) (laid lent (diskOf w));
       world = λ w g. openedWorld m lent (diskOf w) w;
+      -- it is lent another, unless it is refused
       staging = λ w g. pick (eqb (openRefusal (opening m lent (diskOf w))) 0) (lent .staging) g;
       book = bookOpen;
       body = [];
@@ -188,23 +172,23 @@ effect (Append body) =
       stores = λ w g. Put Batched file.Log (w .pager .wal .len) (batchFrame (w .pager) body) false ∷ [];
       world = λ w g. world (appendBatch (w .pager) (w .log) body .pager) (w .table) (appendAfter (w .pager) (w .log) body) (w .main);
       staging = λ w g. g;
-      book = λ b. b;
+      book = untold;
       body = body;
       opens = false;
       typed = Bytes body;
     }
-effect (Observe c) = unstored (λ w g. observeRefusal (observeClock (w .pager) c .answer)) (λ w g. observeClock (w .pager) c .pager) (λ b. b) (c < 2 ^ 64)
+effect (Observe c) = unstored (λ w g. observeRefusal (observeClock (w .pager) c .answer)) (λ w g. observeClock (w .pager) c .pager) untold (c < 2 ^ 64)
 effect (Commit h salt) =
     storing (λ w g. commitRefusal (commitStart g w h)) (λ w g. todo g (onStore w (beginCommit g w h salt .pager))) (λ w g. commitWorld g w h salt) (give h)
     (Words h × (salt < 2 ^ 32))
 effect (Checkpoint salt) =
-    storing (λ w g. checkpointRefusal (checkpointStart g w)) (λ w g. todo g (onStore w (beginCheckpoint g w salt .pager))) (λ w g. checkpointWorld g w salt) (λ b. b)
+    storing (λ w g. checkpointRefusal (checkpointStart g w)) (λ w g. todo g (onStore w (beginCheckpoint g w salt .pager))) (λ w g. checkpointWorld g w salt) untold
     (salt < 2 ^ 32)
 effect (BeginCommit h salt) =
     unstored (λ w g. commitRefusal (commitStart g w h)) (λ w g. beginCommit g w h salt .pager) (give h) (Words h × (salt < 2 ^ 32))
 effect (BeginCheckpoint salt) =
-    unstored (λ w g. checkpointRefusal (checkpointStart g w)) (λ w g. beginCheckpoint g w salt .pager) (λ b. b) (salt < 2 ^ 32)
-effect Step = storing (λ w g. stepRefusal (stepAnswer g w)) (λ w g. take 1 (todo g w)) (λ w g. stepped g w) (λ b. b) (Unit {0})
+    unstored (λ w g. checkpointRefusal (checkpointStart g w)) (λ w g. beginCheckpoint g w salt .pager) untold (salt < 2 ^ 32)
+effect Step = storing (λ w g. stepRefusal (stepAnswer g w)) (λ w g. take 1 (todo g w)) (λ w g. stepped g w) untold (Unit {0})
 
 -- ---- its columns
 

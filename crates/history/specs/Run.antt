@@ -8,9 +8,7 @@ use Rattle.pager_state.specs.World.{World, world}
 use Rattle.pager_state.specs.Stores.{Disk, content, diskOf, Kind, Batched, Sealed, Emptied, Other, Act, Put, SetLen, kindOf, stored, cutAll, wholeOf}
 use Rattle.pager_state.specs.Opening.{openStores, createdPager, createTable, createLog, createMain}
 use Rattle.pager_state.specs.declared.AccessMode.the-variants as mode
-use Rattle.pager_state.specs.declared.FileKind.the-variants as file
 use Rattle.pager_state.specs.Opened.{Opens}
-use Rattle.pager_state.specs.Opened as opened
 use Rattle.history.specs.Book.{Book, bookOpen, firstBook, tells}
 use Rattle.history.specs.Calls.{Lent, Call, cleanly, laid, opening, openedWorld, refusedBy, storesOf, worldAfter, stagingAfter, bookFirst, bodyLent}
 
