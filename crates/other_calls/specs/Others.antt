@@ -1,5 +1,5 @@
 -- The pager's public calls that `Call` does not name: each is one of those that it does, or none, on every store, a made-up one too.
--- `BeginCommit h salt`, `Step`, `Stage n bytes` and `ReadPage n` are the theorem's own calls: `refusedBy`, `worldAfter` and `stagingAfter` say what they come to.
+-- `BeginCommit h salt`, `Step`, `Stage n bytes` and `Ask (ReadPage n)` are the theorem's own calls: `refusedBy`, `worldAfter` and `stagingAfter` say what they come to.
 use mathlib.Core.Path.{_≡_}
 use mathlib.Core.Bool.{Bool, not}
 use mathlib.Core.List.{List}
