@@ -27,8 +27,8 @@ use Rattle.pager_state.specs.declared.FileKind.the-variants as file
 use Rattle.pager_state.specs.declared.Job.the-variants as job
 use Rattle.pager_state.specs.declared.BatchAnswer.the-variants as append
 use Rattle.history.specs.Book.{Book, batchIn, bookWait, tells}
-use Rattle.history.specs.Calls.{Append}
-use Rattle.history.specs.Run.{refusedBy, storesOf, worldAfter, keptAfter}
+use Rattle.history.specs.Calls.{Append, refusedBy, storesOf, worldAfter}
+use Rattle.history.specs.Run.{keptAfter}
 use Rattle.history.proofs.Frames.{last-other, place-other, batches-append, batches-batch}
 use Rattle.history.proofs.Disk.{OnDisk, DiskOk}
 use Rattle.history.proofs.Opening.{re-book}

@@ -13,8 +13,8 @@ use Rattle.pager_state.specs.declared.Pager.{Pager}
 use Rattle.pager_state.specs.declared.StagedCleared.{StagedCleared}
 use Rattle.pager_state.specs.declared.ClearAnswer.the-variants as clear
 use Rattle.history.specs.Book.{Book, bookClear, tells}
-use Rattle.history.specs.Calls.{Clear}
-use Rattle.history.specs.Run.{refusedBy, storesOf, worldAfter, keptAfter}
+use Rattle.history.specs.Calls.{Clear, refusedBy, storesOf, worldAfter}
+use Rattle.history.specs.Run.{keptAfter}
 use Rattle.history.proofs.Opening.{re-book}
 use Rattle.history.proofs.Rest.{Resting, Some, Inv, held-disk}
 use Rattle.history.proofs.CommitSeal.{none-slots, none-staged}

@@ -18,8 +18,8 @@ use Rattle.pager_state.specs.declared.Pager.{Pager}
 use Rattle.pager_state.specs.declared.ClockObserved.{ClockObserved}
 use Rattle.pager_state.specs.declared.ObserveAnswer.the-variants as observe
 use Rattle.history.specs.Book.{Book, tells}
-use Rattle.history.specs.Calls.{Observe}
-use Rattle.history.specs.Run.{refusedBy, storesOf, worldAfter, keptAfter}
+use Rattle.history.specs.Calls.{Observe, refusedBy, storesOf, worldAfter}
+use Rattle.history.specs.Run.{keptAfter}
 use Rattle.history.proofs.Rest.{Resting, Some, Inv, held-disk}
 use Rattle.history.proofs.Running.{cut-none}
 use Rattle.history.proofs.Taken.{Taken, passed, idle-of, at-rest, rest-inv}

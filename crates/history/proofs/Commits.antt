@@ -19,9 +19,8 @@ use Rattle.pager_state.specs.declared.Pager.{Pager}
 use Rattle.pager_state.specs.declared.Staged.{Staged}
 use Rattle.pager_state.specs.declared.CommitStart.the-variants as commit
 use Rattle.history.specs.Book.{Book, give, tells}
-use Rattle.history.specs.Calls.{Commit, BeginCommit}
-use Rattle.history.specs.Run.{storesOf, worldAfter, keptAfter}
-use Rattle.history.specs.Demand3.{Words}
+use Rattle.history.specs.Calls.{Commit, BeginCommit, Words, storesOf, worldAfter}
+use Rattle.history.specs.Run.{keptAfter}
 use Rattle.history.proofs.PagesFrom.{none-first}
 use Rattle.history.proofs.Opening.{re-book}
 use Rattle.history.proofs.Rest.{Held, Resting, Committing, Some, Inv, held-disk}

@@ -17,10 +17,10 @@ use Rattle.pager_state.specs.declared.AccessMode.the-variants as mode
 use Rattle.pager_state.specs.declared.FileKind.the-variants as file
 use Rattle.pager_state.specs.Opened as opened
 use Rattle.history.specs.Book.{Book, bookOpen, tells}
-use Rattle.history.specs.Calls.{Lent, Call, Open, ReadHeader, ReadMode, ReadClock, ReadPage, ReadBatch, Stage, Clear, Append, Observe, Commit, Checkpoint, BeginCommit, BeginCheckpoint, Step}
-use Rattle.history.specs.Run.{Run, Left, Attempt, laid, refusedBy, storesOf, worldAfter, stagingAfter, kinds, keptAfter, whole, cutCall, cutOpening, cutOpenings, Event, Whole, Cut, next, start}
-use Rattle.history.specs.Demand3.{Returns, Intact, OpenedWhole, Answers, Holds, Typed, AllSized, TypedEvent, AllTyped, Demand3}
-use Rattle.history.proofs.Refused.{refused-stays, refused-staging}
+use Rattle.history.specs.Calls.{Lent, Call, Ask, Open, Stage, Clear, Append, Observe, Commit, Checkpoint, BeginCommit, BeginCheckpoint, Step, laid, opening, effect, refusedBy, storesOf, worldAfter, stagingAfter, bookFirst, bodyLent}
+use Rattle.history.specs.Run.{Run, Left, Attempt, kinds, keptAfter, whole, cutCall, cutOpening, cutOpenings, Event, Whole, Cut, next, start}
+use Rattle.history.specs.Demand3.{walked, Intact, OpenedWhole, Answers, Holds, Typed, AllSized, TypedEvent, AllTyped, Demand3}
+use Rattle.history.proofs.Refused.{refused-stays}
 use Rattle.history.proofs.Disk.{DiskOk, LeftOk, disk-kept}
 use Rattle.history.proofs.Rest.{Inv, inv-disk, same-of}
 use Rattle.history.proofs.Opening.{Areas, fine-areas, laid-on, refuses, stores-is, open-cut}
@@ -35,6 +35,10 @@ use Rattle.history.proofs.Commits.{begin-commit-ok, commit-ok}
 use Rattle.history.proofs.Folds.{begin-checkpoint-ok, checkpoint-ok}
 use Rattle.history.proofs.NextStep.{step-ok}
 use Rattle.history.proofs.Creation.{created-inv}
+
+-- the batches that the store gives after a call are the sealed ones of the book
+abbrev Sealed : Call → World → List ℕ → Book → Type 0
+Sealed c w g b = walked 1025 (worldAfter c w g) 0 ≡ tells (bodyLent c) (kinds (storesOf c w g)) (bookFirst c b) .sealed
 
 -- ---- openings that are not refused
 
@@ -59,7 +63,8 @@ module _ (w : World) (g : List ℕ) (b : Book) (z : List ℕ) (i : Inv w g b z) 
   open-stores m a = stores-is (laid-on (disk-now .on) lent a) m
 
   lent-staging : (m : AccessMode) → refusedBy (Open m lent) w g ≡ 0 → stagingAfter (Open m lent) w g ≡ lent .staging
-  lent-staging m e = rw (eq-eqb (refusedBy (Open m lent) w g) 0 e)
+  unfolding refusedBy
+  lent-staging m e = rw (eq-eqb (openRefusal (opening m lent (diskOf w))) 0 e)
 
   open-ok : (m : AccessMode) → refusedBy (Open m lent) w g ≡ 0 → Taken (Open m lent) w g b z
   unfolding worldAfter tells keptAfter
@@ -70,8 +75,7 @@ module _ (w : World) (g : List ℕ) (b : Book) (z : List ℕ) (i : Inv w g b z) 
       (subst (λ (x : List ℕ). Inv (worldAfter (Open mode.ReadWrite lent) w g) x (bookOpen b) z) (sym (lent-staging mode.ReadWrite e)) (opened-rest disk-now lent a w))
       (open-cut (disk-now .on) z (disk-now .kept))
 
-  open-returns : (m : AccessMode) → refusedBy (Open m lent) w g ≡ 0
-      → Returns (record { world = worldAfter (Open m lent) w g; staging = lent .staging; book = tells [] (kinds (storesOf (Open m lent) w g)) (bookOpen b); kept = z })
+  open-returns : (m : AccessMode) → refusedBy (Open m lent) w g ≡ 0 → Sealed (Open m lent) w g b
   unfolding worldAfter tells
   open-returns mode.ReadOnly e = never e
   open-returns mode.ReadWrite e = let a = areas-of mode.ReadWrite e in rw (open-stores mode.ReadWrite a) (opened-returns disk-now lent a w)
@@ -83,23 +87,19 @@ module _ (w : World) (g : List ℕ) (b : Book) (z : List ℕ) (i : Inv w g b z) 
   stays : CutOk [] [] (diskOf w) b z
   stays = cut-none [] (diskOf w) b z (inv-disk (w .pager .job) w g b z i)
 
-  taken : (c : Call) → Typed c → refusedBy c w g ≡ 0 → Taken c w g b z
+  taken : (c : Call) → Typed c → refusedBy c w g ≡ 0 → Taken c w g b z × (effect c .opens ≡ true → Sealed c w g b)
   unfolding refusedBy storesOf worldAfter tells keptAfter
-  taken (Open m lent) t e = open-ok w g b z i lent m e
-  taken ReadHeader t e = record { after = i; cut = stays }
-  taken ReadMode t e = record { after = i; cut = stays }
-  taken ReadClock t e = record { after = i; cut = stays }
-  taken (ReadPage n) t e = record { after = i; cut = stays }
-  taken (ReadBatch n) t e = record { after = i; cut = stays }
-  taken (Stage n bytes) t e = stage-ok w g b z i n bytes e
-  taken Clear t e = clear-ok w g b z i e
-  taken (Append body) t e = append-ok w g b z i body t e
-  taken (Observe c) t e = observe-ok w g b z i c t e
-  taken (Commit h salt) t e = commit-ok w g b z i h salt (t .0) (t .1) e
-  taken (Checkpoint salt) t e = checkpoint-ok w g b z i salt t e
-  taken (BeginCommit h salt) t e = begin-commit-ok w g b z i h salt (t .0) (t .1) e
-  taken (BeginCheckpoint salt) t e = begin-checkpoint-ok w g b z i salt t e
-  taken Step t e = step-ok w g b z i
+  taken (Ask q) t e = (record { after = i; cut = stays }, no-test)
+  taken (Open m lent) t e = (open-ok w g b z i lent m e, λ o. open-returns w g b z i lent m e)
+  taken (Stage n bytes) t e = (stage-ok w g b z i n bytes e, no-test)
+  taken Clear t e = (clear-ok w g b z i e, no-test)
+  taken (Append body) t e = (append-ok w g b z i body t e, no-test)
+  taken (Observe c) t e = (observe-ok w g b z i c t e, no-test)
+  taken (Commit h salt) t e = (commit-ok w g b z i h salt (t .0) (t .1) e, no-test)
+  taken (Checkpoint salt) t e = (checkpoint-ok w g b z i salt t e, no-test)
+  taken (BeginCommit h salt) t e = (begin-commit-ok w g b z i h salt (t .0) (t .1) e, no-test)
+  taken (BeginCheckpoint salt) t e = (begin-checkpoint-ok w g b z i salt t e, no-test)
+  taken Step t e = (step-ok w g b z i, no-test)
 
 -- ---- any call
 
@@ -108,7 +108,7 @@ module _ (c : Call) (r : Run) (t : Typed c) (i : InvRun r) where
   takes = eqb (refusedBy c (r .world) (r .staging)) 0
 
   taken-when : takes ≡ true → Taken c (r .world) (r .staging) (r .book) (r .kept)
-  taken-when e = taken (r .world) (r .staging) (r .book) (r .kept) i c t (eqb-true _ _ e)
+  taken-when e = taken (r .world) (r .staging) (r .book) (r .kept) i c t (eqb-true _ _ e) .0
 
   refuses-it : takes ≡ false → refusedBy c (r .world) (r .staging) ≡ 0 → ⊥
   refuses-it e q = no-test (sym e ∙ eq-eqb (refusedBy c (r .world) (r .staging)) 0 q)
@@ -117,7 +117,8 @@ module _ (c : Call) (r : Run) (t : Typed c) (i : InvRun r) where
   unfolding whole
   whole-by true e = rw e (taken-when e .after)
   whole-by false e =
-      rw (e, refused-stays c (r .world) (r .staging) (refuses-it e), refused-staging c (r .world) (r .staging) (refuses-it e)) i
+      let s = refused-stays c (r .world) (r .staging) (refuses-it e) in
+      rw (e, s .0, s .1) i
 
   pub whole-ok : InvRun (whole c r)
   whole-ok = whole-by takes refl
@@ -133,24 +134,9 @@ module _ (c : Call) (r : Run) (t : Typed c) (i : InvRun r) where
   intact : Intact c r
   intact j k = disk-kept (cutCall c j k r) (cut-ok j k)
 
-opened-whole : (c : Call) (r : Run) → InvRun r → OpenedWhole c r
-unfolding whole
-opened-whole (Open m lent) r i = λ (e : refusedBy (Open m lent) (r .world) (r .staging) ≡ 0).
-    rw (eq-eqb (refusedBy (Open m lent) (r .world) (r .staging)) 0 e) (open-returns (r .world) (r .staging) (r .book) (r .kept) i lent m e)
-opened-whole ReadHeader r i = tt
-opened-whole ReadMode r i = tt
-opened-whole ReadClock r i = tt
-opened-whole (ReadPage n) r i = tt
-opened-whole (ReadBatch n) r i = tt
-opened-whole (Stage n bytes) r i = tt
-opened-whole Clear r i = tt
-opened-whole (Append body) r i = tt
-opened-whole (Observe c) r i = tt
-opened-whole (Commit h salt) r i = tt
-opened-whole (Checkpoint salt) r i = tt
-opened-whole (BeginCommit h salt) r i = tt
-opened-whole (BeginCheckpoint salt) r i = tt
-opened-whole Step r i = tt
+  opened-whole : OpenedWhole c r
+  unfolding whole
+  opened-whole o e = rw (eq-eqb (refusedBy c (r .world) (r .staging)) 0 e) (taken (r .world) (r .staging) (r .book) (r .kept) i c t e .1 o)
 
 -- ---- any list of events
 
@@ -160,7 +146,7 @@ cut-openings [] s x k = k
 cut-openings (a ∷ rest) s x k = cut-openings rest (s .1) (cutOpening a x) (cut-opening a (s .0) x k)
 
 answers : (e : Event) (r : Run) → TypedEvent e → InvRun r → Answers e r
-answers (Whole c) r t i = (intact c r t i, opened-whole c r i)
+answers (Whole c) r t i = (intact c r t i, opened-whole c r t i)
 answers (Cut c j k attempts lent) r t i =
     (intact c r (t .0) i, reopens-ok attempts lent (t .1 .0) (t .1 .1) (r .world) (cutCall c j k r) (cut-ok c r (t .0) i j k))
 

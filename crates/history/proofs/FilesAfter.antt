@@ -23,8 +23,8 @@ use Rattle.pager_state.proofs.Begun.{commit-unrefused}
 use Rattle.pager_state.proofs.Done.{commit-done, checkpoint-done}
 use Rattle.pager_state.proofs.Steps.{idle-todo}
 use Rattle.history.specs.Book.{Book}
-use Rattle.history.specs.Calls.{Lent, Call, Open, ReadHeader, ReadMode, ReadClock, ReadPage, ReadBatch, Stage, Clear, Append, Observe, Commit, Checkpoint, BeginCommit, BeginCheckpoint, Step}
-use Rattle.history.specs.Run.{Run, laid, refusedBy, storesOf, worldAfter, keptBy, keptAfter, Event, next, start}
+use Rattle.history.specs.Calls.{Lent, Call, Ask, Open, Stage, Clear, Append, Observe, Commit, Checkpoint, BeginCommit, BeginCheckpoint, Step, laid, refusedBy, storesOf, worldAfter}
+use Rattle.history.specs.Run.{Run, keptBy, keptAfter, Event, next, start}
 use Rattle.history.specs.Demand3.{Typed, AllTyped}
 use Rattle.history.specs.Guards.{after}
 use Rattle.history.specs.FilesAfter.{SameFiles, FilesAfter, Unemptied, SealedGrow}
@@ -116,12 +116,8 @@ module _ (w : World) (g : List ℕ) (b : Book) (z : List ℕ) (i : Inv w g b z) 
 
   leaves : (c : Call) → Typed c → refusedBy c w g ≡ 0 → Leaves c
   unfolding refusedBy storesOf worldAfter storedAll stagePage
+  leaves (Ask q) t e = same refl
   leaves (Open o lent) t e = open-files lent o e
-  leaves ReadHeader t e = same refl
-  leaves ReadMode t e = same refl
-  leaves ReadClock t e = same refl
-  leaves (ReadPage n) t e = same refl
-  leaves (ReadBatch n) t e = same refl
   leaves (Stage n bytes) t e = same (stage-files (stageAnswer (w .pager) g n bytes) w n)
   leaves Clear t e = same (clear-files w (busy (w .pager)) refl)
   leaves (Append body) t e = append-files body t e

@@ -14,8 +14,8 @@ use Rattle.pager_state.specs.declared.Job.the-variants as job
 use Rattle.pager_state.specs.declared.Pager.{Pager}
 use Rattle.pager_state.specs.declared.CheckpointStart.the-variants as checkpoint
 use Rattle.history.specs.Book.{Book, tells}
-use Rattle.history.specs.Calls.{Checkpoint, BeginCheckpoint}
-use Rattle.history.specs.Run.{storesOf, worldAfter, keptAfter}
+use Rattle.history.specs.Calls.{Checkpoint, BeginCheckpoint, storesOf, worldAfter}
+use Rattle.history.specs.Run.{keptAfter}
 use Rattle.history.proofs.Disk.{DiskOk}
 use Rattle.history.proofs.Rest.{Resting, Folding, Some, Inv, held-disk}
 use Rattle.history.proofs.Stepping.{todo-by}

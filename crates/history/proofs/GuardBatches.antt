@@ -22,9 +22,9 @@ use Rattle.pager_state.specs.declared.CommitStart.the-variants as commit
 use Rattle.pager_state.specs.declared.BatchAnswer.the-variants as append
 use Rattle.pager_state.proofs.Made.{Made}
 use Rattle.history.specs.Book.{batchIn, firstBook}
-use Rattle.history.specs.Calls.{Append, Commit}
-use Rattle.history.specs.Run.{Run, refusedBy, worldAfter, whole, Whole, next, start}
-use Rattle.history.specs.Demand3.{Words, Demand3}
+use Rattle.history.specs.Calls.{Append, Commit, Words, refusedBy, worldAfter}
+use Rattle.history.specs.Run.{Run, whole, Whole, next, start}
+use Rattle.history.specs.Demand3.{Demand3}
 use Rattle.history.specs.Guards.{newStore, GoodHeader, Joined, Unrefused, UnrefusedBatch, LongerBy, Empty, Ends, after, Accepted, sealedBatch, framesAfter, Returned, Recovers, Filled}
 use Rattle.history.proofs.GuardRefusals.{told-begun, told-full, unrefused-batch, batch-told-full}
 use Rattle.history.proofs.GuardCommit.{begun-of, seal-idle, commit-ends}

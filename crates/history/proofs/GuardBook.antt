@@ -21,8 +21,8 @@ use Rattle.pager_state.specs.declared.Job.{Job}
 use Rattle.pager_state.specs.declared.Job.the-variants as job
 use Rattle.pager_state.proofs.Begun.{begun-commit, commit-unrefused}
 use Rattle.history.specs.Book.{Book, bookRead, give, bookStage, bookOpen, bookWait, batchIn, entered, bookSeal, tells}
-use Rattle.history.specs.Calls.{Lent, Call, Open, ReadMode, Stage, Append, Commit, Checkpoint, bookFirst, bodyLent}
-use Rattle.history.specs.Run.{Run, refusedBy, storesOf, worldAfter, stagingAfter, kinds, whole, Left, cutCall, Attempt, cutOpening, cutOpenings, reopened, Cut, next}
+use Rattle.history.specs.Calls.{Lent, ReadMode, Call, Ask, Open, Stage, Append, Commit, Checkpoint, refusedBy, storesOf, worldAfter, stagingAfter, bookFirst, bodyLent}
+use Rattle.history.specs.Run.{Run, kinds, whole, Left, cutCall, Attempt, cutOpening, cutOpenings, reopened, Cut, next}
 use Rattle.history.specs.Guards.{Accepted}
 use Rattle.history.proofs.GuardCommit.{framesWorld}
 
@@ -156,7 +156,7 @@ module _ (n : ℕ) (bytes : List ℕ) where
   pub open-shows : (b : Book) → Shows b n bytes → Shows (bookOpen b) n bytes
   open-shows b y = record { entered = y .entered; unstaged = refl }
 
-  uncut-by : (r : Run) (b : Bool) → eqb (refusedBy ReadMode (r .world) (r .staging)) 0 ≡ b → Shows (r .book) n bytes → Shows (cutCall ReadMode 0 0 r .book) n bytes
+  uncut-by : (r : Run) (b : Bool) → eqb (refusedBy (Ask ReadMode) (r .world) (r .staging)) 0 ≡ b → Shows (r .book) n bytes → Shows (cutCall (Ask ReadMode) 0 0 r .book) n bytes
   unfolding cutCall storesOf wholeOf tells
   uncut-by r true e y = rw e y
   uncut-by r false e y = rw e y
@@ -172,7 +172,7 @@ module _ (n : ℕ) (bytes : List ℕ) where
   cut-shows (a ∷ rest) x y =
       cut-shows rest (cutOpening a x) (opening-by _ (leb 1 (a .bytes)) (bookOpen (x .book)) refl (open-shows (x .book) y))
 
-  pub lost-shows : (attempts : List Attempt) (lent : Lent) (r : Run) → Shows (r .book) n bytes → Shows (next (Cut ReadMode 0 0 attempts lent) r .book) n bytes
+  pub lost-shows : (attempts : List Attempt) (lent : Lent) (r : Run) → Shows (r .book) n bytes → Shows (next (Cut (Ask ReadMode) 0 0 attempts lent) r .book) n bytes
   unfolding next reopened openStores tells
   lost-shows attempts lent r y =
-      open-shows _ (cut-shows attempts (cutCall ReadMode 0 0 r) (uncut-by r (eqb (refusedBy ReadMode (r .world) (r .staging)) 0) refl y))
+      open-shows _ (cut-shows attempts (cutCall (Ask ReadMode) 0 0 r) (uncut-by r (eqb (refusedBy (Ask ReadMode) (r .world) (r .staging)) 0) refl y))

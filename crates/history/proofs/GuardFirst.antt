@@ -2,7 +2,7 @@
 use mathlib.Core.Path.{_≡_, sym, ap, _∙_}
 use mathlib.Core.Bool.{Bool, true, false}
 use mathlib.Core.List.{List}
-use mathlib.Core.Option.{none, some}
+use mathlib.Core.Option.{some}
 use Prim.Native.Nat.{ℕ, _+_, _*_, _^_, _<_}
 use native.Mathlib.Omega.{arith}
 use borrow.Author.Tests.{eq-eqb, ne-eqb}
@@ -25,9 +25,9 @@ use Rattle.pager_state.specs.declared.CheckpointStart.the-variants as checkpoin
 use Rattle.pager_state.specs.declared.PageFound.the-variants as found
 use Rattle.pager_state.proofs.Made.{Made}
 use Rattle.pager_state.proofs.Done.{Rests, commit-done, checkpoint-done}
-use Rattle.history.specs.Calls.{Stage, Commit, Checkpoint}
-use Rattle.history.specs.Run.{Run, refusedBy, worldAfter, whole, start}
-use Rattle.history.specs.Demand3.{readingAt, Words, Demand3}
+use Rattle.history.specs.Calls.{Stage, Commit, Checkpoint, Words, refusedBy, worldAfter}
+use Rattle.history.specs.Run.{Run, whole, start}
+use Rattle.history.specs.Demand3.{readingAt, Demand3}
 use Rattle.history.specs.Guards.{GoodHeader, withSlots, LongerBy, FoldedTo, Accepted, reading, committedPage, ReadsBack, Keeps}
 use Rattle.history.proofs.GuardNew.{fine-create, few-differ, none-staged, new-begun, new-made, new-idle, new-count, new-none, new-frames, new-writes, made-framed}
 use Rattle.history.proofs.GuardHistories.{made-whole}

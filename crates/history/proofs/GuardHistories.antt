@@ -6,7 +6,7 @@ use Prim.Native.Nat.{ℕ}
 use Rattle.header.specs.declared.DbHeader.{DbHeader}
 use Rattle.pager_state.specs.World.{World}
 use Rattle.pager_state.specs.Stores.{Disk}
-use Rattle.pager_state.specs.Opening.{openPager, openTable, openLogArea}
+use Rattle.pager_state.specs.Opening.{openTable, openLogArea}
 use Rattle.pager_state.specs.Steps.{commitStart, isBegun, beginCommit, checkpointStart, isFolding, beginCheckpoint, onStore, commitWorld, checkpointWorld}
 use Rattle.pager_state.specs.declared.AccessMode.{AccessMode}
 use Rattle.pager_state.specs.declared.AccessMode.the-variants as mode
@@ -18,14 +18,14 @@ use Rattle.pager_state.proofs.Runs.{made-steps}
 use Rattle.pager_state.proofs.Begun.{commit-made, checkpoint-made}
 use Rattle.pager_state.proofs.Opened.{open-made}
 use Rattle.pager_state.proofs.Calls.{stage-made, clear-made, observe-made, append-made}
-use Rattle.history.specs.Calls.{Lent, Call, Open, ReadHeader, ReadMode, ReadClock, ReadPage, ReadBatch, Stage, Clear, Append, Observe, Commit, Checkpoint, BeginCommit, BeginCheckpoint, Step}
-use Rattle.history.specs.Run.{Run, cleanly, laid, openedOr, openedWorld, worldAfter, whole, reopened, Event, Whole, Cut, next}
+use Rattle.history.specs.Calls.{Lent, Call, Ask, Open, Stage, Clear, Append, Observe, Commit, Checkpoint, BeginCommit, BeginCheckpoint, Step, cleanly, laid, opening, openedOr, openedWorld, worldAfter}
+use Rattle.history.specs.Run.{Run, whole, reopened, Event, Whole, Cut, next}
 use Rattle.history.specs.Guards.{after}
 
 -- ---- openings
 
 module _ (m : AccessMode) (lent : Lent) (d : Disk) (w : World) (k : Made w) where
-  made-by : (a : Opens) → openPager (cleanly m) (lent .table) (laid lent d) (lent .staging) ≡ a
+  made-by : (a : Opens) → opening m lent d ≡ a
       → Made (openedOr a w (openTable (cleanly m) (lent .table) (laid lent d) (lent .staging)) (openLogArea (cleanly m) (lent .table) (laid lent d) (lent .staging)) (laid lent d .main .area))
   made-by (opened.Opened p) e = open-made (cleanly m) (lent .table) (laid lent d) (lent .staging) p e _ _
   made-by opened.Area e = k
@@ -40,7 +40,7 @@ module _ (m : AccessMode) (lent : Lent) (d : Disk) (w : World) (k : Made w) wher
 
   made-opened : Made (openedWorld m lent d w)
   unfolding openedWorld
-  made-opened = made-by (openPager (cleanly m) (lent .table) (laid lent d) (lent .staging)) refl
+  made-opened = made-by (opening m lent d) refl
 
 -- ---- commits and folds
 
@@ -69,12 +69,8 @@ module _ (g : List ℕ) (w : World) (salt : ℕ) (k : Made w) where
 
 made-after : (c : Call) (w : World) (g : List ℕ) → Made w → Made (worldAfter c w g)
 unfolding worldAfter
+made-after (Ask q) w g k = k
 made-after (Open m lent) w g k = made-opened m lent _ w k
-made-after ReadHeader w g k = k
-made-after ReadMode w g k = k
-made-after ReadClock w g k = k
-made-after (ReadPage n) w g k = k
-made-after (ReadBatch i) w g k = k
 made-after (Stage n bytes) w g k = stage-made w g n bytes k
 made-after Clear w g k = clear-made w k
 made-after (Append body) w g k = append-made w body k

@@ -21,9 +21,9 @@ use Rattle.pager_state.specs.declared.HeaderRead.the-variants as head
 use Rattle.pager_state.proofs.Made.{Made}
 use Rattle.pager_state.proofs.Begun.{commit-unrefused}
 use Rattle.pager_state.proofs.Done.{commit-done, checkpoint-done}
-use Rattle.history.specs.Calls.{Open, ReadMode, Stage, Commit, Checkpoint}
-use Rattle.history.specs.Run.{Run, refusedBy, worldAfter, whole, Cut, start}
-use Rattle.history.specs.Demand3.{readingAt, Words, Demand3}
+use Rattle.history.specs.Calls.{ReadMode, Ask, Open, Stage, Commit, Checkpoint, Words, refusedBy, worldAfter}
+use Rattle.history.specs.Run.{Run, whole, Cut, start}
+use Rattle.history.specs.Demand3.{readingAt, Demand3}
 use Rattle.history.specs.Guards.{Accepted, reading, committedPage, ReadsBack}
 use Rattle.history.proofs.GuardNew.{new-made}
 use Rattle.history.proofs.GuardBook.{Shows, shows-read, world-after, stage-book, open-book, commit-header, commit-shows, checkpoint-shows, lost-shows, open-shows}
@@ -91,7 +91,7 @@ module _ (d : Demand3) (t l m g : List ℕ) (salt : ℕ) (f : createFine t l m g
             reads d t l m g salt f small (reached-whole k (Open mode.ReadWrite lent) tt) (opening-rests d t l m g salt f small k lent z) n a
             ∙ rw (open-book lent r c) (shows-read _ n bytes (open-shows n bytes (r .book) y));
         lost = λ attempts s lent z.
-            reads d t l m g salt f small (reached-next k (Cut ReadMode 0 0 attempts lent) (tt, (s, z))) (lost-rests d t l m g salt f small k attempts s lent z) n a
+            reads d t l m g salt f small (reached-next k (Cut (Ask ReadMode) 0 0 attempts lent) (tt, (s, z))) (lost-rests d t l m g salt f small k attempts s lent z) n a
             ∙ shows-read _ n bytes (lost-shows n bytes attempts lent r y);
         folded = λ next z c.
             reads d t l m g salt f small (reached-whole k (Checkpoint next) z) (ap busyWith (fold-rests r q next i c)) n a

@@ -8,7 +8,7 @@ use lib.Dec.{eqb}
 use Rattle.pager_state.specs.World.{World, busy, busyWith}
 use Rattle.pager_state.specs.Queries.{header}
 use Rattle.pager_state.specs.Stores.{Disk, diskOf, cutAll}
-use Rattle.pager_state.specs.Opening.{createFine, openPager, openRefusal}
+use Rattle.pager_state.specs.Opening.{createFine, openRefusal}
 use Rattle.pager_state.specs.declared.AccessMode.the-variants as mode
 use Rattle.pager_state.specs.declared.HeaderRead.the-variants as head
 use Rattle.pager_state.specs.Opened.{Opens}
@@ -16,8 +16,8 @@ use Rattle.pager_state.specs.Opened as opened
 use Rattle.pager_state.proofs.Made.{Made}
 use Rattle.pager_state.proofs.Opened.{open-idle}
 use Rattle.history.specs.Book.{bookRead}
-use Rattle.history.specs.Calls.{Lent, Call, Open, ReadMode}
-use Rattle.history.specs.Run.{Run, cleanly, laid, openedOr, openedWorld, refusedBy, storesOf, worldAfter, whole, Left, cutCall, Attempt, cutOpening, cutOpenings, reopening, reopened, Event, Whole, Cut, next, start}
+use Rattle.history.specs.Calls.{Lent, ReadMode, Call, Ask, Open, cleanly, laid, opening, openedOr, openedWorld, refusedBy, storesOf, worldAfter}
+use Rattle.history.specs.Run.{Run, whole, Left, cutCall, Attempt, cutOpening, cutOpenings, reopening, reopened, Event, Whole, Cut, next, start}
 use Rattle.history.specs.Demand3.{Same, AtRest, Returns, Answers, Holds, Reopens, Sized, AllSized, Typed, TypedEvent, AllTyped, Demand3}
 use Rattle.history.specs.Guards.{after, Accepted, reading}
 use Rattle.history.proofs.GuardHistories.{made-history}
@@ -73,18 +73,18 @@ module _ {s r : Run} (k : Reached s r) where
 
 -- ---- a cut that falls in no store leaves the files
 
-uncut-by : (r : Run) (b : Bool) → eqb (refusedBy ReadMode (r .world) (r .staging)) 0 ≡ b → cutCall ReadMode 0 0 r .disk ≡ diskOf (r .world)
+uncut-by : (r : Run) (b : Bool) → eqb (refusedBy (Ask ReadMode) (r .world) (r .staging)) 0 ≡ b → cutCall (Ask ReadMode) 0 0 r .disk ≡ diskOf (r .world)
 unfolding cutCall storesOf cutAll
 uncut-by r true e = rw e
 uncut-by r false e = rw e
 
-uncut : (r : Run) → cutCall ReadMode 0 0 r .disk ≡ diskOf (r .world)
-uncut r = uncut-by r (eqb (refusedBy ReadMode (r .world) (r .staging)) 0) refl
+uncut : (r : Run) → cutCall (Ask ReadMode) 0 0 r .disk ≡ diskOf (r .world)
+uncut r = uncut-by r (eqb (refusedBy (Ask ReadMode) (r .world) (r .staging)) 0) refl
 
 -- ---- nothing is part done after an opening that is not refused
 
 module _ (lent : Lent) (d : Disk) (w : World) where
-  opened-by : (a : Opens) → openPager (cleanly mode.ReadWrite) (lent .table) (laid lent d) (lent .staging) ≡ a → openRefusal a ≡ 0 → (t l m : List ℕ)
+  opened-by : (a : Opens) → opening mode.ReadWrite lent d ≡ a → openRefusal a ≡ 0 → (t l m : List ℕ)
       → busy (openedOr a w t l m .pager) ≡ false
   opened-by (opened.Opened p) e z t l m = ap busyWith (open-idle (cleanly mode.ReadWrite) (lent .table) (laid lent d) (lent .staging) p e)
   opened-by opened.Area e z t l m = absurd (omega arith)
@@ -97,10 +97,10 @@ module _ (lent : Lent) (d : Disk) (w : World) where
   opened-by opened.PageZero e z t l m = absurd (omega arith)
   opened-by opened.ReadOnly e z t l m = absurd (omega arith)
 
-  opened-rests : openRefusal (openPager (cleanly mode.ReadWrite) (lent .table) (laid lent d) (lent .staging)) ≡ 0
+  opened-rests : openRefusal (opening mode.ReadWrite lent d) ≡ 0
       → busy (openedWorld mode.ReadWrite lent d w .pager) ≡ false
   unfolding openedWorld
-  opened-rests z = opened-by (openPager (cleanly mode.ReadWrite) (lent .table) (laid lent d) (lent .staging)) refl z _ _ _
+  opened-rests z = opened-by (opening mode.ReadWrite lent d) refl z _ _ _
 
 -- the opening behind a cut and other openings is not refused
 reopens-end : (attempts : List Attempt) (lent : Lent) (w : World) (x : Left) → Reopens attempts lent w x
@@ -138,10 +138,10 @@ module _ (d : Demand3) (t l m g : List ℕ) (salt : ℕ) (f : createFine t l m g
     module _ (lent : Lent) (z : Sized lent) where
       pub opening-taken : Accepted (Open mode.ReadWrite lent) r
       unfolding refusedBy reopening
-      opening-taken = rw (uncut r) at (answers (Cut ReadMode 0 0 [] lent) (tt, (tt, z)) .1 .1 .0)
+      opening-taken = rw (uncut r) at (answers (Cut (Ask ReadMode) 0 0 [] lent) (tt, (tt, z)) .1 .1 .0)
 
       pub opening-returns : Returns (whole (Open mode.ReadWrite lent) r)
-      opening-returns = answers (Whole (Open mode.ReadWrite lent)) tt .1 opening-taken
+      opening-returns = answers (Whole (Open mode.ReadWrite lent)) tt .1 refl opening-taken
 
     -- it is at rest, and so is one behind a cut that falls in no store
     pub opening-rests : (lent : Lent) → Sized lent → busy (whole (Open mode.ReadWrite lent) r .world .pager) ≡ false
@@ -151,7 +151,7 @@ module _ (d : Demand3) (t l m g : List ℕ) (salt : ℕ) (f : createFine t l m g
         rw (world-after (Open mode.ReadWrite lent) r) (opened-rests lent (diskOf (r .world)) (r .world) k)
 
     pub lost-rests : (attempts : List Attempt) → AllSized attempts → (lent : Lent) → Sized lent
-        → busy (next (Cut ReadMode 0 0 attempts lent) r .world .pager) ≡ false
+        → busy (next (Cut (Ask ReadMode) 0 0 attempts lent) r .world .pager) ≡ false
     unfolding next reopened reopening
     lost-rests attempts a lent z =
-        opened-rests lent _ (r .world) (reopens-end attempts lent (r .world) (cutCall ReadMode 0 0 r) (answers (Cut ReadMode 0 0 attempts lent) (tt, (a, z)) .1))
+        opened-rests lent _ (r .world) (reopens-end attempts lent (r .world) (cutCall (Ask ReadMode) 0 0 r) (answers (Cut (Ask ReadMode) 0 0 attempts lent) (tt, (a, z)) .1))

@@ -7,8 +7,8 @@ use Rattle.pager_state.specs.World.{World}
 use Rattle.pager_state.specs.Stores.{diskOf, kindOf, stored}
 use Rattle.pager_state.specs.Steps.{todo}
 use Rattle.history.specs.Book.{Book, tell, tells}
-use Rattle.history.specs.Calls.{Step}
-use Rattle.history.specs.Run.{storesOf, worldAfter, keptBy, keptAfter}
+use Rattle.history.specs.Calls.{Step, storesOf, worldAfter}
+use Rattle.history.specs.Run.{keptBy, keptAfter}
 use Rattle.history.proofs.Rest.{Inv, inv-disk}
 use Rattle.history.proofs.Stepping.{StepOk}
 use Rattle.history.proofs.Running.{cut-none, cut-cons, next-step, stepped-is, step-disk, stepped-none}

@@ -39,8 +39,8 @@ use Rattle.pager_state.specs.declared.Opening.the-variants as opening
 use Rattle.pager_state.specs.declared.Pager.{Pager}
 use Rattle.pager_state.specs.Opened as opened
 use Rattle.history.specs.Book.{Book, bookOpen, tells}
-use Rattle.history.specs.Calls.{Lent}
-use Rattle.history.specs.Run.{cleanly, laidIn, laid, kinds, keptAfter}
+use Rattle.history.specs.Calls.{Lent, cleanly, laidIn, laid}
+use Rattle.history.specs.Run.{kinds, keptAfter}
 use Rattle.history.specs.Demand3.{Sized}
 use Rattle.history.proofs.Files.{lasting, grown-none, len-file, length-content}
 use Rattle.history.proofs.Slots.{Slots}

@@ -9,7 +9,7 @@ use Rattle.pager_state.specs.World.{World, busy}
 use Rattle.pager_state.specs.Staging.{stageAnswer, stagedBy, stagingBy, stagePage, stageAfter, stageRefusal, clearStaged, clearRefusal}
 use Rattle.pager_state.specs.Queries.{observeClock, observeRefusal}
 use Rattle.pager_state.specs.Batches.{appendAnswer, appendRefusal, appendBatch, appendAfter}
-use Rattle.pager_state.specs.Opening.{openPager, openRefusal, openTable, openLogArea}
+use Rattle.pager_state.specs.Opening.{openRefusal, openTable, openLogArea}
 use Rattle.pager_state.specs.Stores.{Act, Disk, diskOf, inside}
 use Rattle.pager_state.specs.Steps.{commitStart, isBegun, beginCommit, commitRefusal, checkpointStart, isFolding, beginCheckpoint, checkpointRefusal, named, namedBy, answerOf, todo, advance, done, stepFine, stepAnswer, stepRefusal, stepped, onStore, commitWorld, checkpointWorld}
 use Rattle.pager_state.specs.declared.Pager.{Pager}
@@ -22,8 +22,7 @@ use Rattle.pager_state.specs.declared.CommitStart.the-variants as commit
 use Rattle.pager_state.specs.declared.CheckpointStart.{CheckpointStart}
 use Rattle.pager_state.specs.declared.CheckpointStart.the-variants as checkpoint
 use Rattle.pager_state.specs.declared.StepAnswer.the-variants as step
-use Rattle.history.specs.Calls.{Call, Open, ReadHeader, ReadMode, ReadClock, ReadPage, ReadBatch, Stage, Clear, Append, Observe, Commit, Checkpoint, BeginCommit, BeginCheckpoint, Step}
-use Rattle.history.specs.Run.{cleanly, laid, openedOr, openedWorld, refusedBy, worldAfter, stagingAfter}
+use Rattle.history.specs.Calls.{Call, Ask, Open, Stage, Clear, Append, Observe, Commit, Checkpoint, BeginCommit, BeginCheckpoint, Step, cleanly, laid, opening, openedOr, openedWorld, refusedBy, worldAfter, stagingAfter}
 
 open-stays : (x : Opens) (w : World) (t l m : List ℕ) → (openRefusal x ≡ 0 → ⊥) → openedOr x w t l m ≡ w
 open-stays (opened.Opened p) w t l m n = absurd (n refl)
@@ -98,43 +97,24 @@ unfolding observeClock
 clock-stays p c n true e = rw e
 clock-stays p c n false e = absurd (n (rw e))
 
--- "A refusal changes no lent area and no store"
-pub refused-stays : (c : Call) (w : World) (g : List ℕ) → (refusedBy c w g ≡ 0 → ⊥) → worldAfter c w g ≡ w
-unfolding refusedBy worldAfter openedWorld stagePage appendBatch appendAfter beginCommit beginCheckpoint commitWorld checkpointWorld
+-- "A refusal changes no lent area and no store": the store and the staging area
+pub refused-stays : (c : Call) (w : World) (g : List ℕ) → (refusedBy c w g ≡ 0 → ⊥) → (worldAfter c w g ≡ w) × (stagingAfter c w g ≡ g)
+unfolding refusedBy worldAfter openedWorld stagePage stageAfter appendBatch appendAfter beginCommit beginCheckpoint commitWorld checkpointWorld
+refused-stays (Ask q) w g n = (refl, refl)
 refused-stays (Open m lent) w g n =
-    let x : Disk = laid lent (diskOf w) in
-    open-stays (openPager (cleanly m) (lent .table) x (lent .staging)) w (openTable (cleanly m) (lent .table) x (lent .staging))
-    (openLogArea (cleanly m) (lent .table) x (lent .staging)) (x .main .area) n
-refused-stays ReadHeader w g n = refl
-refused-stays ReadMode w g n = refl
-refused-stays ReadClock w g n = refl
-refused-stays (ReadPage p) w g n = refl
-refused-stays (ReadBatch i) w g n = refl
-refused-stays (Stage p bytes) w g n = ap (onStore w) (stage-stays (stageAnswer (w .pager) g p bytes) (w .pager) p n)
-refused-stays Clear w g n = ap (onStore w) (clear-stays (w .pager) n (busy (w .pager)) refl)
-refused-stays (Append body) w g n = rw (ne-eqb (appendRefusal (appendAnswer (w .pager) (w .log) body)) 0 n)
-refused-stays (Observe c) w g n = ap (onStore w) (clock-stays (w .pager) c n (busy (w .pager)) refl)
-refused-stays (Commit h salt) w g n = rw (commit-stays (commitStart g w h) n)
-refused-stays (Checkpoint salt) w g n = rw (fold-stays (checkpointStart g w) n)
-refused-stays (BeginCommit h salt) w g n = rw (commit-stays (commitStart g w h) n)
-refused-stays (BeginCheckpoint salt) w g n = rw (fold-stays (checkpointStart g w) n)
-refused-stays Step w g n = step-stays g w n
-
--- and the staging area
-pub refused-staging : (c : Call) (w : World) (g : List ℕ) → (refusedBy c w g ≡ 0 → ⊥) → stagingAfter c w g ≡ g
-unfolding refusedBy stagePage stageAfter
-refused-staging (Open m lent) w g n = rw (ne-eqb (openRefusal (openPager (cleanly m) (lent .table) (laid lent (diskOf w)) (lent .staging))) 0 n)
-refused-staging ReadHeader w g n = refl
-refused-staging ReadMode w g n = refl
-refused-staging ReadClock w g n = refl
-refused-staging (ReadPage p) w g n = refl
-refused-staging (ReadBatch i) w g n = refl
-refused-staging (Stage p bytes) w g n = staging-stays (stageAnswer (w .pager) g p bytes) (w .pager) g p bytes n
-refused-staging Clear w g n = refl
-refused-staging (Append body) w g n = refl
-refused-staging (Observe c) w g n = refl
-refused-staging (Commit h salt) w g n = refl
-refused-staging (Checkpoint salt) w g n = refl
-refused-staging (BeginCommit h salt) w g n = refl
-refused-staging (BeginCheckpoint salt) w g n = refl
-refused-staging Step w g n = refl
+    let d : Disk = diskOf w in (
+      open-stays (opening m lent d) w (openTable (cleanly m) (lent .table) (laid lent d) (lent .staging))
+          (openLogArea (cleanly m) (lent .table) (laid lent d) (lent .staging)) (laid lent d .main .area) n,
+      rw (ne-eqb (openRefusal (opening m lent d)) 0 n),
+    )
+refused-stays (Stage p bytes) w g n =
+    let a : StageAnswer = stageAnswer (w .pager) g p bytes in
+    (ap (onStore w) (stage-stays a (w .pager) p n), staging-stays a (w .pager) g p bytes n)
+refused-stays Clear w g n = (ap (onStore w) (clear-stays (w .pager) n (busy (w .pager)) refl), refl)
+refused-stays (Append body) w g n = (rw (ne-eqb (appendRefusal (appendAnswer (w .pager) (w .log) body)) 0 n), refl)
+refused-stays (Observe c) w g n = (ap (onStore w) (clock-stays (w .pager) c n (busy (w .pager)) refl), refl)
+refused-stays (Commit h salt) w g n = (rw (commit-stays (commitStart g w h) n), refl)
+refused-stays (Checkpoint salt) w g n = (rw (fold-stays (checkpointStart g w) n), refl)
+refused-stays (BeginCommit h salt) w g n = (rw (commit-stays (commitStart g w h) n), refl)
+refused-stays (BeginCheckpoint salt) w g n = (rw (fold-stays (checkpointStart g w) n), refl)
+refused-stays Step w g n = (step-stays g w n, refl)

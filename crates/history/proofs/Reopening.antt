@@ -27,8 +27,8 @@ use Rattle.pager_state.specs.Batches.{nextRecovered, recoveredAs}
 use Rattle.pager_state.specs.Stores.{Disk, content}
 use Rattle.pager_state.specs.declared.AccessMode.the-variants as mode
 use Rattle.history.specs.Book.{Book, Batch, batchIn, bookOpen, tells}
-use Rattle.history.specs.Calls.{Lent}
-use Rattle.history.specs.Run.{Run, Left, Attempt, laid, openedWorld, keptAfter, cutOpening, reopening, reopened}
+use Rattle.history.specs.Calls.{Lent, laid, openedWorld}
+use Rattle.history.specs.Run.{Run, Left, Attempt, keptAfter, cutOpening, reopening, reopened}
 use Rattle.history.specs.Demand3.{walkedAt, walked, Returns, Sized, AllSized, Reopens}
 use Rattle.history.proofs.Files.{lasting}
 use Rattle.history.proofs.Disk.{OnDisk, DiskOk, LeftOk, disk-kept, sealed-is, sealed-len}

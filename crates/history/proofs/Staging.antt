@@ -23,8 +23,8 @@ use Rattle.pager_state.specs.declared.Staged.{Staged}
 use Rattle.pager_state.specs.declared.StageAnswer.{StageAnswer}
 use Rattle.pager_state.specs.declared.StageAnswer.the-variants as stage
 use Rattle.history.specs.Book.{Book, bookStage, tells}
-use Rattle.history.specs.Calls.{Stage}
-use Rattle.history.specs.Run.{refusedBy, storesOf, worldAfter, keptAfter}
+use Rattle.history.specs.Calls.{Stage, refusedBy, storesOf, worldAfter}
+use Rattle.history.specs.Run.{keptAfter}
 use Rattle.history.proofs.Slots.{slotted-slots, staged-anew}
 use Rattle.history.proofs.Opening.{re-book}
 use Rattle.history.proofs.Rest.{Resting, Some, Inv, held-disk}

@@ -10,8 +10,8 @@ use Rattle.pager_state.specs.Stores.{diskOf, Act}
 use Rattle.pager_state.specs.declared.Job.{Job}
 use Rattle.pager_state.specs.declared.Job.the-variants as job
 use Rattle.history.specs.Book.{Book, tells}
-use Rattle.history.specs.Calls.{Call, bookFirst, bodyLent}
-use Rattle.history.specs.Run.{storesOf, worldAfter, stagingAfter, kinds, keptAfter}
+use Rattle.history.specs.Calls.{Call, storesOf, worldAfter, stagingAfter, bookFirst, bodyLent}
+use Rattle.history.specs.Run.{kinds, keptAfter}
 use Rattle.history.proofs.Rest.{Resting, Some, Inv, InvJob}
 use Rattle.history.proofs.Running.{CutOk}
 

@@ -1,10 +1,9 @@
 -- Document 01's plain book: what the store must come to, told of calls and of whole stores, never of files.
-use mathlib.Core.Bool.{Bool, true, false}
 use mathlib.Core.List.{List, [], _∷_, _++_}
 use mathlib.Core.Option.{Option, none, some}
 use Prim.Native.Nat.{ℕ}
 use lib.Dec.{leb, ltb, eqb}
-use Rattle.le.specs.Choice.{pick, both}
+use Rattle.le.specs.Choice.{pick}
 use Rattle.page.specs.Page.{emptyTablePage}
 use Rattle.header.specs.declared.DbHeader.{DbHeader}
 use Rattle.mvcc.specs.Batch.{Rec}

@@ -5,8 +5,6 @@ use mathlib.Core.List.{List, [], _∷_}
 use mathlib.Core.Option.{Option, none, some}
 use Prim.Native.Nat.{ℕ, zero, suc, _+_, _<_, _≤_, _^_}
 use lib.ListN.{length, take, drop}
-use Rattle.le.specs.Le.{Bytes}
-use Rattle.header.specs.declared.DbHeader.{DbHeader}
 use Rattle.wal.specs.Recovery.{walArea}
 use Rattle.pager_state.specs.World.{World, mainArea, stagingArea, pageLimit, busy}
 use Rattle.pager_state.specs.Overlay.{pageFrom, findPage, findRefusal, bytesAt}
@@ -20,8 +18,8 @@ use Rattle.pager_state.specs.declared.PageFound.the-variants as found
 use Rattle.pager_state.specs.declared.RecoveredFound.{RecoveredFound}
 use Rattle.pager_state.specs.declared.RecoveredFound.the-variants as batch
 use Rattle.history.specs.Book.{Batch, batchIn, bookRead}
-use Rattle.history.specs.Calls.{Lent, Call, Open, ReadHeader, ReadMode, ReadClock, ReadPage, ReadBatch, Stage, Clear, Append, Observe, Commit, Checkpoint, BeginCommit, BeginCheckpoint, Step}
-use Rattle.history.specs.Run.{Run, refusedBy, Left, cutCall, Attempt, cutOpening, reopening, reopened, whole, Event, Whole, Cut, next, start}
+use Rattle.history.specs.Calls.{Lent, Call, effect, refusedBy}
+use Rattle.history.specs.Run.{Run, Left, cutCall, Attempt, cutOpening, reopening, reopened, whole, Event, Whole, Cut, next, start}
 
 -- ---- "header, pages and recovered batches are exactly the plain book's"
 
@@ -70,22 +68,9 @@ Intact c r = (j k : ℕ) → Kept (cutCall c j k r)
 
 -- ---- events
 
+-- a call that opens and is not refused
 abbrev pub OpenedWhole : Call → Run → Type 0
-OpenedWhole (Open m lent) r = refusedBy (Open m lent) (r .world) (r .staging) ≡ 0 → Returns (whole (Open m lent) r)
-OpenedWhole ReadHeader r = Unit {0}
-OpenedWhole ReadMode r = Unit {0}
-OpenedWhole ReadClock r = Unit {0}
-OpenedWhole (ReadPage n) r = Unit {0}
-OpenedWhole (ReadBatch i) r = Unit {0}
-OpenedWhole (Stage n bytes) r = Unit {0}
-OpenedWhole Clear r = Unit {0}
-OpenedWhole (Append body) r = Unit {0}
-OpenedWhole (Observe c) r = Unit {0}
-OpenedWhole (Commit h salt) r = Unit {0}
-OpenedWhole (Checkpoint salt) r = Unit {0}
-OpenedWhole (BeginCommit h salt) r = Unit {0}
-OpenedWhole (BeginCheckpoint salt) r = Unit {0}
-OpenedWhole Step r = Unit {0}
+OpenedWhole c r = effect c .opens ≡ true → refusedBy c (r .world) (r .staging) ≡ 0 → Returns (whole c r)
 
 -- the openings after a cut: sealed bytes lie there before and after each, also where it is cut; the last is not refused and returns the book's batches
 abbrev pub Reopens : List Attempt → Lent → World → Left → Type 0
@@ -103,28 +88,8 @@ Holds (e ∷ es) r = Answers e r × Holds es (next e r)
 
 -- ---- what the types of the arguments let through
 
-pub record Words (h : DbHeader) : Type 0 where
-  pub count : h .«page_count» < 2 ^ 32
-  pub root : h .«schema_root_page» < 2 ^ 32
-  pub version : h .«format_version» < 2 ^ 16
-  pub freelist : h .«freelist_head» < 2 ^ 32
-
 abbrev pub Typed : Call → Type 0
-Typed (Open m lent) = Unit {0}
-Typed ReadHeader = Unit {0}
-Typed ReadMode = Unit {0}
-Typed ReadClock = Unit {0}
-Typed (ReadPage n) = Unit {0}
-Typed (ReadBatch i) = Unit {0}
-Typed (Stage n bytes) = Bytes bytes
-Typed Clear = Unit {0}
-Typed (Append body) = Bytes body
-Typed (Observe c) = c < 2 ^ 64
-Typed (Commit h salt) = Words h × (salt < 2 ^ 32)
-Typed (Checkpoint salt) = salt < 2 ^ 32
-Typed (BeginCommit h salt) = Words h × (salt < 2 ^ 32)
-Typed (BeginCheckpoint salt) = salt < 2 ^ 32
-Typed Step = Unit {0}
+Typed c = effect c .typed
 
 -- "in areas of the lengths below": an opening after a cut
 pub record Sized (lent : Lent) : Type 0 where

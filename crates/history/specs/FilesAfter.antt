@@ -3,8 +3,8 @@ use mathlib.Core.Path.{_≡_}
 use mathlib.Core.List.{List, [], _∷_, _++_}
 use Prim.Native.Nat.{ℕ}
 use Rattle.pager_state.specs.Stores.{File, Disk, content, diskOf, Emptied, Act, kindOf, storedAll}
-use Rattle.history.specs.Calls.{Call}
-use Rattle.history.specs.Run.{Run, storesOf, keptAfter, whole}
+use Rattle.history.specs.Calls.{Call, storesOf}
+use Rattle.history.specs.Run.{Run, keptAfter, whole}
 use Rattle.history.specs.Demand3.{Typed}
 use Rattle.history.specs.Guards.{Always, Accepted}
 

@@ -30,9 +30,9 @@ use Rattle.pager_state.specs.declared.CheckpointStart.the-variants as checkpoin
 use Rattle.pager_state.specs.declared.CheckpointAnswer.the-variants as written
 use Rattle.pager_state.specs.declared.BatchAnswer.the-variants as append
 use Rattle.history.specs.Book.{batchIn}
-use Rattle.history.specs.Calls.{Lent, Call, Open, ReadMode, Stage, Append, Commit, Checkpoint}
-use Rattle.history.specs.Run.{Run, refusedBy, whole, Attempt, Event, Whole, Cut, next, start}
-use Rattle.history.specs.Demand3.{readingAt, walked, Words, Sized, AllSized, AllTyped}
+use Rattle.history.specs.Calls.{Lent, ReadMode, Call, Ask, Open, Stage, Append, Commit, Checkpoint, Words, refusedBy}
+use Rattle.history.specs.Run.{Run, whole, Attempt, Event, Whole, Cut, next, start}
+use Rattle.history.specs.Demand3.{readingAt, walked, Sized, AllSized, AllTyped}
 
 -- ---- a new store
 
@@ -235,7 +235,7 @@ pub record ReadsBack (r : Run) (n : ℕ) (x : List ℕ) : Type 0 where
   pub bytes : readPage (r .world) (r .staging) n ≡ x
   pub opens : (lent : Lent) → Sized lent → Accepted (Open mode.ReadWrite lent) r
   pub opened : (lent : Lent) → Sized lent → reading (whole (Open mode.ReadWrite lent) r) n ≡ some x
-  pub lost : (attempts : List Attempt) → AllSized attempts → (lent : Lent) → Sized lent → reading (next (Cut ReadMode 0 0 attempts lent) r) n ≡ some x
+  pub lost : (attempts : List Attempt) → AllSized attempts → (lent : Lent) → Sized lent → reading (next (Cut (Ask ReadMode) 0 0 attempts lent) r) n ≡ some x
   pub folded : (salt : ℕ) → salt < 2 ^ 32 → Accepted (Checkpoint salt) r → reading (whole (Checkpoint salt) r) n ≡ some x
 
 -- the store with the page staged and then committed

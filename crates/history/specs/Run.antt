@@ -1,25 +1,16 @@
 -- A history as it runs: each call is the definition that its contract cites, on the very records, and is cut after any stored byte.
-use mathlib.Core.Bool.{true, false}
 use mathlib.Core.List.{List, [], _∷_, _++_, map}
 use Prim.Native.Nat.{ℕ, _+_}
 use lib.Dec.{eqb}
 use lib.ListN.{length, take, drop}
 use Rattle.le.specs.Choice.{pick}
 use Rattle.pager_state.specs.World.{World, world}
-use Rattle.pager_state.specs.Overlay.{findPage, findRefusal}
-use Rattle.pager_state.specs.Staging.{stagePage, stageAfter, stageRefusal, clearStaged, clearRefusal}
-use Rattle.pager_state.specs.Queries.{header, headerRefusal, accessMode, modeRefusal, clockHighWater, clockReadRefusal, observeClock, observeRefusal}
-use Rattle.pager_state.specs.Batches.{appendBatch, appendAfter, appendRefusal, batchFrame, nextRecovered, recoveredRefusal}
-use Rattle.pager_state.specs.Stores.{File, Disk, content, diskOf, Kind, Batched, Sealed, Emptied, Other, Act, Put, SetLen, kindOf, stored, cutAll, wholeOf}
-use Rattle.pager_state.specs.Opening.{How, openPager, openRefusal, openStores, openTable, openLogArea, createdPager, createTable, createLog, createMain}
-use Rattle.pager_state.specs.Steps.{commitStart, commitRefusal, beginCommit, checkpointStart, checkpointRefusal, beginCheckpoint, todo, stepAnswer, stepRefusal, stepped, commitWorld, checkpointWorld, onStore}
-use Rattle.pager_state.specs.declared.AccessMode.{AccessMode}
+use Rattle.pager_state.specs.Stores.{Disk, content, diskOf, Kind, Batched, Sealed, Emptied, Other, Act, Put, SetLen, kindOf, stored, cutAll, wholeOf}
+use Rattle.pager_state.specs.Opening.{openStores, createdPager, createTable, createLog, createMain}
 use Rattle.pager_state.specs.declared.AccessMode.the-variants as mode
-use Rattle.pager_state.specs.declared.FileKind.the-variants as file
 use Rattle.pager_state.specs.Opened.{Opens}
-use Rattle.pager_state.specs.Opened as opened
 use Rattle.history.specs.Book.{Book, bookOpen, firstBook, tells}
-use Rattle.history.specs.Calls.{Lent, Call, Open, ReadHeader, ReadMode, ReadClock, ReadPage, ReadBatch, Stage, Clear, Append, Observe, Commit, Checkpoint, BeginCommit, BeginCheckpoint, Step, bookFirst, bodyLent}
+use Rattle.history.specs.Calls.{Lent, Call, cleanly, laid, opening, openedWorld, refusedBy, storesOf, worldAfter, stagingAfter, bookFirst, bodyLent}
 
 -- ---- where a history stands
 
@@ -28,110 +19,6 @@ pub record Run : Type 0 where
   pub staging : List ℕ
   pub book : Book
   pub kept : List ℕ  -- the sealed log bytes, as they lay when their seal became whole
-
--- ---- openings
-
--- "told that the log exists"; "a clean one"
-abbrev pub cleanly : AccessMode → How
-cleanly m = record { clean = true; access = m; exists = true; salt = 0 }
-
--- "Each opening is given both files as they lie": a file read into an area that had any bytes
-abbrev pub laidIn : List ℕ → File → File
-laidIn area f = record { area = content f ++ drop (f .len) area; len = f .len }
-
-abbrev pub laid : Lent → Disk → Disk
-laid lent d = record { main = laidIn (lent .main) (d .main); log = laidIn (lent .log) (d .log) }
-
--- the store that an opening gives; a refusal leaves the one before
-abbrev pub openedOr : Opens → World → List ℕ → List ℕ → List ℕ → World
-openedOr (opened.Opened p) w t l m = world p t l m
-openedOr opened.Area w t l m = w
-openedOr opened.Short w t l m = w
-openedOr opened.Magic w t l m = w
-openedOr opened.Version w t l m = w
-openedOr opened.PageSize w t l m = w
-openedOr opened.Limit w t l m = w
-openedOr opened.MainShort w t l m = w
-openedOr opened.PageZero w t l m = w
-openedOr opened.ReadOnly w t l m = w
-
-unfoldable pub openedWorld : AccessMode → Lent → Disk → World → World
-openedWorld m lent d w =
-    let x = laid lent d in
-    let t = lent .table in
-    let g = lent .staging in
-    openedOr (openPager (cleanly m) t x g) w (openTable (cleanly m) t x g) (openLogArea (cleanly m) t x g) (x .main .area)
-
--- ---- one call: its refusal's number, the stores that document 01 gives it, the store and the staging area after it
-
-unfoldable pub refusedBy : Call → World → List ℕ → ℕ
-refusedBy (Open m lent) w g = openRefusal (openPager (cleanly m) (lent .table) (laid lent (diskOf w)) (lent .staging))
-refusedBy ReadHeader w g = headerRefusal (header (w .pager))
-refusedBy ReadMode w g = modeRefusal (accessMode (w .pager))
-refusedBy ReadClock w g = clockReadRefusal (clockHighWater (w .pager))
-refusedBy (ReadPage n) w g = findRefusal (findPage w g n)
-refusedBy (ReadBatch i) w g = recoveredRefusal (nextRecovered (w .pager) (w .log) i)
-refusedBy (Stage n bytes) w g = stageRefusal (stagePage (w .pager) g n bytes .answer)
-refusedBy Clear w g = clearRefusal (clearStaged (w .pager) .answer)
-refusedBy (Append body) w g = appendRefusal (appendBatch (w .pager) (w .log) body .answer)
-refusedBy (Observe c) w g = observeRefusal (observeClock (w .pager) c .answer)
-refusedBy (Commit h salt) w g = commitRefusal (commitStart g w h)
-refusedBy (Checkpoint salt) w g = checkpointRefusal (checkpointStart g w)
-refusedBy (BeginCommit h salt) w g = commitRefusal (commitStart g w h)
-refusedBy (BeginCheckpoint salt) w g = checkpointRefusal (checkpointStart g w)
-refusedBy Step w g = stepRefusal (stepAnswer g w)
-
-unfoldable pub storesOf : Call → World → List ℕ → List Act
-storesOf (Open m lent) w g = openStores (cleanly m) (laid lent (diskOf w))
-storesOf ReadHeader w g = []
-storesOf ReadMode w g = []
-storesOf ReadClock w g = []
-storesOf (ReadPage n) w g = []
-storesOf (ReadBatch i) w g = []
-storesOf (Stage n bytes) w g = []
-storesOf Clear w g = []
-storesOf (Append body) w g = Put Batched file.Log (w .pager .wal .len) (batchFrame (w .pager) body) false ∷ []
-storesOf (Observe c) w g = []
-storesOf (Commit h salt) w g = todo g (onStore w (beginCommit g w h salt .pager))
-storesOf (Checkpoint salt) w g = todo g (onStore w (beginCheckpoint g w salt .pager))
-storesOf (BeginCommit h salt) w g = []
-storesOf (BeginCheckpoint salt) w g = []
-storesOf Step w g = take 1 (todo g w)
-
-unfoldable pub worldAfter : Call → World → List ℕ → World
-worldAfter (Open m lent) w g = openedWorld m lent (diskOf w) w
-worldAfter ReadHeader w g = w
-worldAfter ReadMode w g = w
-worldAfter ReadClock w g = w
-worldAfter (ReadPage n) w g = w
-worldAfter (ReadBatch i) w g = w
-worldAfter (Stage n bytes) w g = onStore w (stagePage (w .pager) g n bytes .pager)
-worldAfter Clear w g = onStore w (clearStaged (w .pager) .pager)
-worldAfter (Append body) w g = world (appendBatch (w .pager) (w .log) body .pager) (w .table) (appendAfter (w .pager) (w .log) body) (w .main)
-worldAfter (Observe c) w g = onStore w (observeClock (w .pager) c .pager)
-worldAfter (Commit h salt) w g = commitWorld g w h salt
-worldAfter (Checkpoint salt) w g = checkpointWorld g w salt
-worldAfter (BeginCommit h salt) w g = onStore w (beginCommit g w h salt .pager)
-worldAfter (BeginCheckpoint salt) w g = onStore w (beginCheckpoint g w salt .pager)
-worldAfter Step w g = stepped g w
-
--- an opening that is not refused is lent another
-abbrev pub stagingAfter : Call → World → List ℕ → List ℕ
-stagingAfter (Open m lent) w g = pick (eqb (refusedBy (Open m lent) w g) 0) (lent .staging) g
-stagingAfter ReadHeader w g = g
-stagingAfter ReadMode w g = g
-stagingAfter ReadClock w g = g
-stagingAfter (ReadPage n) w g = g
-stagingAfter (ReadBatch i) w g = g
-stagingAfter (Stage n bytes) w g = stageAfter (w .pager) g n bytes
-stagingAfter Clear w g = g
-stagingAfter (Append body) w g = g
-stagingAfter (Observe c) w g = g
-stagingAfter (Commit h salt) w g = g
-stagingAfter (Checkpoint salt) w g = g
-stagingAfter (BeginCommit h salt) w g = g
-stagingAfter (BeginCheckpoint salt) w g = g
-stagingAfter Step w g = g
 
 -- ---- "Sealed log bytes: from 32 to the last whole seal's end, until a fold's log length 32"
 
@@ -209,7 +96,7 @@ cutOpenings (a ∷ rest) x = cutOpenings rest (cutOpening a x)
 
 -- what the opening that is not cut answers
 unfoldable pub reopening : Lent → Left → Opens
-reopening lent x = openPager (cleanly mode.ReadWrite) (lent .table) (laid lent (x .disk)) (lent .staging)
+reopening lent x = opening mode.ReadWrite lent (x .disk)
 
 -- and where the history then stands; w is the store that was lost
 unfoldable pub reopened : Lent → World → Left → Run

@@ -32,7 +32,7 @@ use Rattle.pager_read.specs.declared.ReadAnswer.the-variants as may
 use Rattle.pager_read.proofs.Place.{place-find, none-behind}
 use Rattle.pager_stage.specs.StageIn.{stageIn, stagedIn, stagingIn}
 use Rattle.pager_stage.proofs.InPlace.{stage-in}
-use Rattle.history.specs.Run.{refusedBy, worldAfter}
+use Rattle.history.specs.Calls.{refusedBy, worldAfter}
 use Rattle.history.proofs.Refused as refused
 use Rattle.other_calls.specs.Others.{Stays, CommitStepBy, CommitStepIs, stepping, CommitFramesIs, BehindStaging, FoldStepBy, FoldStepIs, Tells, StageInIs, readBy, ReadIs, ReadEndIs}
 

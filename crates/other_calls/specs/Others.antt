@@ -1,5 +1,5 @@
 -- The pager's public calls that `Call` does not name: each is one of those that it does, or none, on every store, a made-up one too.
--- `BeginCommit h salt`, `Step`, `Stage n bytes` and `ReadPage n` are the theorem's own calls: `refusedBy`, `worldAfter` and `stagingAfter` say what they come to.
+-- `BeginCommit h salt`, `Step`, `Stage n bytes` and `Ask (ReadPage n)` are the theorem's own calls: `refusedBy`, `worldAfter` and `stagingAfter` say what they come to.
 use mathlib.Core.Path.{_≡_}
 use mathlib.Core.Bool.{Bool, not}
 use mathlib.Core.List.{List}
@@ -22,8 +22,7 @@ use Rattle.pager_fold.specs.FoldStep.{foldAnswer, foldStepped}
 use Rattle.pager_commit.specs.CommitStep.{commitStepAnswer, commitStepped, commitSealed}
 use Rattle.pager_read.specs.Reading.{mayRead, placePage, readAs, readEnd}
 use Rattle.pager_stage.specs.StageIn.{stageIn, stagedIn, stagingIn}
-use Rattle.history.specs.Calls.{ReadPage, Stage, BeginCommit, Step}
-use Rattle.history.specs.Run.{refusedBy, worldAfter, stagingAfter}
+use Rattle.history.specs.Calls.{ReadPage, Ask, Stage, BeginCommit, Step, refusedBy, worldAfter, stagingAfter}
 
 -- ---- steps: `commit_step` and `fold_step`. a is the call's answer, v the store and areas after it
 
@@ -101,10 +100,10 @@ readBy j n g w =
 unfoldable pub ReadIs : Type 0
 ReadIs =
     (j n : ℕ) (g : List ℕ) (w : World) → Tells j (w .pager)
-    → (readBy j n g w ≡ findPage w g n) × (findRefusal (readBy j n g w) ≡ refusedBy (ReadPage n) w g)
+    → (readBy j n g w ≡ findPage w g n) × (findRefusal (readBy j n g w) ≡ refusedBy (Ask (ReadPage n)) w g)
 
 -- from `read_end` on every `ReadPage` that is not refused finds no page
 unfoldable pub ReadEndIs : Type 0
 ReadEndIs =
     (n : ℕ) (g : List ℕ) (w : World) → readEnd (countOf (headerOf (w .pager))) (w .pager .staged .count) ≤ n → n < 4294967296
-    → refusedBy (ReadPage n) w g ≡ 0 → findPage w g n ≡ found.Nothing
+    → refusedBy (Ask (ReadPage n)) w g ≡ 0 → findPage w g n ≡ found.Nothing
