@@ -10,7 +10,7 @@ use lib.ListN.{length, take, length-take}
 use Rattle.le.specs.Choice.{pick, both}
 use Rattle.page.specs.Page.{pageSize}
 use Rattle.pager_state.specs.World.{world, fine, fineBy, stagingFine, busyWith, stagedLimit}
-use Rattle.pager_state.specs.Overlay.{findIn, below, slotOf, isStaged, stagedAt, overlay, findPage}
+use Rattle.pager_state.specs.Overlay.{findIn, below, slotOf, isStaged, stagedAt, placePage, findPage}
 use Rattle.pager_state.specs.declared.Pager.{Pager}
 use Rattle.pager_state.specs.declared.Staged.{Staged}
 use Rattle.pager_state.specs.declared.PageFound.{PageFound}
@@ -57,7 +57,7 @@ pub place-find :
     (p : Pager) (t l m g : List ℕ) (n : ℕ)
     → let count = p .«current_header» .«page_count» in
     findPage (world p t l m) g n ≡ readAs (mayRead count (jobTold p) (p .wal .len) (p .storage .len) t l m g) (placePage count n (p .staged .count) (p .staged .pages) t)
-unfolding mayRead findPage fine overlay
+unfolding mayRead findPage fine placePage
 place-find p t l m g n =
     let count = p .«current_header» .«page_count» in
     rw (sym (staged-place (p .staged) count t n))

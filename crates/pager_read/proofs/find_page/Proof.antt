@@ -1,7 +1,7 @@
 use mathlib.Core.Path.{sym, _∙_}
 use borrow.Author.Tests.{not-true, not-false}
 use Rattle.pager_state.specs.World.{fine}
-use Rattle.pager_state.specs.Overlay.{overlay, findPage}
+use Rattle.pager_state.specs.Overlay.{placePage, findPage}
 use borrow.Author.Needs.{needs}
 use Rattle.pager_read.proofs.find_page.Statement.{statement}
 use Rattle.pager_read.proofs.find_page.Tie as tie
@@ -17,7 +17,7 @@ returns-2 c =
     rw (sym (L .before .are-fine .ensures) ∙ not-false _ (L .if1 .left), sym (c .before .is-busy .ensures) ∙ c .if2 .taken)
 
 returns-3 : tie.Need-returns-3
-unfolding findPage fine overlay
+unfolding findPage fine placePage
 returns-3 c =
     let B = c .before .before .before in
     let L = B .before .before in
