@@ -29,7 +29,7 @@ use Rattle.mvcc.specs.declared.RowID.{RowID}
 use Rattle.mvcc.specs.declared.VersionPayload.{VersionPayload}
 use Rattle.mvcc.specs.declared.VersionPayload.the-variants as payload
 use Rattle.mvcc.specs.declared.MvccLogRecord.{MvccLogRecord}
-use Rattle.mvcc.specs.declared.Refusal.the-variants.{Truncated}
+use Rattle.refusal.specs.declared.Refusal.the-variants.{Truncated}
 use Rattle.mvcc.proofs.Trip.{real-seen}
 use Rattle.mvcc.proofs.Bytes.{field-small}
 use Rattle.mvcc.proofs.Sound.{When, then-when, pick-test, words-length}
