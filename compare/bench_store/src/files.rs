@@ -60,7 +60,7 @@ fn header_page() -> Page {
 /// Any bytes.
 fn page(page_num: u32, version: u32) -> Page {
     let seed = u64::from(version) << 44 | u64::from(page_num) << 32;
-    std::array::from_fn(|at| world::mix(seed | at as u64) as u8)
+    std::array::from_fn(|at| splitmix::mix(seed | at as u64) as u8)
 }
 
 /// Where a page that is written differs from the one before it.

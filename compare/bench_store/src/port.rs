@@ -4,11 +4,12 @@
 use std::fs;
 use std::path::{Path, PathBuf};
 
+use bench::builder;
 use engine::mvcc::MvccCommitBatch;
+use engine::sql::pager::page::PAGE_SIZE;
 use lateenbael::sys::DbHeader;
 use lateenbael::{Engine, Mode, Store, wal_path_for};
 
-use crate::builder;
 use crate::files::{FORMAT_VERSION, PAGE_COUNT, SCHEMA_ROOT_PAGE};
 use crate::side::{Page, Side};
 
@@ -81,7 +82,9 @@ macro_rules! called_alike {
         }
 
         fn append_built(&mut self, batch: &Self::Batch) {
-            self.append(&builder::build(batch));
+            let mut body = [0; PAGE_SIZE];
+            builder::build(batch, &mut body);
+            self.append(&body);
         }
     };
 }

@@ -42,7 +42,7 @@ fn log(is_batch: fn(u32) -> bool) -> Vec<u8> {
 fn page(index: u32) -> [u8; PAGE_SIZE] {
     let mut page = [0; PAGE_SIZE];
     for (at, byte) in page.iter_mut().enumerate() {
-        *byte = world::mix(u64::from(index) << 32 | at as u64) as u8;
+        *byte = splitmix::mix(u64::from(index) << 32 | at as u64) as u8;
     }
     page
 }

@@ -5,12 +5,10 @@ mod logs;
 #[cfg(feature = "port")]
 mod port;
 mod rust;
-#[path = "../../bench_batch/src/timing.rs"]
-mod timing;
 
+use bench::timing::{self, Timed, timed};
 use stand_in::path::Path;
 use stand_in::world;
-use timing::{Timed, timed};
 
 /// A function that is timed, with its name.
 type Named<'a> = (&'static str, Timed<'a>);

@@ -1,6 +1,6 @@
 //! A call of the history, with all its arguments, and how it is printed.
 use crate::book::{Header, PAGE, Page};
-use crate::random::Random;
+use splitmix::Random;
 use std::fmt;
 
 /// An area that a call is lent one entry too short.

@@ -6,11 +6,11 @@ use crate::files::{Done, Files};
 use crate::judge::Answer;
 use crate::law::Law;
 use crate::places::places;
-use crate::random::Random;
 use crate::store::FRAME;
 use crate::world::World;
 use crate::wrong::Wrong;
 use lateenbael::Area;
+use splitmix::Random;
 
 /// A cut from which the history may go on, and the world's state at it.
 struct Kept {
@@ -101,7 +101,7 @@ impl World {
         self.tally.call(call);
         self.history.push(call.clone());
         let stores = self.rehearse(call)?;
-        let goes_on = random.once_in(2).then(|| random.below(stores.len() + 1));
+        let goes_on = random.one_in(2).then(|| random.below(stores.len() + 1));
         let end = self.tally.cuts + most;
         let mut kept = None;
         for (k, done) in stores.iter().map(Some).chain([None]).enumerate() {
@@ -152,7 +152,7 @@ impl World {
             .cut(kind, done.map(|done| &done.named), place.bytes);
         self.tally
             .seen(self.files.log.len(), self.law.book.header.page_count);
-        place.again = (left > 1 && random.once_in(8)).then(|| random.once_in(2));
+        place.again = (left > 1 && random.one_in(8)).then(|| random.one_in(2));
         place
             .again
             .into_iter()

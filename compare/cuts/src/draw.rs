@@ -5,8 +5,8 @@ use crate::book::{Header, PAGE};
 use crate::call::{Call, Fault, Lent};
 use crate::judge::{FOLD_AT, LOG_FRAMES};
 use crate::law::Law;
-use crate::random::Random;
 use crate::store::FRAME;
+use splitmix::Random;
 
 /// What a history works towards for some time.
 #[derive(Clone, Copy, Debug)]
@@ -56,15 +56,15 @@ impl Drawer {
         self.most_pages = random.pick(&[3, 5, 8, 8, 12, 12, 30, 30, 60, 130]);
         self.left = random.pick(&[15, 40, 40, 80, 200]);
         self.goals.clear();
-        if random.once_in(4) {
+        if random.one_in(4) {
             self.goals.push(Goal::Count(self.most_pages));
         }
-        if random.once_in(12) {
+        if random.one_in(12) {
             let count = random.pick(&[250, 254, 257, 300, 513, 1024]);
             self.goals
                 .extend([Goal::Count(self.most_pages), Goal::Count(count)]);
         }
-        if random.once_in(12) {
+        if random.one_in(12) {
             self.goals.push(Goal::Commit);
             self.near(LOG_FRAMES);
         }
@@ -95,7 +95,7 @@ impl Drawer {
             Call::Append(_) => 20,
             _ => usize::MAX,
         };
-        if one_in < usize::MAX && self.random.once_in(one_in) {
+        if one_in < usize::MAX && self.random.one_in(one_in) {
             Next::Cut(call)
         } else {
             Next::Call(call)
@@ -103,7 +103,7 @@ impl Drawer {
     }
 
     fn draw(&mut self, law: &Law) -> Call {
-        if law.busy() && !self.random.once_in(4) {
+        if law.busy() && !self.random.one_in(4) {
             return Call::Step;
         }
         if let Some(call) = self.towards_goal(law) {
@@ -144,11 +144,11 @@ impl Drawer {
             Goal::Staged(pages) if pages > 64 => 200,
             _ => 300,
         };
-        if reached || self.random.once_in(patience) {
+        if reached || self.random.one_in(patience) {
             self.goals.pop();
             return self.towards_goal(law);
         }
-        if self.random.once_in(patience / 3) {
+        if self.random.one_in(patience / 3) {
             return None;
         }
         Some(match goal {
@@ -230,13 +230,13 @@ impl Drawer {
         let kept = law.book.header;
         Header {
             page_count,
-            schema_root: if random.once_in(3) {
+            schema_root: if random.one_in(3) {
                 random.u32()
             } else {
                 kept.schema_root
             },
             version: random.pick(&[4, 5, 6, kept.version]),
-            freelist_head: if random.once_in(3) {
+            freelist_head: if random.one_in(3) {
                 random.u32() % 9
             } else {
                 kept.freelist_head
@@ -255,7 +255,7 @@ impl Drawer {
             _ => count,
         };
         let mut header = self.header(law, new_count);
-        if self.random.once_in(40) {
+        if self.random.one_in(40) {
             header.version = self.random.pick(&[0, 3, 7, 65535]);
         }
         header
@@ -297,7 +297,7 @@ impl Drawer {
             8 if room => Fault::PageZeroCount(random.pick(&[1025, 70000, u32::MAX])),
             _ => return Call::BadOpen(Fault::ReadOnly, true),
         };
-        Call::BadOpen(fault, random.once_in(2))
+        Call::BadOpen(fault, random.one_in(2))
     }
 
     /// A call with one of the areas that it is lent too short.

@@ -7,10 +7,10 @@ use crate::call::{Call, page_bytes};
 use crate::compare::{Check, compare_batches, compare_header, compare_pages};
 use crate::law::Law;
 use crate::port::{from_port, to_port};
-use crate::random::Random;
 use crate::store::{FRAME, LOG_HEADER};
 use crate::wrong::Wrong;
 use lateenbael::{Area, Disk, Engine, Error, Files, Mode, Store, salts_of_the_clock, wal_path_for};
+use splitmix::Random;
 use std::io::{self, Read, Write};
 use std::os::unix::process::ExitStatusExt;
 use std::path::{Path, PathBuf};
@@ -35,7 +35,7 @@ fn page_count(seed: u64, number: u32) -> u32 {
 fn calls(seed: u64, number: u32) -> Vec<Call> {
     let random = &mut Random::new(seed.wrapping_mul(31).wrapping_add(number.into()));
     let mut calls = Vec::new();
-    if random.once_in(25) {
+    if random.one_in(25) {
         calls.push(Call::Fold(0));
     }
     for _ in 0..random.below(3) {

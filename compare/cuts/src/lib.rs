@@ -13,7 +13,6 @@ pub mod kill;
 pub mod law;
 pub mod places;
 pub mod port;
-pub mod random;
 pub mod run;
 pub mod store;
 pub mod tally;

@@ -1,7 +1,7 @@
 //! After which bytes a store is cut.
-use crate::random::Random;
 use crate::store::LOG_HEADER;
 use lateenbael::Named;
+use splitmix::Random;
 
 /// Each byte up to here, and each of the last ones.
 const FRONT: usize = 48;
@@ -21,7 +21,7 @@ pub fn places(named: &Named, stores: usize, random: &mut Random) -> Vec<usize> {
             .into_iter()
             .chain(LOG_HEADER..=FRONT)
             .collect()
-    } else if stores > MANY && !random.once_in(8) {
+    } else if stores > MANY && !random.one_in(8) {
         vec![0, 1, 16, len - 1]
     } else {
         (0..=FRONT).chain(len - BACK..len).collect()

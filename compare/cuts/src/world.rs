@@ -6,11 +6,11 @@ use crate::files::{Done, Files};
 use crate::judge::{Answer, Plan, Refused};
 use crate::law::Law;
 use crate::port;
-use crate::random::Random;
 use crate::store::{Kind, LOG_HEADER, Store};
 use crate::tally::Tally;
 use crate::wrong::Wrong;
 use lateenbael::Engine;
+use splitmix::Random;
 
 pub struct World {
     pub(crate) live: Engine,

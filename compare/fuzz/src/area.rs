@@ -2,7 +2,9 @@
 
 use std::ops::Range;
 
-use crate::random::Random;
+use splitmix::Random;
+
+use crate::edges;
 
 /// What stands before and behind an area.
 pub trait Guard: Copy + Default + PartialEq {
@@ -55,7 +57,7 @@ impl<T: Guard> Area<T> {
             0 => random.below(own + 1),
             1 => own - 1,
             2 => own + 1,
-            3 => random.number() as usize,
+            3 => edges::number(random) as usize,
             4 => 0,
             _ => own,
         };

@@ -5,6 +5,7 @@ use sys::{Building, PAGE_SIZE, TextPlace};
 
 use crate::area::Area;
 use crate::closed::NO_BUILDING;
+use crate::edges;
 use crate::forge;
 use crate::world::{Call, World, Writes};
 
@@ -37,12 +38,12 @@ pub fn any_body(world: &mut World) -> Area<u8> {
     };
     bytes.resize(len, 0);
     match world.random.below(5) {
-        0 => world.random.fill(&mut bytes),
+        0 => edges::overwrite(&mut world.random, &mut bytes),
         1 if len > 0 => {
             let at = world.random.below(len.min(200));
-            bytes[at] = world.random.next() as u8;
+            bytes[at] = world.random.u8();
         }
-        2 if len > 18 => world.random.fill(&mut bytes[16..]),
+        2 if len > 18 => edges::overwrite(&mut world.random, &mut bytes[16..]),
         _ => {}
     }
     world.slice(&bytes)
@@ -51,7 +52,7 @@ pub fn any_body(world: &mut World) -> Area<u8> {
 /// A cursor into a body: mostly where something begins.
 fn cursor(world: &mut World) -> usize {
     match world.random.below(6) {
-        0 => world.random.number() as usize,
+        0 => edges::number(&mut world.random) as usize,
         1 => world.random.below(200),
         2 => 18,
         _ => world.random.pick(&world.begins),
@@ -179,7 +180,7 @@ fn build(
 
 fn start(world: &mut World, export: &'static str) {
     build(world, export, |world, at, len| {
-        let commit_ts = world.random.number();
+        let commit_ts = edges::number(&mut world.random);
         unsafe { sys::lateenbael_mvcc_start(at, len, commit_ts) }
     });
 }
@@ -194,7 +195,7 @@ fn text(world: &mut World) -> Area<u8> {
     };
     let mut bytes = vec![b'a'; len];
     if world.random.percent(20) {
-        world.random.fill(&mut bytes);
+        edges::overwrite(&mut world.random, &mut bytes);
     }
     world.slice(&bytes)
 }
@@ -221,14 +222,14 @@ fn add(
 
 fn add_tombstone(world: &mut World, export: &'static str) {
     add(world, export, |world, at, len, building, name, name_len| {
-        let rowid = world.random.number() as i64;
+        let rowid = edges::number(&mut world.random) as i64;
         unsafe { sys::lateenbael_mvcc_add_tombstone(at, len, building, name, name_len, rowid) }
     });
 }
 
 fn begin_present(world: &mut World, export: &'static str) {
     add(world, export, |world, at, len, building, name, name_len| {
-        let rowid = world.random.number() as i64;
+        let rowid = edges::number(&mut world.random) as i64;
         unsafe { sys::lateenbael_mvcc_begin_present(at, len, building, name, name_len, rowid) }
     });
 }
@@ -245,21 +246,21 @@ fn add_null(world: &mut World, export: &'static str) {
 
 fn add_integer(world: &mut World, export: &'static str) {
     add(world, export, |world, at, len, building, name, name_len| {
-        let value = world.random.number() as i64;
+        let value = edges::number(&mut world.random) as i64;
         unsafe { sys::lateenbael_mvcc_add_integer(at, len, building, name, name_len, value) }
     });
 }
 
 fn add_real_bits(world: &mut World, export: &'static str) {
     add(world, export, |world, at, len, building, name, name_len| {
-        let bits = world.random.number();
+        let bits = edges::number(&mut world.random);
         unsafe { sys::lateenbael_mvcc_add_real_bits(at, len, building, name, name_len, bits) }
     });
 }
 
 fn add_bool(world: &mut World, export: &'static str) {
     add(world, export, |world, at, len, building, name, name_len| {
-        let value = world.random.number() as u32;
+        let value = edges::number(&mut world.random) as u32;
         unsafe { sys::lateenbael_mvcc_add_bool(at, len, building, name, name_len, value) }
     });
 }

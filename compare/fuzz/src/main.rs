@@ -6,9 +6,9 @@
 mod area;
 mod batch_calls;
 mod closed;
+mod edges;
 mod forge;
 mod log_calls;
-mod random;
 mod store_calls;
 mod tally;
 mod world;

@@ -4,12 +4,13 @@
 use std::ops::Range;
 
 use lateenbael_sys as sys;
+use splitmix::Random;
 use sys::{Answered, Building, Store, Wal};
 
 use crate::area::{Area, Lent};
 use crate::closed::{CLOSED, NO_BUILDING, NO_WAL, meant};
+use crate::edges;
 use crate::forge;
-use crate::random::Random;
 use crate::tally::Tally;
 
 /// After so many calls, and at the end, the areas are compared whole: a byte
@@ -70,7 +71,7 @@ impl World {
         if self.random.percent(3) {
             let pages = self.random.pick(&[4, 40, sys::PAGES]);
             let at = self.random.below(pages);
-            let entry = self.random.number() as u32;
+            let entry = edges::number(&mut self.random) as u32;
             self.table.put(at, &[entry]);
         }
         let mut store = self.store;

@@ -6,11 +6,11 @@
 use std::collections::HashMap;
 
 use engine::sql::pager::page::PAGE_SIZE;
+use splitmix::Random;
 
 use crate::cases::Cases;
 use crate::frame::{self, Drawn, Heading};
 use crate::list::List;
-use crate::random::Random;
 
 pub fn list() -> List {
     List {

@@ -4,11 +4,11 @@
 //! A case is a start and a part of a drawn body, in 13 bytes.
 
 use engine::sql::pager::page::PAGE_SIZE;
+use splitmix::Random;
 
 use crate::cases::Cases;
 use crate::frame::{self, Drawn, Heading};
 use crate::list::List;
-use crate::random::Random;
 
 /// The longest part that every kind of body is cut to in turn.
 const LONGEST: u16 = 600;

@@ -1,7 +1,8 @@
 //! Appends of a batch to the log.
 
+use bench::bodies;
+
 use super::{Folder, begin};
-use crate::bodies;
 use crate::files;
 use crate::side::{Page, Side};
 use crate::table::Table;

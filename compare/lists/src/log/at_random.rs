@@ -1,12 +1,13 @@
 //! Pseudo-random logs of 0 to 15 frames, most of them with a fault.
 
+use splitmix::Random;
+
 use super::headers::{CREATED, Header};
 use super::place;
 use super::recipe::{LONGEST_LOG, Recipe};
 use crate::batch::body::Body;
 use crate::cases::Cases;
 use crate::frame::{Drawn, Heading};
-use crate::random::Random;
 
 pub fn logs(cases: &mut Cases) {
     let mut random = Random::new(10);

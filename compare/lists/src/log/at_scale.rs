@@ -4,13 +4,14 @@
 use std::collections::BTreeMap;
 use std::fmt::{self, Display, Formatter};
 
+use splitmix::Random;
+
 use super::headers::{CREATED, Header};
 use super::recipe::{LONGEST_LOG, Recipe};
 use super::{at_random, oracle, place};
 use crate::batch;
 use crate::frame::{Drawn, Heading};
 use crate::hex;
-use crate::random::Random;
 
 /// Compares a listing with the Rust's, log by log, up to the first
 /// difference, which it tells whole.

@@ -48,8 +48,14 @@ fn bad_bodies() -> Vec<Body> {
     ]
 }
 
+pub fn add_all(cases: &mut Cases) {
+    bodies(cases);
+    damaged(cases);
+    versions(cases);
+}
+
 /// Each alone, as the seal, with page frames around it, and twice.
-pub fn bodies(cases: &mut Cases) {
+fn bodies(cases: &mut Cases) {
     for body in good_bodies().into_iter().chain(bad_bodies()) {
         let log = CREATED.log();
         cases.add(log.clone().batch(0, &body));
@@ -68,7 +74,7 @@ pub fn bodies(cases: &mut Cases) {
 
 /// A change that the sum shows isn't counted as undecodable, and one that
 /// makes a batch of a page, or a page of a batch, isn't good.
-pub fn damaged(cases: &mut Cases) {
+fn damaged(cases: &mut Cases) {
     let log = CREATED.log().page(1, 2, b"1").batch(0, tombstone());
     let log = log.page(0, 3, b"");
     for at in [
@@ -100,7 +106,7 @@ pub fn damaged(cases: &mut Cases) {
 }
 
 /// Older versions have batches too.
-pub fn versions(cases: &mut Cases) {
+fn versions(cases: &mut Cases) {
     for version in 1..=3 {
         let header = Header {
             version,

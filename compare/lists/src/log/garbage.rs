@@ -1,14 +1,20 @@
 //! Bytes that were never a log.
 
+use splitmix::Random;
+
 use super::headers::CREATED;
 use super::place;
 use super::recipe::Recipe;
 use crate::cases::Cases;
 use crate::frame::{Drawn, Heading};
-use crate::random::Random;
+
+pub fn add_all(cases: &mut Cases) {
+    alone(cases);
+    behind_a_header(cases);
+}
 
 /// Without a header: pseudo-random bytes, a main file's, frames alone.
-pub fn alone(cases: &mut Cases) {
+fn alone(cases: &mut Cases) {
     let mut random = Random::new(8);
     for length in [1, 7, 16, 30, 31, 32, 33, 48, 64, 100, 150, 200] {
         cases.add(Recipe::default().bytes(&random.bytes(length)));
@@ -30,7 +36,7 @@ pub fn alone(cases: &mut Cases) {
 
 /// Pseudo-random bytes where frames should be: few, then zeros up to the end
 /// of a frame; or frames whose heading is replaced.
-pub fn behind_a_header(cases: &mut Cases) {
+fn behind_a_header(cases: &mut Cases) {
     let mut random = Random::new(9);
     for length in [1, 4, 12, 15, 16, 17, 20, 40, 80, 120] {
         let log = CREATED.log().bytes(&random.bytes(length));

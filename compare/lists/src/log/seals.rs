@@ -6,9 +6,15 @@ use crate::batch::body::Body;
 use crate::cases::Cases;
 use crate::frame::{Drawn, Heading};
 
+pub fn add_all(cases: &mut Cases) {
+    patterns(cases);
+    pages_and_counts(cases);
+    full_logs(cases);
+}
+
 /// Four frames, each a seal or not: different pages, one page, page 0 as
 /// the seal or not, batches between.
-pub fn patterns(cases: &mut Cases) {
+fn patterns(cases: &mut Cases) {
     let batch = Body::new(5, 1).tombstone("t", 1);
     for pages in [
         [1, 2, 3, 4],
@@ -34,7 +40,7 @@ pub fn patterns(cases: &mut Cases) {
 }
 
 /// Page numbers up to the last that is no batch, and commit counts.
-pub fn pages_and_counts(cases: &mut Cases) {
+fn pages_and_counts(cases: &mut Cases) {
     let numbers = [1, 2, 255, 256, 1_023, 1_024, 1_025, 65_536, 1 << 31];
     for number in numbers.into_iter().chain([u32::MAX - 1]) {
         for count in [0, 1] {
@@ -52,7 +58,7 @@ pub fn pages_and_counts(cases: &mut Cases) {
 
 /// 0 to 15 frames: never sealed, sealed at the end, at every frame, at the
 /// first, or two frames before the end.
-pub fn full_logs(cases: &mut Cases) {
+fn full_logs(cases: &mut Cases) {
     for frames in 0..=15u32 {
         let log = |seal: &dyn Fn(u32) -> u32, frame: &dyn Fn(Recipe, u32, u32) -> Recipe| {
             (0..frames).fold(CREATED.log(), |log, index| frame(log, index, seal(index)))

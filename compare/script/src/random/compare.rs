@@ -3,7 +3,7 @@
 use std::any::Any;
 use std::panic::{self, AssertUnwindSafe};
 
-use lists::random::Random;
+use splitmix::Random;
 
 use crate::call::Call;
 use crate::port::Port;

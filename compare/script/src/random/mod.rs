@@ -10,7 +10,7 @@ mod view;
 use std::fmt::Write;
 use std::panic;
 
-use lists::random::Random;
+use splitmix::Random;
 
 use crate::call::Call;
 use compare::{Look, Pair};

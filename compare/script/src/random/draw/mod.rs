@@ -9,7 +9,7 @@ mod themes;
 
 use std::collections::VecDeque;
 
-use lists::random::Random;
+use splitmix::Random;
 
 use super::view::View;
 use crate::call::{Call, Edit};
@@ -80,14 +80,6 @@ impl Draw {
             };
             self.queue.extend(calls);
         }
-    }
-
-    fn one_in(&mut self, many: usize) -> bool {
-        self.random.below(many) == 0
-    }
-
-    fn between(&mut self, first: usize, last: usize) -> usize {
-        first + self.random.below(last - first + 1)
     }
 
     /// A cut after a few stores, or far into a long call.

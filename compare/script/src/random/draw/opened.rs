@@ -7,7 +7,7 @@ use crate::random::view::View;
 impl Draw {
     pub(super) fn on_open_store(&mut self, view: &View) -> Vec<Call> {
         self.openings = 0;
-        if view.read_only && self.one_in(5) {
+        if view.read_only && self.random.one_in(5) {
             return vec![Call::Drop];
         }
         let count = view.header.page_count;
@@ -27,7 +27,7 @@ impl Draw {
             68..73 => vec![Call::Drop],
             73..77 => vec![Call::Open(self.opening())],
             77..79 => vec![self.salt()],
-            79 if self.one_in(3) => vec![Call::Create],
+            79 if self.random.one_in(3) => vec![Call::Create],
             79..91 => self.cut_call(view),
             _ => self.of_theme(view),
         }
@@ -38,7 +38,7 @@ impl Draw {
         let near = clock.wrapping_add(self.random.below(3) as u64);
         let any = self.random.u64() >> self.random.below(64);
         let value = [near, near, clock.saturating_sub(1), any, u64::MAX];
-        match self.one_in(12) {
+        match self.random.one_in(12) {
             true => Call::Clock(self.random.pick(&value)),
             false => Call::Clock(near),
         }
