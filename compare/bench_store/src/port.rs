@@ -20,7 +20,7 @@ pub const HEADER: DbHeader = DbHeader {
     freelist_head: 0,
 };
 
-/// The log's salt behind a fold in memory.
+/// The log's salt behind a checkpoint in memory.
 const SALT: u32 = 0x5a17;
 
 pub struct InMemory {
@@ -113,7 +113,7 @@ impl Side for InMemory {
         self.engine.commit(HEADER, SALT).expect("it has a place")
     }
 
-    fn fold(&mut self) -> usize {
+    fn checkpoint(&mut self) -> usize {
         self.engine.checkpoint(SALT).expect("nothing is part done")
     }
 
@@ -174,9 +174,9 @@ impl Side for InFiles {
         self.called_mut().commit(HEADER).expect("it has a place")
     }
 
-    fn fold(&mut self) -> usize {
-        let folded = self.called_mut().checkpoint();
-        folded.expect("files take every store")
+    fn checkpoint(&mut self) -> usize {
+        let written = self.called_mut().checkpoint();
+        written.expect("files take every store")
     }
 
     fn log_file(&self) -> Vec<u8> {

@@ -9,7 +9,7 @@ use stand_in::world;
 
 pub const FRAMES: u32 = 1_024;
 
-/// The commit count of every seal.
+/// The commit count of every commit frame.
 pub const COUNT: u32 = 500;
 
 pub fn all() -> [(&'static str, Vec<u8>); 2] {
@@ -74,7 +74,7 @@ mod tests {
     use super::*;
 
     #[test]
-    fn they_are_full_and_sealed() {
+    fn they_are_full_and_committed() {
         for (_, log) in all() {
             assert_eq!(log.len(), 4_210_720);
             let path = Path::from("log");

@@ -56,7 +56,7 @@ pub fn alter_wal(random: &mut Random, wal: &mut Wal) {
         2 => wal.good_end = number as usize,
         3 => wal.last_commit_offset = number as usize,
         4 => wal.frame_count = number as usize,
-        5 => wal.sealed = number as u32,
+        5 => wal.committed = number as u32,
         _ => wal.last_commit_page_count = number as u32,
     }
 }

@@ -192,7 +192,7 @@ fn may_read(world: &mut World, export: &'static str) {
     world.end(export, refusal, right, &Writes::default());
 }
 
-/// Behind the end that is told no page is found.
+/// Behind the end that is answered no page is found.
 fn read_end(world: &mut World, export: &'static str) {
     let (store, _) = world.any_store();
     let (count, staged) = (
@@ -245,7 +245,7 @@ fn place_page(world: &mut World, export: &'static str) {
     page_inside(world, export, answer);
 }
 
-/// A page that is told lies inside its area, whatever the table holds.
+/// A page that is found lies inside its area, whatever the table holds.
 fn page_inside(world: &mut World, export: &'static str, answer: PageAnswer) {
     let size = match answer.area {
         0 => return,
@@ -435,20 +435,21 @@ fn next_step(world: &mut World, export: &'static str) {
     }
 }
 
-/// A commit adds at most 65 frames, and folds only if that makes 100.
+/// A commit adds at most 65 frames, and a checkpoint follows only if that makes
+/// 100.
 fn commit(world: &mut World, export: &'static str) {
     let given = world.any_store();
     let header = forge::db_header(&mut world.random, given.0.current_header);
     let salt = world.random.u32();
     let mut log = vec![frames(given.0.wal.len, 65)];
-    let folds = given.0.wal.frame_count > 34;
-    if folds {
+    let checkpoints = given.0.wal.frame_count > 34;
+    if checkpoints {
         log.push(LOG_HEADER);
     }
     let writes = Writes {
         table: true,
         log,
-        main: folds.then_some(0..MAIN_AREA),
+        main: checkpoints.then_some(0..MAIN_AREA),
         staging: false,
     };
     world.begin(export, &writes);

@@ -196,8 +196,8 @@ impl World {
         }
     }
 
-    /// The same of a commit or fold in one call: it ends, whatever the store,
-    /// with nothing part done.
+    /// The same of a commit or checkpoint in one call: it ends, whatever the
+    /// store, with nothing part done.
     pub fn take_ended(&mut self, export: &str, given: (Store, bool), answered: &Answered) {
         if answered.refusal == 0 && answered.store.job.kind != 0 {
             self.tally.fault(export, "answered while part done");

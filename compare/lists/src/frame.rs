@@ -36,14 +36,14 @@ impl Heading {
 
     /// `compute_checksum` is private to wal.rs, so the frame is really
     /// appended to a log with that salt, alone in an empty world (commit
-    /// count 0: not a seal), and read out of it.
+    /// count 0: no commit frame), and read out of it.
     pub fn stored(self, body: &[u8; PAGE_SIZE]) -> Vec<u8> {
         let path = Path::from("log");
         world::reset();
         world::queue_salt(self.salt);
-        let seal = (self.commit_count != 0).then_some(self.commit_count);
+        let commit_count = (self.commit_count != 0).then_some(self.commit_count);
         Wal::create(&path)
-            .and_then(|mut wal| wal.append_frame(self.page, body, seal))
+            .and_then(|mut wal| wal.append_frame(self.page, body, commit_count))
             .expect("the stand-in's files take every store");
         let log = world::read_file(&path).expect("the log was created");
         let frame = log[WAL_HEADER_SIZE..].to_vec();

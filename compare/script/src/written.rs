@@ -13,7 +13,7 @@ use crate::side::{Area, Side};
 const LONGEST: usize = 100;
 
 /// All lines of a list. A line that is no call ends it.
-pub fn lines<S: Side>(list: &str, runner: &mut Runner<S>, stores: bool) -> Result<String, String> {
+pub fn lines<S: Side>(list: &str, runner: &mut Runner<S>, writes: bool) -> Result<String, String> {
     runner.reset();
     let mut lines = String::new();
     for (index, line) in list.lines().enumerate() {
@@ -22,15 +22,15 @@ pub fn lines<S: Side>(list: &str, runner: &mut Runner<S>, stores: bool) -> Resul
         let outcome = runner.call(&call);
         let shown = shown(line.split('#').next().unwrap_or_default().trim());
         let line = format!("{shown} => {} | {}", outcome.result, runner.files());
-        add(&mut lines, &line, &outcome, stores);
+        add(&mut lines, &line, &outcome, writes);
     }
     Ok(lines)
 }
 
-fn add(lines: &mut String, line: &str, outcome: &Outcome, stores: bool) {
+fn add(lines: &mut String, line: &str, outcome: &Outcome, writes: bool) {
     let mut below = outcome.below.clone();
-    if stores {
-        below.extend(outcome.stores.iter().map(ToString::to_string));
+    if writes {
+        below.extend(outcome.writes.iter().map(ToString::to_string));
         below.extend(outcome.cut.iter().map(ToString::to_string));
     }
     writeln!(lines, "{line}").expect("a string takes all");

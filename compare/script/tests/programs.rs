@@ -1,6 +1,6 @@
 //! The proved programs as they are called: a standard input that can't be read
-//! is told from one that ends, a listing that can't be written is told too, and
-//! `batchlist` prints a body as the Rust has it.
+//! is told from one that ends, a listing that can't be written is reported too,
+//! and `batchlist` prints a body as the Rust has it.
 
 use std::fs::File;
 use std::io::Write;
@@ -63,7 +63,7 @@ fn a_closed_input_is_not_read() {
 }
 
 #[test]
-fn a_listing_that_cant_be_written_is_told() {
+fn a_listing_that_cant_be_written_is_reported() {
     let full = File::options()
         .write(true)
         .open("/dev/full")

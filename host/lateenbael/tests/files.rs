@@ -1,4 +1,4 @@
-//! A store on two real files: creation, commits, folds and openings.
+//! A store on two real files: creation, commits, checkpoints and openings.
 mod common;
 use common::*;
 use lateenbael::{Area, Disk, Error, Files, Mode, Refusal, Store, wal_path_for};
@@ -98,7 +98,7 @@ fn what_was_committed_is_there_after_every_opening() {
 }
 
 #[test]
-fn the_hundredth_frame_folds() {
+fn the_hundredth_frame_brings_a_checkpoint() {
     let folder = Folder::new();
     let mut store = Store::create(folder.store()).unwrap();
     for seed in 0..49 {
@@ -115,17 +115,17 @@ fn the_hundredth_frame_folds() {
 }
 
 #[test]
-fn only_a_clean_opening_cuts_the_tail() {
+fn only_a_clean_opening_drops_uncommitted_frames() {
     let folder = Folder::new();
     let path = folder.store();
     let mut store = Store::create(&path).unwrap();
     commit_pages(&mut store, 1, &[4]);
     store.append_mvcc_batch(batch(8).body()).unwrap();
     drop(store);
-    let with_tail = bytes_of(&path);
+    let with_uncommitted = bytes_of(&path);
     for mode in [Mode::ReadOnly, Mode::Plain] {
         assert_eq!(open(&path, mode).frame_count().unwrap(), 3);
-        assert_eq!(bytes_of(&path), with_tail);
+        assert_eq!(bytes_of(&path), with_uncommitted);
     }
     let store = open(&path, Mode::default());
     assert_eq!(store.frame_count().unwrap(), 2);
@@ -194,7 +194,7 @@ type Damage = (
 );
 
 #[test]
-fn refused_openings_say_which_and_write_nothing() {
+fn refused_openings_report_which_and_write_nothing() {
     let folder = Folder::new();
     let path = folder.store();
     let mut store = Store::create(&path).unwrap();

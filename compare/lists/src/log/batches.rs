@@ -1,4 +1,4 @@
-//! Batch frames: good, undecodable, sealing.
+//! Batch frames: good, undecodable, commit frames.
 
 use super::headers::{CREATED, Header};
 use super::place;
@@ -54,7 +54,7 @@ pub fn add_all(cases: &mut Cases) {
     versions(cases);
 }
 
-/// Each alone, as the seal, with page frames around it, and twice.
+/// Each alone, as the commit frame, with page frames around it, and twice.
 fn bodies(cases: &mut Cases) {
     for body in good_bodies().into_iter().chain(bad_bodies()) {
         let log = CREATED.log();
@@ -62,9 +62,9 @@ fn bodies(cases: &mut Cases) {
         cases.add(log.clone().batch(5, &body));
         let page = log.clone().page(1, 0, b"1").batch(7, &body);
         cases.add(page.page(0, 2, b""));
-        let sealed = log.page(1, 3, b"1").batch(0, &body);
-        cases.add(sealed.clone().page(2, 4, b"2"));
-        cases.add(sealed.batch(0, &body));
+        let committed = log.page(1, 3, b"1").batch(0, &body);
+        cases.add(committed.clone().page(2, 4, b"2"));
+        cases.add(committed.batch(0, &body));
     }
     // The page number before the batches': any body will do.
     for body in [tombstone(), Body::new(0, 0).bytes(b"x")] {

@@ -6,7 +6,7 @@ use super::recipe::Recipe;
 use crate::cases::Cases;
 use crate::frame::{Drawn, Heading};
 
-/// A page and two seals, with bodies that have few zeros.
+/// A page and two commit frames, with bodies that have few zeros.
 pub fn three_frames() -> Recipe {
     let frame = |page, count, kind, seed| {
         let heading = Heading::new(page, count, CREATED.salt);
@@ -54,7 +54,7 @@ fn filled_up(cases: &mut Cases) {
     }
 }
 
-/// A frame added behind a torn tail lands off its place, and one behind it
+/// A frame added behind a torn frame lands off its place, and one behind it
 /// too. With zeros between they are at their places, but behind a bad frame.
 fn off_their_places(cases: &mut Cases) {
     let bare = Header { salt: 0, ..CREATED };

@@ -35,9 +35,9 @@ fn bodies(cases: &mut Cases) {
 }
 
 /// Changes that the sum doesn't see: a byte one less and the next one two
-/// more. In a heading they make another page of it, or a seal, or another
-/// salt. Then bytes swapped that are 32 places apart: between them the sum
-/// turns once around.
+/// more. In a heading they make another page of it, or a commit frame, or
+/// another salt. Then bytes swapped that are 32 places apart: between them the
+/// sum turns once around.
 fn unseen(cases: &mut Cases) {
     let less_and_more = |log: Recipe, at: usize| {
         let before = log.log()[at] - 1;

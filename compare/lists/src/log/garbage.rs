@@ -42,8 +42,8 @@ fn behind_a_header(cases: &mut Cases) {
         let log = CREATED.log().bytes(&random.bytes(length));
         cases.add(log.clone());
         cases.add(log.length(place(1 + length % 4)));
-        let sealed = CREATED.log().page(0, 2, b"");
-        let log = sealed.bytes(&random.bytes(length));
+        let committed = CREATED.log().page(0, 2, b"");
+        let log = committed.bytes(&random.bytes(length));
         cases.add(log.length(place(3)));
     }
     for round in 0..24 {

@@ -44,7 +44,7 @@ impl Header {
         Recipe::default().bytes(&self.bytes())
     }
 
-    /// With a page and its seal.
+    /// With a page and its commit frame.
     fn two_frames(&self) -> Recipe {
         self.log().page(1, 0, b"one").page(0, 2, b"")
     }

@@ -9,13 +9,13 @@ pub mod at_scale;
 mod batches;
 #[cfg(test)]
 mod by_document;
+mod commit_frames;
 mod cuts;
 mod damaged;
 mod garbage;
 mod headers;
 pub mod oracle;
 mod recipe;
-mod seals;
 mod zeros;
 
 use crate::cases::Cases;
@@ -41,7 +41,7 @@ fn cases() -> Vec<Vec<u8>> {
     headers::add_all(&mut cases);
     cuts::add_all(&mut cases);
     damaged::add_all(&mut cases);
-    seals::add_all(&mut cases);
+    commit_frames::add_all(&mut cases);
     batches::add_all(&mut cases);
     zeros::add_all(&mut cases);
     garbage::add_all(&mut cases);
@@ -107,7 +107,7 @@ mod tests {
         assert_eq!(answer(&cases()[0]), example);
     }
 
-    /// Every refusal, every number of frames, with and without a seal.
+    /// Every refusal, every number of frames, with and without a commit frame.
     #[test]
     fn every_answer_comes_often() {
         let mut found = BTreeMap::new();

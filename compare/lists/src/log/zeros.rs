@@ -1,4 +1,4 @@
-//! Zero bytes. Under salt 0 they are good frames of page 0, not sealed.
+//! Zero bytes. Under salt 0 they are good frames of page 0, not committed.
 
 use super::headers::{CREATED, Header};
 use super::place;

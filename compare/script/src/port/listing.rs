@@ -45,7 +45,7 @@ fn by_frames(log: &[u8]) -> String {
             lines += &format!("{index} {frame}\n");
         }
     }
-    let last = match wal.sealed {
+    let last = match wal.committed {
         0 => "-".to_string(),
         _ => wal.last_commit_page_count.to_string(),
     };

@@ -32,7 +32,7 @@ impl Look {
     pub fn drawn(call: &Call, random: &mut Random) -> Self {
         let changes = matches!(
             call,
-            Call::Create | Call::Open(_) | Call::Commit(_) | Call::Fold | Call::Clear
+            Call::Create | Call::Open(_) | Call::Commit(_) | Call::Checkpoint | Call::Clear
         );
         if changes || random.below(16) == 0 {
             return Self::all();
@@ -99,8 +99,8 @@ impl Pair {
         if !port.is_open() {
             return Ok(());
         }
-        let as_named = port.areas_are_the_files();
-        unless_same("the files as the stores were named", &as_named, &true)?;
+        let as_written = port.areas_are_the_files();
+        unless_same("the files as the stores were named", &as_written, &true)?;
         unless_same("header", &port.header(), &rust.header())?;
         unless_same("state", &port.state(), &rust.state())?;
         match &look.pages {

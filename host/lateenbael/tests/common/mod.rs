@@ -82,6 +82,13 @@ pub fn commit_pages<D: Disk>(store: &mut Store<D>, first: u32, seeds: &[u8]) -> 
     store.commit(with_count(header, count)).unwrap()
 }
 
+/// A store of 7 pages, its log empty after a checkpoint.
+pub fn seven_pages(path: &Path) {
+    let mut store = Store::create_over(path).unwrap();
+    commit_pages(&mut store, 2, &[2, 3, 4, 5, 6]);
+    store.checkpoint().unwrap();
+}
+
 pub fn refusal<T>(answer: Result<T, Error>) -> Option<Refusal> {
     answer.err().and_then(|error| error.refusal())
 }

@@ -103,27 +103,31 @@ impl Draw {
         Edit::Put(Area::Log, at, value.to_le_bytes().to_vec())
     }
 
-    /// A good frame: a page, page 0, a batch; sealing or not.
+    /// A good frame: a page, page 0, a batch; a commit frame or not.
     pub(super) fn frame(&mut self) -> Edit {
         let count = self.random.pick(&[1, 2, 3, 5, 9, 1_024, 1_025]);
-        let seal = self.random.pick(&[0, 0, 0, count]);
+        let commit_count = self.random.pick(&[0, 0, 0, count]);
         match self.random.below(16) {
-            0..7 => Edit::Frame(self.random.between(1, 12) as u32, seal, self.content()),
+            0..7 => Edit::Frame(
+                self.random.between(1, 12) as u32,
+                commit_count,
+                self.content(),
+            ),
             7 => Edit::Frame(
                 self.random.pick(&[1_023, 1_024, 70_000]),
-                seal,
+                commit_count,
                 self.content(),
             ),
             8..11 => {
                 let header = self.header(count);
-                Edit::Frame(0, seal, Spec::Header(header))
+                Edit::Frame(0, commit_count, Spec::Header(header))
             }
             11 => {
                 let header = self.bad_header(count);
-                Edit::Frame(0, seal, Spec::Header(header))
+                Edit::Frame(0, commit_count, Spec::Header(header))
             }
-            12 => Edit::Frame(0, seal, self.content()),
-            _ => Edit::Frame(MARKER, seal, Spec::Inline(self.body())),
+            12 => Edit::Frame(0, commit_count, self.content()),
+            _ => Edit::Frame(MARKER, commit_count, Spec::Inline(self.body())),
         }
     }
 

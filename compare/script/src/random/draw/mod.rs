@@ -25,8 +25,22 @@ pub enum Theme {
     Full,
     /// Many pages.
     Wide,
-    /// Unsealed frames that a plain opening keeps.
-    Tails,
+    /// Uncommitted frames, document 01's old tail, that a plain opening keeps.
+    UncommittedFrames,
+}
+
+impl Theme {
+    /// As a run's counts name it.
+    pub fn name(self) -> &'static str {
+        match self {
+            Self::General => "General",
+            Self::Damage => "Damage",
+            Self::Hundred => "Hundred",
+            Self::Full => "Full",
+            Self::Wide => "Wide",
+            Self::UncommittedFrames => "Tails",
+        }
+    }
 }
 
 pub struct Draw {
@@ -47,7 +61,7 @@ impl Draw {
             55..68 => Theme::Hundred,
             68..77 => Theme::Full,
             77..81 => Theme::Wide,
-            _ => Theme::Tails,
+            _ => Theme::UncommittedFrames,
         };
         let mut draw = Self {
             random,

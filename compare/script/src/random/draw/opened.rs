@@ -19,7 +19,7 @@ impl Draw {
             15..17 => self.stage_some(count, 12),
             17..43 => self.commit(view),
             43..52 => vec![self.batch()],
-            52..56 => vec![Call::Fold],
+            52..56 => vec![Call::Checkpoint],
             56..60 => vec![Call::Read(self.page(count))],
             60 => vec![Call::Clear],
             61..64 => vec![self.clock(view)],
@@ -67,7 +67,7 @@ impl Draw {
     fn cut_call(&mut self, view: &View) -> Vec<Call> {
         let mut calls = match self.random.below(20) {
             0..11 => self.commit(view),
-            11..15 => vec![Call::Fold],
+            11..15 => vec![Call::Checkpoint],
             15..17 => vec![self.batch()],
             17 => vec![Call::Open(self.opening())],
             18 => vec![Call::Create],

@@ -29,7 +29,7 @@ impl Draw {
         calls
     }
 
-    /// Under salt 0 zeros are good frames, of page 0 and unsealed: so a log
+    /// Under salt 0 zeros are good frames, of page 0 and uncommitted: so a log
     /// of some hundred frames is made by its length.
     fn many_frames(&mut self) -> Vec<Call> {
         let frames = match self.theme {
@@ -57,7 +57,7 @@ impl Draw {
             Theme::Hundred => self.near_a_hundred(view),
             Theme::Full => self.full(view),
             Theme::Wide => self.wide(view),
-            Theme::Tails => self.tail(view),
+            Theme::UncommittedFrames => self.uncommitted_frames(view),
         }
     }
 
@@ -147,9 +147,9 @@ impl Draw {
         calls
     }
 
-    /// Unsealed frames behind the log's end; opened; another commit, which
+    /// Uncommitted frames behind the log's end; opened; another commit, which
     /// may take them in; opened again.
-    fn tail(&mut self, view: &View) -> Vec<Call> {
+    fn uncommitted_frames(&mut self, view: &View) -> Vec<Call> {
         let count = view.header.page_count;
         let mut calls = vec![Call::Drop];
         for _ in 0..self.random.between(1, 3) {
@@ -171,7 +171,7 @@ impl Draw {
         calls.extend(self.stage_some(count, 2));
         calls.push(self.commit_to(count));
         if self.random.one_in(5) {
-            calls.push(Call::Fold);
+            calls.push(Call::Checkpoint);
         }
         calls.extend([Call::Drop, Call::Open(self.opening()), Call::Pages]);
         calls

@@ -1,8 +1,8 @@
-//! The port's two files, to which each named store is carried as a host
+//! The port's two files, on which each write is done as a host
 //! would, and the cut that may fall on one.
 
 use crate::edit::{File, put};
-use crate::side::{Area, Cut, CutStore, Named};
+use crate::side::{Area, Cut, CutWrite, Write};
 
 /// A file's first bytes up to here are wholly old or wholly new.
 const UNTORN: usize = 32;
@@ -31,40 +31,40 @@ impl Files {
 
 /// The stores of one call. The store that the cut falls on is stored in
 /// part, and the power is off from then on.
-pub struct Carrier {
+pub struct Writer {
     cut: Option<Cut>,
-    pub stores: Vec<Named>,
-    pub cut_store: Option<CutStore>,
+    pub writes: Vec<Write>,
+    pub cut_write: Option<CutWrite>,
 }
 
-impl Carrier {
+impl Writer {
     pub fn new(cut: Option<Cut>) -> Self {
         Self {
             cut,
-            stores: Vec::new(),
-            cut_store: None,
+            writes: Vec::new(),
+            cut_write: None,
         }
     }
 
-    /// Carries a store to its file; `bytes` are the named ones. Says whether
+    /// Does a write on its file; `bytes` are its own. Says whether
     /// the power is still on.
-    pub fn carry(&mut self, files: &mut Files, store: Named, bytes: &[u8]) -> bool {
-        let file = files.get_mut(store.area);
-        match self.cut.filter(|cut| cut.stores == self.stores.len()) {
+    pub fn write(&mut self, files: &mut Files, write: Write, bytes: &[u8]) -> bool {
+        let file = files.get_mut(write.area);
+        match self.cut.filter(|cut| cut.stores == self.writes.len()) {
             None => {
-                apply(file, &store, bytes, units(&store));
-                self.stores.push(store);
+                apply(file, &write, bytes, units(&write));
+                self.writes.push(write);
                 true
             }
             Some(cut) => {
-                let kept = kept(&store, cut.bytes);
-                apply(file, &store, bytes, kept);
-                self.cut_store = Some(CutStore {
-                    store: Named {
+                let stored = stored_part(&write, cut.bytes);
+                apply(file, &write, bytes, stored);
+                self.cut_write = Some(CutWrite {
+                    write: Write {
                         flush: false,
-                        ..store
+                        ..write
                     },
-                    bytes: kept,
+                    bytes: stored,
                     file: file.as_ref().map_or(0, Vec::len),
                 });
                 false
@@ -74,26 +74,26 @@ impl Carrier {
 }
 
 /// What a store is counted in: its bytes, but a length is one piece.
-fn units(store: &Named) -> usize {
-    store.length.max(1)
+fn units(write: &Write) -> usize {
+    write.length.max(1)
 }
 
 /// How much of a store a cut leaves after so many bytes.
-fn kept(store: &Named, bytes: u64) -> usize {
-    let bytes = bytes.min(units(store) as u64) as usize;
-    let untorn = UNTORN.saturating_sub(store.first).min(store.length);
+fn stored_part(write: &Write, bytes: u64) -> usize {
+    let bytes = bytes.min(units(write) as u64) as usize;
+    let untorn = UNTORN.saturating_sub(write.first).min(write.length);
     if bytes < untorn { 0 } else { bytes }
 }
 
-fn apply(file: &mut File, store: &Named, bytes: &[u8], kept: usize) {
-    if kept == 0 {
+fn apply(file: &mut File, write: &Write, bytes: &[u8], stored: usize) {
+    if stored == 0 {
         return;
     }
     let file = file.get_or_insert_default();
-    if store.is_length() {
-        file.resize(store.first, 0);
+    if write.is_length() {
+        file.resize(write.first, 0);
     } else {
-        put(file, store.first, &bytes[..kept]);
+        put(file, write.first, &bytes[..stored]);
     }
 }
 
@@ -101,8 +101,8 @@ fn apply(file: &mut File, store: &Named, bytes: &[u8], kept: usize) {
 mod tests {
     use super::*;
 
-    fn log(first: usize, length: usize) -> Named {
-        Named {
+    fn log(first: usize, length: usize) -> Write {
+        Write {
             area: Area::Log,
             first,
             length,
@@ -112,7 +112,7 @@ mod tests {
 
     #[test]
     fn lengths_and_first_bytes_are_whole_or_not_at_all() {
-        for (store, bytes, wanted) in [
+        for (write, bytes, wanted) in [
             (log(0, 32), 31, 0),
             (log(0, 32), 40, 32),
             (log(0, 4_096), 31, 0),
@@ -122,21 +122,21 @@ mod tests {
             (log(99, 0), 0, 0),
             (log(99, 0), 7, 1),
         ] {
-            assert_eq!(kept(&store, bytes), wanted, "{store} {bytes}");
+            assert_eq!(stored_part(&write, bytes), wanted, "{write} {bytes}");
         }
     }
 
     #[test]
     fn a_cut_ends_the_carrying() {
         let mut files = Files::default();
-        let mut carrier = Carrier::new(Some(Cut {
+        let mut writer = Writer::new(Some(Cut {
             stores: 1,
             bytes: 2,
         }));
-        assert!(carrier.carry(&mut files, log(3, 0), &[]));
-        assert!(!carrier.carry(&mut files, log(40, 3), &[7, 8, 9]));
-        assert_eq!(carrier.stores.len(), 1);
-        assert_eq!(carrier.cut_store.unwrap().file, 42);
+        assert!(writer.write(&mut files, log(3, 0), &[]));
+        assert!(!writer.write(&mut files, log(40, 3), &[7, 8, 9]));
+        assert_eq!(writer.writes.len(), 1);
+        assert_eq!(writer.cut_write.unwrap().file, 42);
         let file = files.log.unwrap();
         assert_eq!(file.len(), 42);
         assert_eq!(file[39..], [0, 7, 8]);

@@ -1,4 +1,4 @@
-//! Good frames, sealed in every way.
+//! Good frames, committed in every way.
 
 use super::headers::CREATED;
 use super::recipe::Recipe;
@@ -12,8 +12,8 @@ pub fn add_all(cases: &mut Cases) {
     full_logs(cases);
 }
 
-/// Four frames, each a seal or not: different pages, one page, page 0 as
-/// the seal or not, batches between.
+/// Four frames, each a commit frame or not: different pages, one page, page 0
+/// as the commit frame or not, batches between.
 fn patterns(cases: &mut Cases) {
     let batch = Body::new(5, 1).tombstone("t", 1);
     for pages in [
@@ -22,11 +22,11 @@ fn patterns(cases: &mut Cases) {
         [0, 1, 0, 2],
         [u32::MAX, 1, u32::MAX, 0],
     ] {
-        for seals in 0..16 {
+        for commits in 0..16 {
             let mut log = CREATED.log();
             for (index, page) in pages.into_iter().enumerate() {
-                let sealed = seals >> index & 1 == 1;
-                let count = if sealed { 9 - index as u32 } else { 0 };
+                let is_commit = commits >> index & 1 == 1;
+                let count = if is_commit { 9 - index as u32 } else { 0 };
                 let body = if page == u32::MAX {
                     batch.as_ref()
                 } else {
@@ -56,12 +56,12 @@ fn pages_and_counts(cases: &mut Cases) {
     }
 }
 
-/// 0 to 15 frames: never sealed, sealed at the end, at every frame, at the
-/// first, or two frames before the end.
+/// 0 to 15 frames: never committed, committed at the end, at every frame, at
+/// the first, or two frames before the end.
 fn full_logs(cases: &mut Cases) {
     for frames in 0..=15u32 {
-        let log = |seal: &dyn Fn(u32) -> u32, frame: &dyn Fn(Recipe, u32, u32) -> Recipe| {
-            (0..frames).fold(CREATED.log(), |log, index| frame(log, index, seal(index)))
+        let log = |count: &dyn Fn(u32) -> u32, frame: &dyn Fn(Recipe, u32, u32) -> Recipe| {
+            (0..frames).fold(CREATED.log(), |log, index| frame(log, index, count(index)))
         };
         let bare = |log: Recipe, index, count| log.page(index % 3, count, b"");
         let drawn = |log: Recipe, index, count| {
