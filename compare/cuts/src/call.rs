@@ -5,7 +5,7 @@ use std::fmt;
 
 /// An area that a call is lent one entry too short.
 #[derive(Clone, Copy, Debug, PartialEq, Eq)]
-pub enum Lent {
+pub enum AreaName {
     Table,
     Log,
     Main,
@@ -50,7 +50,7 @@ pub enum Call {
     /// An opening that is refused, in vain read-only or not.
     BadOpen(Fault, bool),
     /// A call with an area too short.
-    Short(Lent, Box<Call>),
+    Short(AreaName, Box<Call>),
     /// The call's writes cut: so many whole, so many bytes of the next; then a clean opening in
     /// other areas. Of `Step`: of all the steps that are left.
     Cut(Box<Call>, Place),
@@ -155,7 +155,7 @@ impl fmt::Display for Call {
             }
             Call::BeginCheckpoint(salt) | Call::Checkpoint(salt) => write!(f, " salt {salt:08x}"),
             Call::BadOpen(fault, read_only) => write!(f, " {fault:?} read-only {read_only}"),
-            Call::Short(lent, call) => write!(f, " {lent:?}: {call}"),
+            Call::Short(area, call) => write!(f, " {area:?}: {call}"),
             Call::Cut(call, place) => write!(f, " [{call}] {place}"),
             _ => Ok(()),
         }

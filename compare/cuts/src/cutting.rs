@@ -3,7 +3,7 @@
 use crate::call::{Call, Place};
 use crate::compare::{Check, compare_batches, compare_header, compare_pages, ensure};
 use crate::expected::Expected;
-use crate::files::{DoneWrite, Files};
+use crate::files::{DoneWrite, MemoryFiles};
 use crate::judge::Answer;
 use crate::places::places;
 use crate::world::World;
@@ -14,7 +14,7 @@ use splitmix::Random;
 
 /// A cut from which the history may go on, and the world's state at it.
 struct CutState {
-    files: Files,
+    files: MemoryFiles,
     expected: Expected,
     committed: Vec<u8>,
     place: Place,

@@ -1,7 +1,7 @@
 //! Draws the next call of a random history. It looks at the expected state, to come near the
 //! borders, but every call that it gives is one that a caller could make at any time.
 use crate::batch;
-use crate::call::{Call, Fault, Lent};
+use crate::call::{AreaName, Call, Fault};
 use crate::expected::Expected;
 use crate::judge::{AUTO_CHECKPOINT_THRESHOLD_FRAMES, LOG_FRAMES};
 use crate::model::{Header, PAGE};
@@ -307,11 +307,16 @@ impl Drawer {
 
     /// A call with one of the areas that it is lent too short.
     fn short(&mut self, expected: &Expected) -> Call {
-        let any = [Lent::Table, Lent::Log, Lent::Main, Lent::Staging];
-        let lent = self.random.pick(&any);
+        let any = [
+            AreaName::Table,
+            AreaName::Log,
+            AreaName::Main,
+            AreaName::Staging,
+        ];
+        let area = self.random.pick(&any);
         let call = match self.random.below(8) {
-            0 if lent == Lent::Staging => self.stage(expected),
-            1 if lent == Lent::Log => Call::Append(batch::draw_body(&mut self.random)),
+            0 if area == AreaName::Staging => self.stage(expected),
+            1 if area == AreaName::Log => Call::Append(batch::draw_body(&mut self.random)),
             2 => Call::Read(self.page(expected)),
             3 => self.commit(expected),
             4 => Call::Checkpoint(1),
@@ -319,6 +324,6 @@ impl Drawer {
             6 if expected.busy() => Call::Step,
             _ => Call::Open,
         };
-        Call::Short(lent, Box::new(call))
+        Call::Short(area, Box::new(call))
     }
 }

@@ -11,7 +11,7 @@ use std::collections::{BTreeMap, VecDeque};
 
 /// What refusals and writes depend on beside the model.
 #[derive(Clone, Debug)]
-pub struct Disk {
+pub struct DiskState {
     pub frames: usize,
     pub committed_frames: usize,
     pub log_pages: BTreeMap<u32, Page>,
@@ -23,7 +23,7 @@ pub struct Disk {
 #[derive(Clone, Debug)]
 pub struct Expected {
     pub model: Model,
-    pub disk: Disk,
+    pub disk: DiskState,
     /// The writes still to do: a commit or checkpoint is part done while there are any.
     pub todo: VecDeque<PlannedWrite>,
     /// What the commit or checkpoint under way answers at its end.
@@ -47,7 +47,7 @@ pub fn encode_header(header: &Header) -> Page {
     page.into()
 }
 
-impl Disk {
+impl DiskState {
     pub fn log_len(&self) -> usize {
         LOG_HEADER + FRAME * self.frames
     }
@@ -68,7 +68,7 @@ impl Disk {
 impl Expected {
     pub fn created(wrong: Wrong) -> Expected {
         let model = Model::created();
-        let disk = Disk {
+        let disk = DiskState {
             frames: 0,
             committed_frames: 0,
             log_pages: BTreeMap::new(),

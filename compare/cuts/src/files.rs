@@ -20,7 +20,7 @@ impl DoneWrite {
 }
 
 #[derive(Clone, Default)]
-pub struct Files {
+pub struct MemoryFiles {
     pub main: Vec<u8>,
     pub log: Vec<u8>,
 }
@@ -34,7 +34,7 @@ pub struct Undo {
     old: Vec<u8>,
 }
 
-impl Files {
+impl MemoryFiles {
     pub fn file(&self, area: Area) -> &Vec<u8> {
         match area {
             Area::Log => &self.log,
@@ -123,7 +123,7 @@ mod tests {
     }
 
     /// The files after a cut, which must be the same as before once it is undone.
-    fn cut(done: &DoneWrite, bytes: usize) -> Files {
+    fn cut(done: &DoneWrite, bytes: usize) -> MemoryFiles {
         let mut files = start();
         let undo = files.cut(done, bytes, Wrong::Not);
         let after = files.clone();
@@ -132,8 +132,8 @@ mod tests {
         after
     }
 
-    fn start() -> Files {
-        Files {
+    fn start() -> MemoryFiles {
+        MemoryFiles {
             main: vec![1; 40],
             log: vec![2; 34],
         }

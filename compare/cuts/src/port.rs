@@ -1,5 +1,5 @@
 //! One call, given to the port through its C interface.
-use crate::call::{Call, Fault, Lent, page_bytes};
+use crate::call::{AreaName, Call, Fault, page_bytes};
 use crate::expected::encode_header;
 use crate::judge::{Answer, Refused};
 use crate::model::{Header, PAGE};
@@ -67,7 +67,7 @@ pub fn run(engine: &mut Engine, call: &Call) -> Result<Answer, Refused> {
         Call::Step => step(engine),
         Call::Open => reopen(engine, None, None, false).map(nothing),
         Call::BadOpen(fault, read_only) => bad_open(engine, *fault, *read_only).map(nothing),
-        Call::Short(lent, call) => return short(engine, *lent, call),
+        Call::Short(area, call) => return short(engine, *area, call),
         Call::Cut(..) => unreachable!("a cut is made by the one who carries the stores"),
     }
     .map_err(refused)
@@ -151,13 +151,13 @@ fn open_with_page_zero(engine: &mut Engine, body: &[u8], read_only: bool) -> Res
     reopen(engine, None, Some(len + FRAME), read_only)
 }
 
-fn short(engine: &mut Engine, lent: Lent, call: &Call) -> Result<Answer, Refused> {
+fn short(engine: &mut Engine, area: AreaName, call: &Call) -> Result<Answer, Refused> {
     fn without_last<T: Clone + Default>(area: &mut Box<[T]>) -> Box<[T]> {
         let less = vec![T::default(); area.len() - 1];
         std::mem::replace(area, less.into())
     }
-    let answer = match lent {
-        Lent::Table => {
+    let answer = match area {
+        AreaName::Table => {
             let whole = without_last(&mut engine.table);
             engine.check_readable();
             let answer = run(engine, call);
@@ -165,10 +165,10 @@ fn short(engine: &mut Engine, lent: Lent, call: &Call) -> Result<Answer, Refused
             answer
         }
         _ => {
-            let whole = without_last(lent_bytes(engine, lent));
+            let whole = without_last(area_bytes(engine, area));
             engine.check_readable();
             let answer = run(engine, call);
-            *lent_bytes(engine, lent) = whole;
+            *area_bytes(engine, area) = whole;
             answer
         }
     };
@@ -176,10 +176,10 @@ fn short(engine: &mut Engine, lent: Lent, call: &Call) -> Result<Answer, Refused
     answer
 }
 
-fn lent_bytes(engine: &mut Engine, lent: Lent) -> &mut Box<[u8]> {
-    match lent {
-        Lent::Log => &mut engine.log,
-        Lent::Main => &mut engine.main,
-        Lent::Table | Lent::Staging => &mut engine.staging,
+fn area_bytes(engine: &mut Engine, area: AreaName) -> &mut Box<[u8]> {
+    match area {
+        AreaName::Log => &mut engine.log,
+        AreaName::Main => &mut engine.main,
+        AreaName::Table | AreaName::Staging => &mut engine.staging,
     }
 }

@@ -3,7 +3,7 @@
 use crate::call::Call;
 use crate::compare::{Check, compare_answers, compare_header, compare_pages, ensure};
 use crate::expected::Expected;
-use crate::files::{DoneWrite, Files};
+use crate::files::{DoneWrite, MemoryFiles};
 use crate::judge::{Answer, Plan, Refused};
 use crate::port;
 use crate::tally::Tally;
@@ -16,7 +16,7 @@ pub struct World {
     pub(crate) live: Engine,
     /// Where a cut is opened.
     pub(crate) probe: Engine,
-    pub(crate) files: Files,
+    pub(crate) files: MemoryFiles,
     pub expected: Expected,
     /// "Sealed log bytes: from 32 to the last whole seal's end, until a fold's log length 32."
     pub(crate) committed: Vec<u8>,
@@ -49,7 +49,7 @@ impl World {
         let mut world = World {
             live: spoiled_engine(1),
             probe: spoiled_engine(2),
-            files: Files::default(),
+            files: MemoryFiles::default(),
             expected: Expected::created(wrong),
             committed: Vec::new(),
             history: Vec::new(),

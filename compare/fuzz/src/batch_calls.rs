@@ -76,11 +76,11 @@ fn value_inside(world: &mut World, export: &str, value: &sys::Value, body: &Area
 
 fn decode(world: &mut World, export: &'static str) {
     let mut body = any_body(world);
-    let lent = body.lend_own();
-    let answer = unsafe { sys::lateenbael_mvcc_decode(lent.at, lent.len) };
+    let arg = body.lend_own();
+    let answer = unsafe { sys::lateenbael_mvcc_decode(arg.at, arg.len) };
     world.end(export, answer.refusal, true, &Writes::default());
     if answer.refusal == 0 {
-        world.inside(export, answer.end, 0, lent.len);
+        world.inside(export, answer.end, 0, arg.len);
     }
     world.unaltered(export, &body);
 }
@@ -88,11 +88,11 @@ fn decode(world: &mut World, export: &'static str) {
 fn decode_record(world: &mut World, export: &'static str) {
     let mut body = any_body(world);
     let at = cursor(world);
-    let lent = body.lend_own();
-    let answer = unsafe { sys::lateenbael_mvcc_decode_record(lent.at, lent.len, at) };
+    let arg = body.lend_own();
+    let answer = unsafe { sys::lateenbael_mvcc_decode_record(arg.at, arg.len, at) };
     world.end(export, answer.refusal, true, &Writes::default());
     if answer.refusal == 0 {
-        world.inside(export, answer.next, 0, lent.len);
+        world.inside(export, answer.next, 0, arg.len);
         text_inside(world, export, answer.table, &body);
     }
     world.unaltered(export, &body);
@@ -101,11 +101,11 @@ fn decode_record(world: &mut World, export: &'static str) {
 fn decode_column(world: &mut World, export: &'static str) {
     let mut body = any_body(world);
     let at = cursor(world);
-    let lent = body.lend_own();
-    let answer = unsafe { sys::lateenbael_mvcc_decode_column(lent.at, lent.len, at) };
+    let arg = body.lend_own();
+    let answer = unsafe { sys::lateenbael_mvcc_decode_column(arg.at, arg.len, at) };
     world.end(export, answer.refusal, true, &Writes::default());
     if answer.refusal == 0 {
-        world.inside(export, answer.next, 0, lent.len);
+        world.inside(export, answer.next, 0, arg.len);
         text_inside(world, export, answer.name, &body);
         value_inside(world, export, &answer.value, &body);
     }
@@ -115,11 +115,11 @@ fn decode_column(world: &mut World, export: &'static str) {
 fn decode_value(world: &mut World, export: &'static str) {
     let mut body = any_body(world);
     let at = cursor(world);
-    let lent = body.lend_own();
-    let answer = unsafe { sys::lateenbael_mvcc_decode_value(lent.at, lent.len, at) };
+    let arg = body.lend_own();
+    let answer = unsafe { sys::lateenbael_mvcc_decode_value(arg.at, arg.len, at) };
     world.end(export, answer.refusal, true, &Writes::default());
     if answer.refusal == 0 {
-        world.inside(export, answer.next, 0, lent.len);
+        world.inside(export, answer.next, 0, arg.len);
         value_inside(world, export, &answer.value, &body);
     }
     world.unaltered(export, &body);
@@ -128,8 +128,8 @@ fn decode_value(world: &mut World, export: &'static str) {
 fn vector_bits(world: &mut World, export: &'static str) {
     let mut body = any_body(world);
     let (first, count, index) = (cursor(world), cursor(world), cursor(world));
-    let lent = body.lend_own();
-    unsafe { sys::lateenbael_mvcc_vector_bits(lent.at, lent.len, first, count, index) };
+    let arg = body.lend_own();
+    unsafe { sys::lateenbael_mvcc_vector_bits(arg.at, arg.len, first, count, index) };
     world.end(export, 0, true, &Writes::default());
     world.unaltered(export, &body);
 }
@@ -137,9 +137,9 @@ fn vector_bits(world: &mut World, export: &'static str) {
 fn canonicalize(world: &mut World, export: &'static str) {
     let mut body = any_body(world);
     let mut out = world.slice(&[0x55; PAGE_SIZE]);
-    let lent = body.lend_own();
+    let arg = body.lend_own();
     let to = out.lend(&mut world.random);
-    let refusal = unsafe { sys::lateenbael_mvcc_canonicalize(lent.at, lent.len, to.at, to.len) };
+    let refusal = unsafe { sys::lateenbael_mvcc_canonicalize(arg.at, arg.len, to.at, to.len) };
     world.end(export, refusal, to.right, &Writes::default());
     if refusal == 0 {
         out.adopt(&out.all());
@@ -154,9 +154,9 @@ fn build(
     export: &'static str,
     call: impl FnOnce(&mut World, *mut u8, usize) -> Building,
 ) {
-    let lent = world.body.lend(&mut world.random);
-    let building = call(world, lent.at, lent.len);
-    world.end(export, building.refusal, lent.right, &Writes::default());
+    let arg = world.body.lend(&mut world.random);
+    let building = call(world, arg.at, arg.len);
+    world.end(export, building.refusal, arg.right, &Writes::default());
     if building.refusal == 0 {
         world.body.adopt(&world.body.all());
         world.building = building;
@@ -208,14 +208,14 @@ fn add(
 ) {
     let mut name = text(world);
     let building = forge::building(&mut world.random, world.building);
-    let lent = name.lend_own();
+    let arg = name.lend_own();
     // The record or column, and a column's value.
     let begin = building.at as usize;
     let k = world.random.below(world.begins.len() / 2) * 2;
     world.begins[k] = begin;
-    world.begins[k + 1] = begin.saturating_add(2 + lent.len);
+    world.begins[k + 1] = begin.saturating_add(2 + arg.len);
     build(world, export, |world, at, len| {
-        call(world, at, len, building, lent.at, lent.len)
+        call(world, at, len, building, arg.at, arg.len)
     });
     world.unaltered(export, &name);
 }
@@ -267,12 +267,12 @@ fn add_bool(world: &mut World, export: &'static str) {
 
 fn add_text(world: &mut World, export: &'static str) {
     let mut value = text(world);
-    let lent = value.lend_own();
+    let arg = value.lend_own();
     add(
         world,
         export,
         |_, at, len, building, name, name_len| unsafe {
-            sys::lateenbael_mvcc_add_text(at, len, building, name, name_len, lent.at, lent.len)
+            sys::lateenbael_mvcc_add_text(at, len, building, name, name_len, arg.at, arg.len)
         },
     );
     world.unaltered(export, &value);
@@ -280,12 +280,12 @@ fn add_text(world: &mut World, export: &'static str) {
 
 fn add_vector(world: &mut World, export: &'static str) {
     let mut value = text(world);
-    let lent = value.lend_own();
+    let arg = value.lend_own();
     add(
         world,
         export,
         |_, at, len, building, name, name_len| unsafe {
-            sys::lateenbael_mvcc_add_vector(at, len, building, name, name_len, lent.at, lent.len)
+            sys::lateenbael_mvcc_add_vector(at, len, building, name, name_len, arg.at, arg.len)
         },
     );
     world.unaltered(export, &value);

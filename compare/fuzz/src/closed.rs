@@ -75,7 +75,7 @@ pub const NO_BUILDING: Building = Building {
 
 /// The store that any numbers stand for: a kind of job that there is not is
 /// none, one of opening has no log, and numbers that tell nothing are 0.
-pub fn meant(store: Store) -> Store {
+pub fn normalized(store: Store) -> Store {
     let Store { mut wal, job, .. } = store;
     if wal.committed == 0 {
         wal.last_commit_page_count = 0;

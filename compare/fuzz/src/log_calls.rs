@@ -90,11 +90,11 @@ fn append_frame(world: &mut World, export: &'static str) {
     let writes = of_log(frames(wal.len, 1));
     world.begin(export, &writes);
     let log = world.log.lend(&mut world.random);
-    let lent = content.lend(&mut world.random);
+    let arg = content.lend(&mut world.random);
     let answer = unsafe {
-        sys::lateenbael_wal_append_frame(log.at, log.len, wal, page_num, lent.at, lent.len, count)
+        sys::lateenbael_wal_append_frame(log.at, log.len, wal, page_num, arg.at, arg.len, count)
     };
-    world.end(export, answer.refusal, log.right && lent.right, &writes);
+    world.end(export, answer.refusal, log.right && arg.right, &writes);
     world.unaltered(export, &content);
     take(world, export, &answer);
 }
@@ -105,9 +105,9 @@ fn append_mvcc_batch(world: &mut World, export: &'static str) {
     let writes = of_log(frames(wal.len, 1));
     world.begin(export, &writes);
     let log = world.log.lend(&mut world.random);
-    let lent = body.lend_own();
+    let arg = body.lend_own();
     let answer =
-        unsafe { sys::lateenbael_wal_append_mvcc_batch(log.at, log.len, wal, lent.at, lent.len) };
+        unsafe { sys::lateenbael_wal_append_mvcc_batch(log.at, log.len, wal, arg.at, arg.len) };
     world.end(export, answer.refusal, log.right, &writes);
     world.unaltered(export, &body);
     take(world, export, &answer);
@@ -182,8 +182,8 @@ fn list_log(world: &mut World, export: &'static str) {
         _ => LISTING_SIZE + world.random.below(10),
     };
     let mut out = world.slice(&vec![0x33; size]);
-    let lent = out.lend_own();
-    let answer = unsafe { sys::lateenbael_list_log(at, len, lent.at, lent.len) };
+    let arg = out.lend_own();
+    let answer = unsafe { sys::lateenbael_list_log(at, len, arg.at, arg.len) };
     world.end(export, answer.refusal, true, &Writes::default());
     if answer.refusal == 0 {
         world.inside(export, 0, answer.len, size);
@@ -211,8 +211,8 @@ fn encode_header(world: &mut World, export: &'static str) {
     let header = forge::db_header(&mut world.random, world.store.current_header);
     let size = buffer_len(world);
     let mut buf = world.slice(&vec![0x44; size]);
-    let lent = buf.lend_own();
-    let refusal = unsafe { sys::lateenbael_encode_header(header, lent.at, lent.len) };
+    let arg = buf.lend_own();
+    let refusal = unsafe { sys::lateenbael_encode_header(header, arg.at, arg.len) };
     world.end(export, refusal, true, &Writes::default());
     if refusal == 0 {
         buf.adopt(&buf.all());
@@ -236,8 +236,8 @@ fn decode_header(world: &mut World, export: &'static str) {
         bytes[at] = world.random.u8();
     }
     let mut buf = world.slice(&bytes);
-    let lent = buf.lend_own();
-    let answer = unsafe { sys::lateenbael_decode_header(lent.at, lent.len) };
+    let arg = buf.lend_own();
+    let answer = unsafe { sys::lateenbael_decode_header(arg.at, arg.len) };
     world.end(export, answer.refusal, true, &Writes::default());
     world.unaltered(export, &buf);
 }

@@ -297,7 +297,7 @@ fn stage_in(world: &mut World, export: &'static str) {
     };
     world.begin(export, &writes);
     let staging = world.staging.lend(&mut world.random);
-    let lent = page.lend(&mut world.random);
+    let arg = page.lend(&mut world.random);
     let done = unsafe {
         sys::lateenbael_stage_in(
             store.job.kind,
@@ -306,11 +306,11 @@ fn stage_in(world: &mut World, export: &'static str) {
             &mut staged,
             staging.at,
             staging.len,
-            lent.at,
-            lent.len,
+            arg.at,
+            arg.len,
         )
     };
-    world.end(export, done.refusal, staging.right && lent.right, &writes);
+    world.end(export, done.refusal, staging.right && arg.right, &writes);
     world.unaltered(export, &page);
     if done.refusal != 0 {
         assert_eq!(
@@ -333,18 +333,11 @@ fn stage_page(world: &mut World, export: &'static str) {
     };
     world.begin(export, &writes);
     let staging = world.staging.lend(&mut world.random);
-    let lent = page.lend(&mut world.random);
+    let arg = page.lend(&mut world.random);
     let answered = unsafe {
-        sys::lateenbael_stage_page(
-            given.0,
-            staging.at,
-            staging.len,
-            page_num,
-            lent.at,
-            lent.len,
-        )
+        sys::lateenbael_stage_page(given.0, staging.at, staging.len, page_num, arg.at, arg.len)
     };
-    let right = staging.right && lent.right;
+    let right = staging.right && arg.right;
     world.end(export, answered.refusal, right, &writes);
     world.unaltered(export, &page);
     world.take(export, given, &answered);
@@ -372,9 +365,9 @@ fn append_mvcc_batch(world: &mut World, export: &'static str) {
     };
     world.begin(export, &writes);
     let log = world.log.lend(&mut world.random);
-    let lent = body.lend_own();
+    let arg = body.lend_own();
     let answered =
-        unsafe { sys::lateenbael_append_mvcc_batch(given.0, log.at, log.len, lent.at, lent.len) };
+        unsafe { sys::lateenbael_append_mvcc_batch(given.0, log.at, log.len, arg.at, arg.len) };
     world.end(export, answered.refusal, log.right, &writes);
     world.unaltered(export, &body);
     world.take(export, given, &answered);

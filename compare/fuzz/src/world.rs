@@ -7,8 +7,8 @@ use lateenbael_sys as sys;
 use splitmix::Random;
 use sys::{Answered, Building, Store, Wal};
 
-use crate::area::{Area, Lent};
-use crate::closed::{CLOSED, NO_BUILDING, NO_WAL, meant};
+use crate::area::{Area, SliceArg};
+use crate::closed::{CLOSED, NO_BUILDING, NO_WAL, normalized};
 use crate::edges;
 use crate::forge;
 use crate::tally::Tally;
@@ -117,7 +117,7 @@ impl World {
             self.tally
                 .fault(export, "a wrong length was not refused with 1");
         }
-        if !self.guards_hold() {
+        if !self.guards_intact() {
             self.tally.fault(export, "a byte outside was altered");
             std::process::exit(1);
         }
@@ -147,9 +147,9 @@ impl World {
         }
     }
 
-    fn guards_hold(&self) -> bool {
+    fn guards_intact(&self) -> bool {
         let bytes = [&self.log, &self.main, &self.staging, &self.body];
-        self.table.guards_hold() && bytes.iter().all(|area| area.guards_hold())
+        self.table.guards_intact() && bytes.iter().all(|area| area.guards_intact())
     }
 
     fn parts_hold(&self, writes: &Writes) -> bool {
@@ -178,7 +178,7 @@ impl World {
     pub fn take(&mut self, export: &str, given: (Store, bool), answered: &Answered) {
         let (store, forged) = given;
         if answered.refusal != 0 {
-            if answered.store != meant(store) {
+            if answered.store != normalized(store) {
                 self.tally.fault(export, "refused with another store");
             }
         } else if !forged || self.random.percent(30) {
@@ -207,7 +207,7 @@ impl World {
 
     /// What a call may only read, or was refused, is as it was.
     pub fn unaltered(&mut self, export: &str, slice: &Area<u8>) {
-        if !slice.guards_hold() || !slice.holds(&slice.all()) {
+        if !slice.guards_intact() || !slice.holds(&slice.all()) {
             self.tally
                 .fault(export, "a slice or what is around it was altered");
         }
@@ -227,7 +227,12 @@ fn is_outside(at: usize, len: usize, size: usize) -> bool {
 }
 
 /// All four areas, each with a length.
-pub type Four = (Lent<*mut u32>, Lent<*mut u8>, Lent<*mut u8>, Lent<*mut u8>);
+pub type Four = (
+    SliceArg<*mut u32>,
+    SliceArg<*mut u8>,
+    SliceArg<*mut u8>,
+    SliceArg<*mut u8>,
+);
 
 impl World {
     pub fn lend(&mut self) -> (Four, bool) {

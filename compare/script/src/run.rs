@@ -129,7 +129,7 @@ impl<S: Side> Runner<S> {
         }
     }
 
-    /// A call that stores nothing.
+    /// A call that writes nothing.
     fn in_memory(&mut self, call: &Call) -> String {
         match call {
             Call::Stage(page, spec) => match self.side.stage(*page, &spec.padded()) {

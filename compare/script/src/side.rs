@@ -113,7 +113,7 @@ impl Display for Refused {
 
 pub type Answer<T> = Result<T, Refused>;
 
-/// A call that may store.
+/// A call that may write to the files.
 #[derive(Debug, Clone, Copy)]
 pub enum Act<'a> {
     Create,
@@ -124,7 +124,7 @@ pub enum Act<'a> {
 }
 
 /// Its answer (a batch's records, a commit's or checkpoint's pages, else 0) and
-/// its stores: of one that was cut, the whole ones before.
+/// its writes: of one that was cut, the whole ones before.
 #[derive(Debug)]
 pub struct Performed {
     pub answer: Answer<usize>,

@@ -10,7 +10,7 @@ use crate::run::{Outcome, Runner};
 use crate::side::{Area, Side};
 
 /// The longest that a call is shown.
-const LONGEST: usize = 100;
+const LONGEST_CALL: usize = 100;
 
 /// All lines of a list. A line that is no call ends it.
 pub fn lines<S: Side>(list: &str, runner: &mut Runner<S>, writes: bool) -> Result<String, String> {
@@ -41,10 +41,10 @@ fn add(lines: &mut String, line: &str, outcome: &Outcome, writes: bool) {
 
 fn shown(call: &str) -> String {
     match call.chars().count() {
-        0..=LONGEST => call.to_string(),
+        0..=LONGEST_CALL => call.to_string(),
         _ => call
             .chars()
-            .take(LONGEST - 3)
+            .take(LONGEST_CALL - 3)
             .chain("...".chars())
             .collect(),
     }

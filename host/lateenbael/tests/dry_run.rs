@@ -4,12 +4,12 @@ use common::*;
 use lateenbael::{Disk, DryRun, Files, Mode, Salts, Store};
 
 /// The same calls on any disk.
-fn some_calls<D: Disk>(disk: D, salts: Salts) -> (Shown, usize) {
+fn some_calls<D: Disk>(disk: D, salts: Salts) -> (Contents, usize) {
     let mut store = Store::open_on(disk, Mode::ReadWrite, salts).unwrap();
     store.append_mvcc_batch(batch(1).body()).unwrap();
     commit_pages(&mut store, 5, &[1, 2, 3]);
     let checkpointed = store.checkpoint().unwrap();
-    (shown(&store), checkpointed)
+    (contents(&store), checkpointed)
 }
 
 #[test]

@@ -64,12 +64,12 @@ fn stays_stopped(store: &mut Store<Failing>) {
 }
 
 /// Header and pages, and the batches' times.
-type State = (Shown, Vec<u64>);
+type State = (Contents, Vec<u64>);
 
 /// What a clean opening shows.
 fn reopened(path: &Path) -> State {
     let store = open(path, Mode::ReadWrite);
-    (shown(&store), times(&store))
+    (contents(&store), times(&store))
 }
 
 /// How many bytes a write that fails has stored: stores that adjoin are one write, so it may end in any of them or between two.
@@ -169,12 +169,12 @@ fn in_a_creation() {
 }
 
 /// An opening whose disk fails at a call; what a read-only opening finds then.
-fn fails_in_opening(path: &Path, fails_at: usize) -> Result<Shown, Error> {
+fn fails_in_opening(path: &Path, fails_at: usize) -> Result<Contents, Error> {
     let disk = Failing::new(Files::existing(path, false).unwrap(), fails_at, 0);
     let answer = Store::open_on(disk, Mode::ReadWrite, counting_salts(1));
     assert!(matches!(answer, Err(Error::Io(_))));
     drop(answer);
-    Store::open(path, Mode::ReadOnly).map(|store| shown(&store))
+    Store::open(path, Mode::ReadOnly).map(|store| contents(&store))
 }
 
 #[test]
@@ -182,12 +182,12 @@ fn in_an_opening() {
     let folder = Folder::new();
     let path = folder.store();
     prepared(&path, 0);
-    let before = shown(&open(&path, Mode::ReadOnly));
+    let before = contents(&open(&path, Mode::ReadOnly));
     for fails_at in 0..2 {
         assert_eq!(fails_in_opening(&path, fails_at).unwrap(), before);
     }
     let disk = Failing::new(Files::existing(&path, false).unwrap(), 2, 0);
-    assert_eq!(shown(&Store::open_on(disk, Mode::ReadWrite, counting_salts(1)).unwrap()), before);
+    assert_eq!(contents(&Store::open_on(disk, Mode::ReadWrite, counting_salts(1)).unwrap()), before);
 }
 
 #[test]
@@ -196,7 +196,7 @@ fn in_an_opening_that_makes_the_log() {
     let path = folder.store();
     prepared(&path, 0);
     open(&path, Mode::ReadWrite).checkpoint().unwrap();
-    let before = shown(&open(&path, Mode::ReadOnly));
+    let before = contents(&open(&path, Mode::ReadOnly));
     for fails_at in 0..5 {
         std::fs::remove_file(wal_path_for(&path)).unwrap();
         match fails_at {

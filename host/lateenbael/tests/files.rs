@@ -75,12 +75,12 @@ fn what_was_committed_is_there_after_every_opening() {
     store.append_mvcc_batch(batch(4).body()).unwrap();
     assert_eq!(commit_pages(&mut store, 2, &[1, 2, 3]), 3);
     assert_eq!(commit_pages(&mut store, 2, &[1, 9, 3]), 1);
-    let before = shown(&store);
+    let before = contents(&store);
     assert_eq!(times(&store), []);
     drop(store);
     for mode in [Mode::ReadOnly, Mode::Plain, Mode::ReadWrite] {
         let store = open(&path, mode);
-        assert_eq!(shown(&store), before);
+        assert_eq!(contents(&store), before);
         assert_eq!(times(&store), [5, 4]);
         assert_eq!(store.frame_count().unwrap(), 8);
     }
@@ -88,12 +88,12 @@ fn what_was_committed_is_there_after_every_opening() {
     store.observe_clock_high_water(40).unwrap();
     assert_eq!(store.checkpoint().unwrap(), 3);
     assert_eq!(times(&store), []);
-    assert_eq!(shown(&store), before);
+    assert_eq!(contents(&store), before);
     drop(store);
     let [main, log] = bytes_of(&path).map(Option::unwrap);
     assert_eq!((main.len(), log.len()), (5 * PAGE, 32));
     let store = open(&path, Mode::ReadWrite);
-    assert_eq!(shown(&store), before);
+    assert_eq!(contents(&store), before);
     assert_eq!(store.clock_high_water().unwrap(), 40);
 }
 
@@ -111,7 +111,7 @@ fn the_hundredth_frame_brings_a_checkpoint() {
     assert_ne!(store.wal_header().unwrap().salt, salt);
     drop(store);
     assert_eq!(bytes_of(&folder.store()).map(|bytes| bytes.unwrap().len()), [8192, 32]);
-    assert_eq!(shown(&open(&folder.store(), Mode::ReadOnly)).pages, [(1, page(99).to_vec())]);
+    assert_eq!(contents(&open(&folder.store(), Mode::ReadOnly)).pages, [(1, page(99).to_vec())]);
 }
 
 #[test]
@@ -142,10 +142,10 @@ fn areas_of_an_earlier_store_show_nothing_of_it() {
     let path = folder.store();
     let mut store = Store::create(&path).unwrap();
     commit_pages(&mut store, 1, &[4]);
-    let before = shown(&store);
+    let before = contents(&store);
     drop(store);
     let store = Store::open_in(earlier.into_engine(), &path, Mode::default()).unwrap();
-    assert_eq!(shown(&store), before);
+    assert_eq!(contents(&store), before);
     open(&other, Mode::default());
 }
 

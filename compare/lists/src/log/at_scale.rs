@@ -10,7 +10,7 @@ use super::headers::{CREATED, Header};
 use super::recipe::{LONGEST_LOG, Recipe};
 use super::{at_random, oracle, place};
 use crate::batch;
-use crate::frame::{Drawn, Heading};
+use crate::frame::{Heading, SeededFrame};
 use crate::hex;
 
 /// Compares a listing with the Rust's, log by log, up to the first
@@ -98,7 +98,7 @@ fn garbage(random: &mut Random) -> Recipe {
         2 => CREATED.log().length(random.below(33)),
         _ => {
             let heading = Heading::new(number(random), number(random), number(random));
-            any.drawn(Drawn::new(heading, 1, random.u32()))
+            any.seeded(SeededFrame::new(heading, 1, random.u32()))
         }
     }
 }
@@ -137,7 +137,11 @@ fn frame(random: &mut Random, log: Recipe) -> Recipe {
         }
         8..12 => {
             let heading = Heading::new(number(random), count, salt);
-            log.drawn(Drawn::new(heading, random.below(6) as u8, random.u32()))
+            log.seeded(SeededFrame::new(
+                heading,
+                random.below(6) as u8,
+                random.u32(),
+            ))
         }
         12..16 if salt == 0 => log.length(end),
         16 => {

@@ -4,7 +4,7 @@ use super::headers::CREATED;
 use super::recipe::Recipe;
 use crate::batch::body::Body;
 use crate::cases::Cases;
-use crate::frame::{Drawn, Heading};
+use crate::frame::{Heading, SeededFrame};
 
 pub fn add_all(cases: &mut Cases) {
     patterns(cases);
@@ -64,14 +64,14 @@ fn full_logs(cases: &mut Cases) {
             (0..frames).fold(CREATED.log(), |log, index| frame(log, index, count(index)))
         };
         let bare = |log: Recipe, index, count| log.page(index % 3, count, b"");
-        let drawn = |log: Recipe, index, count| {
+        let seeded = |log: Recipe, index, count| {
             let heading = Heading::new(index, count, log.salt());
-            log.drawn(Drawn::new(heading, index as u8 % 6, 1_000 + index))
+            log.seeded(SeededFrame::new(heading, index as u8 % 6, 1_000 + index))
         };
         cases.add(log(&|_| 0, &bare));
         cases.add(log(&|index| u32::from(index + 1 == frames), &bare));
-        cases.add(log(&|index| index + 1, &drawn));
-        cases.add(log(&|index| u32::from(index == 0), &drawn));
+        cases.add(log(&|index| index + 1, &seeded));
+        cases.add(log(&|index| u32::from(index == 0), &seeded));
         cases.add(log(&|index| u32::from(index + 3 == frames), &bare));
     }
 }

@@ -4,19 +4,19 @@ use super::headers::{CREATED, Header};
 use super::place;
 use super::recipe::Recipe;
 use crate::cases::Cases;
-use crate::frame::{Drawn, Heading};
+use crate::frame::{Heading, SeededFrame};
 
 /// A page and two commit frames, with bodies that have few zeros.
 pub fn three_frames() -> Recipe {
     let frame = |page, count, kind, seed| {
         let heading = Heading::new(page, count, CREATED.salt);
-        Drawn::new(heading, kind, seed)
+        SeededFrame::new(heading, kind, seed)
     };
     CREATED
         .log()
-        .drawn(frame(1, 0, 1, 11))
-        .drawn(frame(2, 3, 5, 4_096))
-        .drawn(frame(0, 4, 3, 13))
+        .seeded(frame(1, 0, 1, 11))
+        .seeded(frame(2, 3, 5, 4_096))
+        .seeded(frame(0, 4, 3, 13))
 }
 
 /// Bytes of a frame that a cut leaves.

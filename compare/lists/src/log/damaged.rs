@@ -5,7 +5,7 @@ use super::headers::{CREATED, Header};
 use super::place;
 use super::recipe::Recipe;
 use crate::cases::Cases;
-use crate::frame::{Drawn, Heading};
+use crate::frame::{Heading, SeededFrame};
 
 pub fn add_all(cases: &mut Cases) {
     headings(cases);
@@ -46,8 +46,8 @@ fn unseen(cases: &mut Cases) {
     };
     for at in [0, 1, 2, 31, 100, 3_000, 4_094] {
         // One byte, 1, in a body of zeros.
-        let drawn = Drawn::new(Heading::new(1, 2, CREATED.salt), 4, at + 4_096);
-        let log = CREATED.log().drawn(drawn).page(2, 3, b"");
+        let frame = SeededFrame::new(Heading::new(1, 2, CREATED.salt), 4, at + 4_096);
+        let log = CREATED.log().seeded(frame).page(2, 3, b"");
         cases.add(less_and_more(log, place(0) + 16 + at as usize));
     }
     for heading in [

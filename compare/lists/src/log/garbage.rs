@@ -6,7 +6,7 @@ use super::headers::CREATED;
 use super::place;
 use super::recipe::Recipe;
 use crate::cases::Cases;
-use crate::frame::{Drawn, Heading};
+use crate::frame::{Heading, SeededFrame};
 
 pub fn add_all(cases: &mut Cases) {
     alone(cases);
@@ -24,9 +24,9 @@ fn alone(cases: &mut Cases) {
     cases.add(main.length(8_192));
     cases.add(Recipe::default().bytes(b"SQLite format 3\0").length(4_096));
     for kind in 0..6 {
-        let frame = Drawn::new(Heading::new(random.u32(), 0, random.u32()), kind, 254);
-        cases.add(Recipe::default().drawn(frame));
-        cases.add(Recipe::default().drawn(frame).drawn(frame).length(5_000));
+        let frame = SeededFrame::new(Heading::new(random.u32(), 0, random.u32()), kind, 254);
+        cases.add(Recipe::default().seeded(frame));
+        cases.add(Recipe::default().seeded(frame).seeded(frame).length(5_000));
     }
     cases.add(Recipe::default().length(place(15)));
     // A header that isn't at the front.
@@ -51,7 +51,7 @@ fn behind_a_header(cases: &mut Cases) {
         let mut log = CREATED.log().page(page, 2, b"good");
         for index in 1..3 {
             let heading = Heading::new(page, 0, log.salt());
-            log = log.drawn(Drawn::new(heading, round % 6, random.u32()));
+            log = log.seeded(SeededFrame::new(heading, round % 6, random.u32()));
             // Some leave the salt as it is.
             let kept = random.pick(&[0, 0, 4, 8]);
             let put = random.bytes(16 - kept);

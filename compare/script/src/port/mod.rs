@@ -42,7 +42,7 @@ impl Port {
         }
     }
 
-    /// Whether the engine's areas have the files' bytes; a store that was
+    /// Whether the engine's areas have the files' bytes; a write that was
     /// not named would part them. Read-only without a log there is no file.
     pub fn areas_are_the_files(&self) -> bool {
         self.files.get(Area::Main) == Some(self.engine.main_file())
@@ -58,7 +58,7 @@ impl Port {
         writer.write(&mut self.files, write, bytes)
     }
 
-    /// "creation writes": the stores as the Rust makes them, both files
+    /// "creation writes": as the Rust does them, both files
     /// emptied first.
     fn create(&mut self, writer: &mut Writer) -> Answer<usize> {
         self.engine.create(self.salts.peek()).map_err(refused)?;
@@ -135,7 +135,7 @@ impl Port {
     }
 
     /// The steps to the end, or to the cut. The salt of a checkpoint is drawn
-    /// just before its log length store.
+    /// just before its log length is written.
     fn steps(&mut self, writer: &mut Writer) -> Answer<usize> {
         loop {
             self.probe.is_busy(&mut self.engine);

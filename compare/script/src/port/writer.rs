@@ -29,7 +29,7 @@ impl Files {
     }
 }
 
-/// The stores of one call. The store that the cut falls on is stored in
+/// The writes of one call. The one that the cut falls on is done in
 /// part, and the power is off from then on.
 pub struct Writer {
     cut: Option<Cut>,
@@ -73,12 +73,12 @@ impl Writer {
     }
 }
 
-/// What a store is counted in: its bytes, but a length is one piece.
+/// What a write is counted in: its bytes, but a length is one piece.
 fn units(write: &Write) -> usize {
     write.length.max(1)
 }
 
-/// How much of a store a cut leaves after so many bytes.
+/// How much of a write a cut leaves after so many bytes.
 fn stored_part(write: &Write, bytes: u64) -> usize {
     let bytes = bytes.min(units(write) as u64) as usize;
     let untorn = UNTORN.saturating_sub(write.first).min(write.length);
@@ -127,7 +127,7 @@ mod tests {
     }
 
     #[test]
-    fn a_cut_ends_the_carrying() {
+    fn a_cut_ends_the_writing() {
         let mut files = Files::default();
         let mut writer = Writer::new(Some(Cut {
             stores: 1,

@@ -11,7 +11,7 @@ use crate::run::{Outcome, PAGES, Runner};
 use crate::rust::Rust;
 use crate::side::{Area, Side};
 
-/// What is compared besides answers, stores, files, header and state: the
+/// What is compared besides answers, writes, files, header and state: the
 /// readings of all pages or of some, and the batches.
 pub struct Look {
     /// Some, if not all.

@@ -95,14 +95,14 @@ pub fn refusal<T>(answer: Result<T, Error>) -> Option<Refusal> {
 
 /// What a store shows: its header and its pages from 1 on.
 #[derive(Debug, PartialEq)]
-pub struct Shown {
+pub struct Contents {
     pub header: DbHeader,
     pub pages: Vec<(u32, Vec<u8>)>,
 }
 
-pub fn shown<D: Disk>(store: &Store<D>) -> Shown {
+pub fn contents<D: Disk>(store: &Store<D>) -> Contents {
     let read = |n| store.read_page(n).unwrap().map(|bytes| (n, bytes.to_vec()));
-    Shown {
+    Contents {
         header: store.header().unwrap(),
         pages: (1..PAGES as u32).filter_map(read).collect(),
     }
