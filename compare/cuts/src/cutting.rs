@@ -71,13 +71,13 @@ impl World {
             self.write_whole(done);
         }
         let done = writes.get(place.whole_writes);
-        // a list of calls that was shrunk may have another, shorter store there
+        // a list of calls that was shrunk may have another, shorter write there
         let most = done.map_or(0, |done| done.write.len.saturating_sub(1));
         let bytes = place.bytes.min(most);
         self.continue_from(done, &Place { bytes, ..*place })
     }
 
-    /// Opens the files cut in the next store and goes on with what was opened.
+    /// Opens the files cut in the next write and goes on with what was opened.
     fn continue_from(&mut self, done: Option<&DoneWrite>, place: &Place) -> Check {
         self.lend_probe(place.stale);
         let expected = self.expected.opened_after(place.bytes);
@@ -92,7 +92,7 @@ impl World {
         Ok(())
     }
 
-    /// Every store of the call cut after every byte of interest, at most so many cuts, each opened
+    /// Every write of the call cut after every byte of interest, at most so many cuts, each opened
     /// and compared. Then the history goes on, from one of the cuts or from the call's end.
     pub fn cut_everywhere(&mut self, call: &Call, random: &mut Random, most: usize) -> Check {
         if self.expected.judge(call).is_err() {
@@ -229,7 +229,7 @@ impl World {
 
     /// Cuts the write, opens the files in the probe's areas, compares with the expected state of
     /// the opened store, and takes the cut back. The areas hold the files as they are, but for an
-    /// earlier cut of the same store after fewer bytes.
+    /// earlier cut of the same write after fewer bytes.
     fn open_cut(&mut self, done: Option<&DoneWrite>, place: &Place, expected: &Expected) -> Check {
         let Some(done) = done else {
             return self.compare_opening(expected, place);

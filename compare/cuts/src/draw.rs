@@ -32,7 +32,7 @@ pub struct Drawer {
 /// How a call is to be made.
 pub enum Next {
     Call(Call),
-    /// Cut at every store.
+    /// Cut at every write.
     Cut(Call),
     /// A new store.
     Create,

@@ -200,7 +200,7 @@ impl Expected {
         self.enter(Entry::CleanOpening);
     }
 
-    /// A clean opening after a cut inside the next store: a main header of which more than its
+    /// A clean opening after a cut inside the next write: a main header of which more than its
     /// first 32 bytes are new counts for the main file's own pages.
     pub fn opened_after(&self, bytes: usize) -> Expected {
         let mut expected = self.clone();

@@ -1,4 +1,4 @@
-//! The two files, kept as two byte vectors, and a store cut inside.
+//! The two files, kept as two byte vectors, and a write cut inside.
 use crate::writes::LOG_HEADER;
 use crate::wrong::Wrong;
 use lateenbael::{Area, Write};
@@ -25,8 +25,8 @@ pub struct MemoryFiles {
     pub log: Vec<u8>,
 }
 
-/// What a cut store changed: from `from` on the file had these bytes, to its end or to where the
-/// store ends.
+/// What a cut write changed: from `from` on the file had these bytes, to its end or to where the
+/// write ends.
 pub struct Undo {
     area: Area,
     len: usize,
@@ -49,12 +49,12 @@ impl MemoryFiles {
         }
     }
 
-    /// A whole store.
+    /// A whole write.
     pub fn write(&mut self, done: &DoneWrite) {
         self.put(done, done.bytes.len().max(1));
     }
 
-    /// The store's first bytes. A length happens if there is one at all. "A byte stored past a
+    /// The write's first bytes. A length happens if there is one at all. "A byte stored past a
     /// file's end lengthens it."
     fn put(&mut self, done: &DoneWrite, bytes: usize) {
         let Write { area, at, .. } = done.write;

@@ -1,4 +1,4 @@
-//! Cuts: random histories of the port through its C interface, each store of the next call cut
+//! Cuts: random histories of the port through its C interface, each write of the next call cut
 //! after every byte of interest, a clean opening, and what it finds compared with the model
 //! of document 01.
 pub mod batch;

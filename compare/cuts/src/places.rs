@@ -1,4 +1,4 @@
-//! After which bytes a store is cut.
+//! After which bytes a write is cut.
 use crate::writes::LOG_HEADER;
 use lateenbael::Write;
 use splitmix::Random;

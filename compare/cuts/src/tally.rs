@@ -21,7 +21,7 @@ pub struct Tally {
     frames: BTreeMap<usize, usize>,
 }
 
-/// Where in a store the cut falls, for counting.
+/// Where in a write the cut falls, for counting.
 fn part(write: Option<&Write>, bytes: usize) -> &'static str {
     match write {
         None => "all stores whole",

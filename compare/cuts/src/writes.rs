@@ -41,7 +41,7 @@ impl WriteKind {
     }
 }
 
-/// A store, and what its call must name.
+/// A write as its call must name it, and what it is.
 #[derive(Clone, Debug)]
 pub struct PlannedWrite {
     pub kind: WriteKind,

@@ -55,7 +55,7 @@ impl Rust {
 
     /// Plain opening is the Rust's. "A clean opening, read-write only, cuts
     /// the log at the commit point": it is judged by a read-only opening,
-    /// which stores nothing; then the log is cut and opened plainly.
+    /// which writes nothing; then the log is cut and opened plainly.
     fn open(&mut self, opening: Opening) -> Answer<usize> {
         let main = main_file();
         judge::before_opening(&main, length_of(Area::Log))?;
@@ -119,7 +119,7 @@ fn opened(mode: AccessMode, main: &[u8]) -> Answer<Pager> {
     Ok(pager)
 }
 
-/// The one store of a clean opening, and a flush (DECISIONS.md, 38).
+/// The one write of a clean opening, and a flush (DECISIONS.md, 38).
 fn cut_at_commit_point(judged: &Pager) -> Result<()> {
     let frames = PagerCounts::of(judged).frames;
     let point = world::look_at(&path(Area::Log), |log| {

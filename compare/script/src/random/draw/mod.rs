@@ -96,7 +96,7 @@ impl Draw {
         }
     }
 
-    /// A cut after a few stores, or far into a long call.
+    /// A cut after a few writes, or far into a long call.
     fn cut(&mut self, view: &View) -> Call {
         let stores = match self.random.below(16) {
             0..4 => 0,
