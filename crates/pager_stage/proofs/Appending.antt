@@ -1,96 +1,68 @@
 -- Each way that appending a batch to the open store can end.
-use mathlib.Core.Path.{_≡_, refl, sym, _∙_}
+use mathlib.Core.Path.{_≡_, refl, sym, ap, _∙_}
 use mathlib.Core.Bool.{Bool, true, false}
-use mathlib.Core.List.{List, [], _∷_}
+use mathlib.Core.List.{List}
+use mathlib.Core.Option.{Option, none, some}
 use Prim.Native.Nat.{ℕ}
-use types.Run.{OneOf, miss}
-use denote.Enum.Declared.{tagOf}
-use borrow.Author.Tests.{eqb-true, leb-true}
+use native.Mathlib.Omega.{arith}
 use lib.Dec.{leb, eqb}
 use lib.ListN.{length}
 use Rattle.le.specs.Choice.{pick, both}
-use Rattle.le.proofs.Compare.{no-test, both-true}
-use Rattle.mvcc.specs.Seen.{refusalOf, decodes}
-use Rattle.wal.specs.Write.{hasRoom, withFrame}
+use Rattle.page.specs.Page.{pageSize}
+use Rattle.refusal.specs.Refusal.{unless, first, answered}
+use Rattle.refusal.specs.declared.Refusal.{Refusal}
+use Rattle.refusal.specs.declared.Refusal.the-variants as refusal
+use Rattle.mvcc.specs.Seen.{headingRefusal, headingJudged}
+use Rattle.mvcc.specs.declared.HeadingJudged.{HeadingJudged}
+use Rattle.mvcc.specs.declared.HeadingJudged.the-variants as heading
+use Rattle.wal.specs.Recovery.{walArea}
+use Rattle.wal.specs.Write.{withFrame}
 use Rattle.wal.specs.declared.Wal.{Wal}
-use Rattle.wal_batch.specs.Batch.{lent, batchAnswer, batchAfter}
+use Rattle.wal_batch.specs.Batch.{batchRefusal, batchAnswer, batchAfter}
 use Rattle.wal_batch.specs.declared.BatchAppended.{BatchAppended}
 use Rattle.wal_batch.specs.declared.BatchAppended.the-variants as done
-use Rattle.wal_batch.proofs.BatchAppended.{the-type}
-use Rattle.wal_batch.proofs.Answer.{Done, batch-done, batch-taken}
-use Rattle.pager_state.specs.World.{busy, readOnly, withWal}
-use Rattle.pager_state.specs.Batches.{appendAnswer, appends, batchFrame, appendBatch, appendAfter}
+use Rattle.pager_state.specs.World.{inArea, busy, readOnly, withWal}
+use Rattle.pager_state.specs.Batches.{appendRefusal, batchFrame, appendBatch, appendAfter}
 use Rattle.pager_state.specs.declared.Pager.{Pager}
 use Rattle.pager_state.specs.declared.PagerAppended.{PagerAppended}
-use Rattle.pager_state.specs.declared.BatchAnswer.{BatchAnswer}
 use Rattle.pager_state.specs.declared.BatchAnswer.the-variants as append
-use Rattle.pager_stage.specs.Append.{lowest, answerOf}
+use Rattle.pager_stage.specs.Append.{orElse, lowest}
 
--- ---- answers
+-- ---- a heading's refusal, or another
 
--- 1, 2 and 3 before a refusal
-lowest-by : (t a b : Bool) (x : BatchAnswer) → appends x ≡ false
-    → appends (pick t (pick a append.Short (pick b append.Magic x)) append.Area) ≡ false
-lowest-by true true b x n = refl
-lowest-by true false true x n = refl
-lowest-by true false false x n = n
-lowest-by false a b x n = refl
+abbrev pub judgedOr : HeadingJudged → Refusal → Refusal
+judgedOr heading.Fine other = other
+judgedOr (heading.Refused r) other = r
 
-lowest-refused : (n len : ℕ) (s : List ℕ) (x : BatchAnswer) → appends x ≡ false → appends (lowest n len s x) ≡ false
-lowest-refused n len s x =
-    lowest-by (both (both (eqb n 4210720) (leb len 4210720)) (leb (length s) 4096)) (eqb (refusalOf s) 2) (eqb (refusalOf s) 3) x
+by-judgement : (v : Option Refusal) (other : Refusal) → judgedOr (answered heading.Refused heading.Fine v) other ≡ orElse v other
+by-judgement none other = refl
+by-judgement (some r) other = refl
 
--- an answer of the log's that is no batch appended, as a match tells it
-refused-by : (x : BatchAppended) → OneOf (1 ∷ 2 ∷ 3 ∷ 4 ∷ 5 ∷ 6 ∷ 7 ∷ []) (tagOf the-type x) → appends (answerOf x) ≡ false
-refused-by (done.Appended w) k = absurd (miss (1 ∷ 2 ∷ 3 ∷ 4 ∷ 5 ∷ 6 ∷ 7 ∷ []) 0 tt k)
-refused-by done.Area k = refl
-refused-by done.Short k = refl
-refused-by done.Magic k = refl
-refused-by done.LogFull k = refl
-refused-by done.Truncated k = refl
-refused-by done.Tag k = refl
-refused-by done.Text k = refl
+pub heading-or : (s : List ℕ) (other : Refusal) → judgedOr (headingJudged s) other ≡ orElse (headingRefusal s) other
+heading-or s other = by-judgement (headingRefusal s) other
 
--- the log's answer and the store's go by the same tests
-same-by : (l v s two three room zero cut tag : Bool) (w : Wal)
-    → pick (both (both l v) s)
-    (pick two append.Short
-    (pick three append.Magic
-    (pick room (pick zero append.Appended (pick cut append.Truncated (pick tag append.Tag append.Text))) append.LogFull)))
-    append.Area
-    ≡ answerOf
-    (pick (both l (both v s))
-    (pick two done.Short
-    (pick three done.Magic
-    (pick room (pick zero (done.Appended w) (pick cut done.Truncated (pick tag done.Tag done.Text))) done.LogFull)))
-    done.Area)
-same-by false v s two three room zero cut tag w = refl
-same-by true false s two three room zero cut tag w = refl
-same-by true true false two three room zero cut tag w = refl
-same-by true true true true three room zero cut tag w = refl
-same-by true true true false true room zero cut tag w = refl
-same-by true true true false false false zero cut tag w = refl
-same-by true true true false false true true cut tag w = refl
-same-by true true true false false true false true tag w = refl
-same-by true true true false false true false false true w = refl
-same-by true true true false false true false false false w = refl
+-- ---- judgements
 
--- ---- the log's bytes after a refusal
+-- 1, 2 and 3 before another
+lowest-by : (t : Bool) (v rest : Option Refusal) (other : Refusal) → rest ≡ some other
+    → unless t refusal.Area (first v rest) ≡ some (pick t (orElse v other) refusal.Area)
+lowest-by true none rest other e = e
+lowest-by true (some r) rest other e = refl
+lowest-by false v rest other e = refl
 
-kept-by : (l : List ℕ) (w : Wal) (s m : List ℕ) (t : Bool) → both (lent l w s) (both (hasRoom w) (decodes s)) ≡ t
-    → appends (answerOf (batchAnswer l w s)) ≡ false → pick t m l ≡ l
-kept-by l w s m false e n = refl
-kept-by l w s m true e n =
-    let a = both-true (lent l w s) (both (hasRoom w) (decodes s)) e in
-    let b = both-true (eqb (length l) 4210720) (both (leb (w .len) 4210720) (leb (length s) 4096)) (a .0) in
-    let c = both-true (leb (w .len) 4210720) (leb (length s) 4096) (b .1) in
-    let d = both-true (hasRoom w) (decodes s) (a .1) in
-    let y = batch-taken l w s (eqb-true _ _ (b .0)) (leb-true _ _ (c .1)) (leb-true _ _ (d .0)) (d .1) in
-    no-test (rw y at (sym n))
+-- the log's judgement and the store's go by the same tests
+same-by : (l v s : Bool) (rest : Option Refusal) → unless (both (both l v) s) refusal.Area rest ≡ unless (both l (both v s)) refusal.Area rest
+same-by true v s rest = refl
+same-by false v s rest = refl
 
-kept : (l : List ℕ) (w : Wal) (s : List ℕ) → appends (answerOf (batchAnswer l w s)) ≡ false → batchAfter l w s ≡ l
-unfolding batchAfter
-kept l w s n = kept-by l w s _ _ refl n
+-- the log's answer tells its judgement
+refused-as : (u : Wal) (v : Option Refusal) (r : Refusal) → answered done.Refused (done.Appended u) v ≡ done.Refused r → v ≡ some r
+refused-as u none r e = absurd (let z : _≡_ {A = ℕ} 0 1 = cc in omega arith)
+refused-as u (some k) r e = let q : k ≡ r = cc in rw q
+
+appended-as : (u w : Wal) (v : Option Refusal) → answered done.Refused (done.Appended u) v ≡ done.Appended w → (v ≡ none) × (w ≡ u)
+appended-as u w none e = (refl, cc)
+appended-as u w (some k) e = absurd (let z : _≡_ {A = ℕ} 0 1 = cc in omega arith)
 
 -- ---- the ways
 
@@ -98,39 +70,37 @@ module _ (p : Pager) (l s : List ℕ) where
   abbrev pub Says : PagerAppended → List ℕ → Type 0
   Says r m = (r ≡ appendBatch p l s) × (m ≡ appendAfter p l s)
 
-  refused : (a : BatchAnswer) {r : PagerAppended} → appendAnswer p l s ≡ a → appends a ≡ false → r .answer ≡ a → r .pager ≡ p → Says r l
+  refused : (k : Refusal) {r : PagerAppended} → appendRefusal p l s ≡ some k → r .answer ≡ append.Refused k → r .pager ≡ p → Says r l
   unfolding appendBatch appendAfter
-  refused a e n f h = (rw (e, n, ← h, ← f), rw (e, n))
+  refused k e f h = (rw (e, ← h, ← f), rw e)
 
-  pub way-busy : {r : PagerAppended} → busy p ≡ true → r .answer ≡ lowest (length l) (p .wal .len) s append.Busy → r .pager ≡ p → Says r l
-  unfolding appendAnswer
-  way-busy b = refused (lowest (length l) (p .wal .len) s append.Busy) (rw b) (lowest-refused (length l) (p .wal .len) s append.Busy refl)
+  pub way-busy : {r : PagerAppended} → busy p ≡ true → r .answer ≡ append.Refused (lowest (length l) (p .wal .len) s refusal.Busy) → r .pager ≡ p → Says r l
+  unfolding appendRefusal
+  way-busy b = refused _ (lowest-by (both (inArea walArea (length l) (p .wal .len)) (leb (length s) pageSize)) (headingRefusal s) _ refusal.Busy (rw b))
 
   module _ (b : busy p ≡ false) where
-    pub way-read-only : {r : PagerAppended} → readOnly p ≡ true → r .answer ≡ lowest (length l) (p .wal .len) s append.ReadOnly → r .pager ≡ p
-        → Says r l
-    unfolding appendAnswer
-    way-read-only o =
-        refused (lowest (length l) (p .wal .len) s append.ReadOnly) (rw (b, o)) (lowest-refused (length l) (p .wal .len) s append.ReadOnly refl)
+    pub way-read-only : {r : PagerAppended} → readOnly p ≡ true → r .answer ≡ append.Refused (lowest (length l) (p .wal .len) s refusal.ReadOnly)
+        → r .pager ≡ p → Says r l
+    unfolding appendRefusal
+    way-read-only o = refused _ (lowest-by (both (inArea walArea (length l) (p .wal .len)) (leb (length s) pageSize)) (headingRefusal s) _ refusal.ReadOnly (rw (b, o)))
 
     module _ (o : readOnly p ≡ false) where
-      same : appendAnswer p l s ≡ answerOf (batchAnswer l (p .wal) s)
-      unfolding appendAnswer batchAnswer
-      same =
-          let n : ℕ = refusalOf s in
-          rw (b, o)
-          (same-by (eqb (length l) 4210720) (leb (p .wal .len) 4210720) (leb (length s) 4096) (eqb n 2) (eqb n 3) (hasRoom (p .wal)) (eqb n 0) (eqb n 17) (eqb n 18) (withFrame (p .wal) 0))
+      same : appendRefusal p l s ≡ batchRefusal l (p .wal) s
+      unfolding appendRefusal batchRefusal
+      same = rw (b, o) (same-by (eqb (length l) walArea) (leb (p .wal .len) walArea) (leb (length s) pageSize) _)
 
-      pub way-refused : (x : BatchAppended) {r : PagerAppended} {m : List ℕ} → OneOf (1 ∷ 2 ∷ 3 ∷ 4 ∷ 5 ∷ 6 ∷ 7 ∷ []) (tagOf the-type x) → x ≡ batchAnswer l (p .wal) s
-          → m ≡ batchAfter l (p .wal) s → r .answer ≡ answerOf x → r .pager ≡ p → Says r m
-      way-refused x k e g f h =
-          let n : appends (answerOf x) ≡ false = refused-by x k in
-          rw (g ∙ kept l (p .wal) s (rw e at n)) (refused (answerOf x) (same ∙ rw e) n f h)
+      pub way-refused : (k : Refusal) {r : PagerAppended} {m : List ℕ} → batchAnswer l (p .wal) s ≡ done.Refused k → m ≡ batchAfter l (p .wal) s
+          → r .answer ≡ append.Refused k → r .pager ≡ p → Says r m
+      unfolding batchAnswer batchAfter
+      way-refused k {r} {m} e g f h =
+          let v : batchRefusal l (p .wal) s ≡ some k = refused-as (withFrame (p .wal) 0) (batchRefusal l (p .wal) s) k e in
+          let n : m ≡ l = rw v at g in
+          rw n (refused k (same ∙ v) f h)
 
-      pub way-done : (v : Wal) {m : List ℕ} → batchAnswer l (p .wal) s ≡ done.Appended v → m ≡ batchAfter l (p .wal) s
-          → Says (record { answer = append.Appended; pager = withWal p v }) m
-      unfolding appendBatch appendAfter batchFrame
-      way-done v e g =
-          let d : Done l (p .wal) s v = batch-done l (p .wal) s v e in
-          let a : appendAnswer p l s ≡ append.Appended = same ∙ rw e in
-          (rw (a, d .is), g ∙ d .bytes ∙ rw a)
+      pub way-done : (v : Wal) {r : PagerAppended} {m : List ℕ} → batchAnswer l (p .wal) s ≡ done.Appended v → m ≡ batchAfter l (p .wal) s
+          → r .answer ≡ append.Appended → r .pager ≡ withWal p v → Says r m
+      unfolding appendBatch appendAfter batchFrame batchAnswer batchAfter
+      way-done v e g f h =
+          let d = appended-as (withFrame (p .wal) 0) v (batchRefusal l (p .wal) s) e in
+          let a : appendRefusal p l s ≡ none = same ∙ d .0 in
+          (rw (a, ← f, ← d .1, ← h), g ∙ rw (a, d .0))

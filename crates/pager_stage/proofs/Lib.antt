@@ -1,4 +1,3 @@
 -- The root of the proofs of `pager_stage`.
 pub mod Staging
 pub mod Appending
-pub mod InPlace

@@ -157,7 +157,7 @@ fn lowest(log: usize, len: usize, body: &[u8], other: Refusal) -> Refusal
     if PAGE_SIZE < body.len() {
         return Refusal::Area;
     }
-    match mvcc::judge_heading(body) {
+    match mvcc::heading_refusal(body) {
         HeadingJudged::Fine => other,
         HeadingJudged::Refused(refusal) => refusal,
     }

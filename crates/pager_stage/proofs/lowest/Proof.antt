@@ -1,13 +1,11 @@
-use mathlib.Core.Path.{_≡_, sym, _∙_}
+use mathlib.Core.Path.{_≡_, refl, _∙_}
 use denote.Ref.{now}
-use lib.Dec.{eqb}
 use borrow.Author.Tests.{eq-eqb, ne-eqb, le-leb, lt-leb}
-use Rattle.le.specs.Choice.{pick}
-use Rattle.mvcc.specs.Seen.{headingRefusal}
-use Rattle.mvcc.proofs.Heading.{heading-told}
-use Rattle.pager_state.specs.declared.BatchAnswer.the-variants as append
 use borrow.Author.Needs.{needs}
+use Rattle.mvcc.specs.declared.HeadingJudged.{HeadingJudged}
+use Rattle.refusal.specs.declared.Refusal.{Refusal}
 use Rattle.pager_stage.specs.Append.{lowest}
+use Rattle.pager_stage.proofs.Appending.{judgedOr, heading-or}
 use Rattle.pager_stage.proofs.lowest.Statement.{statement}
 use Rattle.pager_stage.proofs.lowest.Tie as tie
 
@@ -22,26 +20,21 @@ returns-3 c =
     let L = c .before in
     rw (eq-eqb _ _ (L .before .if1 .left), le-leb _ _ (L .if2 .left), lt-leb _ _ (c .if3 .taken))
 
--- what the definition says where no length is refused, by the heading's own number
-fine : (c : tie.After-heading-refusal) →
+-- where no length is refused, by what the heading answers
+fine : (c : tie.After-heading-refusal) {j : HeadingJudged} {r : Refusal} →
     let a = c .before .before .before .before .before .args in
-    pick (eqb (headingRefusal (now (a .body))) 2) append.Short (pick (eqb (headingRefusal (now (a .body))) 3) append.Magic (a .other))
-    ≡ lowest (a .log) (a .len) (now (a .body)) (a .other)
-fine c =
+    c .heading-refusal .result ≡ j → r ≡ judgedOr j (a .other) → r ≡ lowest (a .log) (a .len) (now (a .body)) (a .other)
+fine c e f =
     let L = c .before .before in
     let a = L .before .before .before .args in
-    rw (eq-eqb _ _ (L .before .if1 .left), le-leb _ _ (L .if2 .left), le-leb _ _ (c .before .if3 .left)) (heading-told (now (a .body)) append.Short append.Magic (a .other))
+    rw (eq-eqb _ _ (L .before .if1 .left), le-leb _ _ (L .if2 .left), le-leb _ _ (c .before .if3 .left))
+    (f ∙ rw (← e, c .heading-refusal .ensures) (heading-or (now (a .body)) (a .other)))
 
 returns-4 : tie.Need-returns-4
-returns-4 c = rw (← fine (c .before), sym (c .before .heading-refusal .ensures) ∙ c .match .keys1)
+returns-4 c = fine (c .before .before) (c .enum-told .given .1) refl
 
 returns-5 : tie.Need-returns-5
-returns-5 c = rw (← fine (c .before), sym (c .before .heading-refusal .ensures) ∙ c .match .keys2)
-
-returns-6 : tie.Need-returns-6
-returns-6 c =
-    let r = c .match .rest in
-    rw (← fine (c .before), ← c .before .heading-refusal .ensures, ne-eqb _ _ (r .0 .1), ne-eqb _ _ (r .1))
+returns-5 c = fine (c .before .before .before) (c .before .refusal .given .1) refl
 
 pub lowest-spec : {M : Type 1} → statement M
-lowest-spec = tie.close (tie.spec returns returns-2 returns-3 (search needs) returns-4 returns-5 returns-6)
+lowest-spec = tie.close (tie.spec returns returns-2 returns-3 (search needs) (search needs) (search needs) returns-4 returns-5)
