@@ -10,75 +10,40 @@ use Rattle.le.specs.Choice.{pick}
 use Rattle.page.specs.Page.{pageSize}
 use Rattle.wal.specs.Recovery.{walArea}
 use Rattle.pager_state.specs.World.{World}
-use Rattle.pager_state.specs.Overlay.{bytesAt, findPage, readPage}
-use Rattle.pager_state.specs.Opened as opened
-use Rattle.pager_state.specs.Opened.{Opens}
-use Rattle.pager_state.specs.Opening.{openedAnswer}
-use Rattle.pager_state.specs.Steps.{commitRefusal, checkpointRefusal}
-use Rattle.pager_state.specs.Steps as steps
+use Rattle.pager_state.specs.Overlay.{bytesAt, findPage, findRefusal, readPage}
 use Rattle.pager_state.specs.declared.Pager.{Pager}
 use Rattle.pager_state.specs.declared.PageFound.{PageFound}
 use Rattle.pager_state.specs.declared.PageFound.the-variants as found
 use Rattle.pager_state.specs.declared.StepAnswer.{StepAnswer}
 use Rattle.pager_state.specs.declared.StepAnswer.the-variants as step
-use Rattle.pager_state.specs.declared.CommitStart.{CommitStart}
-use Rattle.pager_state.specs.declared.CommitStart.the-variants as commit
-use Rattle.pager_state.specs.declared.CheckpointStart.{CheckpointStart}
-use Rattle.pager_state.specs.declared.CheckpointStart.the-variants as checkpoint
 use Rattle.capi_numbers.specs.Numbers.{storeOf}
-use Rattle.capi_answers.specs.Answers.{told, openNumber, openedAs, page, isInside, foundAs, bytesIn, committedRefusal, writtenRefusal, steppedAs}
-
--- ---- openings: the answer enum's number is that of what the opening comes to
-
-pub opened-told : (o : Opens) → told (openNumber (openedAnswer o .answer)) 0 0 (openedAnswer o .pager) ≡ openedAs o
-opened-told (opened.Opened p) = refl
-opened-told opened.Area = refl
-opened-told opened.Short = refl
-opened-told opened.Magic = refl
-opened-told opened.Version = refl
-opened-told opened.PageSize = refl
-opened-told opened.Limit = refl
-opened-told opened.MainShort = refl
-opened-told opened.PageZero = refl
-opened-told opened.ReadOnly = refl
+use Rattle.capi_answers.specs.Answers.{page, foundAs, bytesIn, steppedAs}
 
 -- ---- a step, done or not, gives the store after it
 
 pub step-store : (a : StepAnswer) (p : Pager) → steppedAs a p .store ≡ storeOf p
 step-store step.Idle p = refl
-step-store step.Area p = refl
 step-store (step.Stored x) p = refl
 step-store (step.Last x n) p = refl
-
--- ---- a call in one has the numbers of its beginning
-
-pub committed-refusal : (a : CommitStart) (n : ℕ) → committedRefusal (steps.committedAs a n) ≡ commitRefusal a
-committed-refusal commit.Begun n = refl
-committed-refusal commit.Area n = refl
-committed-refusal commit.Busy n = refl
-committed-refusal commit.ReadOnly n = refl
-committed-refusal commit.NewHeader n = refl
-committed-refusal (commit.Joining p) n = refl
-committed-refusal commit.LogFull n = refl
-
-pub written-refusal : (a : CheckpointStart) (n : ℕ) → writtenRefusal (steps.writtenAs a n) ≡ checkpointRefusal a
-written-refusal checkpoint.Begun n = refl
-written-refusal checkpoint.Nothing n = refl
-written-refusal checkpoint.Area n = refl
-written-refusal checkpoint.Busy n = refl
-written-refusal checkpoint.ReadOnly n = refl
+step-store (step.Refused r) p = refl
 
 -- ---- "Page reads answer with the page's own bytes": what a host finds at the place that it is told
 
-found-bytes : (w : World) (g : List ℕ) (f : PageFound) → isInside f ≡ true → bytesIn w g (foundAs f) ≡ bytesAt w g f
+log-bytes : (w : World) (g : List ℕ) (at : ℕ) (b : Bool) → pick b (page 0 1 at) (page 1 0 0) .refusal ≡ 0
+    → bytesIn w g (pick b (page 0 1 at) (page 1 0 0)) ≡ bytesAt w g (found.Log at)
+log-bytes w g at true e = refl
+log-bytes w g at false e = absurd (omega (arith, e))
+
+found-bytes : (w : World) (g : List ℕ) (f : PageFound) → foundAs f .refusal ≡ findRefusal f → bytesIn w g (foundAs f) ≡ bytesAt w g f
 found-bytes w g (found.Staged at) e = refl
-found-bytes w g (found.Log at) e = rw e
+found-bytes w g (found.Log at) e = log-bytes w g at (leb (at + pageSize) walArea) e
 found-bytes w g (found.Main at) e = refl
 found-bytes w g found.Nothing e = refl
-found-bytes w g found.Area e = refl
-found-bytes w g found.Busy e = refl
+found-bytes w g (found.Refused r) e = refl
 
-pub page-read : (w : World) (g : List ℕ) (n : ℕ) → isInside (findPage w g n) ≡ true → bytesIn w g (foundAs (findPage w g n)) ≡ readPage w g n
+-- unless a made-up table names a place with no whole page behind it, which alone is told as a refusal of the host's own
+pub page-read : (w : World) (g : List ℕ) (n : ℕ) → foundAs (findPage w g n) .refusal ≡ findRefusal (findPage w g n)
+    → bytesIn w g (foundAs (findPage w g n)) ≡ readPage w g n
 unfolding readPage
 page-read w g n = found-bytes w g (findPage w g n)
 
@@ -93,5 +58,4 @@ log-place (found.Log at) h = placed at (leb (at + pageSize) walArea) refl h
 log-place (found.Staged at) h = absurd (omega (arith, h))
 log-place (found.Main at) h = absurd (omega (arith, h))
 log-place found.Nothing h = absurd (omega (arith, h))
-log-place found.Area h = absurd (omega (arith, h))
-log-place found.Busy h = absurd (omega (arith, h))
+log-place (found.Refused r) h = absurd (omega (arith, h))

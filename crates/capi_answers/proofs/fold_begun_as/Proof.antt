@@ -1,10 +1,17 @@
+use mathlib.Core.Path.{sym, ap, _∙_}
+use Rattle.capi_answers.specs.Answers.{foldBegunAs}
 use borrow.Author.Needs.{needs}
 use Rattle.capi_answers.proofs.fold_begun_as.Statement.{statement}
 use Rattle.capi_answers.proofs.fold_begun_as.Tie as tie
 
 returns : tie.Need-returns
-returns c = rw (c .before .before .checkpoint-refusal .ensures, c .before .fold-begun .ensures) at (c .told .ensures)
+returns c = c .told .ensures ∙ ap (λ a. foldBegunAs a (c .before .before .before .before .args .call .pager)) (sym (c .before .enum-told .given .1))
+
+returns-2 : tie.Need-returns-2
+returns-2 c = c .told2 .ensures ∙ ap (λ a. foldBegunAs a (c .before .before .before .before .args .call .pager)) (sym (c .before .enum-told2 .given .1))
+
+returns-3 : tie.Need-returns-3
+returns-3 c = c .refused .ensures ∙ ap (λ a. foldBegunAs a (c .before .before .before .before .before .args .call .pager)) (sym (c .before .before .a .given .1))
 
 pub fold-begun-as-spec : {M : Type 1} → statement M
-fold-begun-as-spec =
-    tie.close (tie.spec (search needs) (search needs) (search needs) returns)
+fold-begun-as-spec = tie.close (tie.spec (search needs) (search needs) (search needs) (search needs) (search needs) (search needs) returns returns-2 returns-3)

@@ -17,12 +17,7 @@ returns-4 : tie.Need-returns-4
 returns-4 c = c .page3 .ensures ∙ ap foundAs (sym (c .before .enum-told .given .1))
 
 returns-5 : tie.Need-returns-5
-returns-5 c = c .page4 .ensures ∙ ap foundAs (sym (c .before .enum-told2 .given .1))
-
-returns-6 : tie.Need-returns-6
-returns-6 c = c .page5 .ensures ∙ ap foundAs (sym (c .before .enum-told3 .given .1))
+returns-5 c = rw (c .before .number .ensures) at (c .page4 .ensures) ∙ ap foundAs (sym (c .before .before .before .f4 .given .1))
 
 pub found-as-spec : {M : Type 1} → statement M
-found-as-spec =
-    tie.close
-    (tie.spec (search needs) (search needs) (search needs) (search needs) (search needs) (search needs) (search needs) (search needs) (search needs) (search needs) (search needs) (search needs) returns returns-2 returns-3 returns-4 returns-5 returns-6)
+found-as-spec = tie.close (tie.spec (search needs) (search needs) (search needs) (search needs) (search needs) (search needs) (search needs) (search needs) (search needs) (search needs) (search needs) returns returns-2 returns-3 returns-4 returns-5)

@@ -11,12 +11,7 @@ returns-2 : tie.Need-returns-2
 returns-2 c = c .place2 .ensures ∙ ap recoveredAs (sym (c .before .enum-told .given .1))
 
 returns-3 : tie.Need-returns-3
-returns-3 c = c .place3 .ensures ∙ ap recoveredAs (sym (c .before .enum-told2 .given .1))
-
-returns-4 : tie.Need-returns-4
-returns-4 c = c .place4 .ensures ∙ ap recoveredAs (sym (c .before .enum-told3 .given .1))
+returns-3 c = rw (c .before .number .ensures) at (c .place3 .ensures) ∙ ap recoveredAs (sym (c .before .before .before .f2 .given .1))
 
 pub recovered-as-spec : {M : Type 1} → statement M
-recovered-as-spec =
-    tie.close
-    (tie.spec (search needs) (search needs) (search needs) (search needs) (search needs) (search needs) (search needs) (search needs) returns returns-2 returns-3 returns-4)
+recovered-as-spec = tie.close (tie.spec (search needs) (search needs) (search needs) (search needs) (search needs) (search needs) (search needs) returns returns-2 returns-3)
