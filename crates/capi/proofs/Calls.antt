@@ -1,8 +1,11 @@
 -- What a call of the store gives, from what the pager's call of the same name gives: nothing is lost on the way in or out.
-use mathlib.Core.Path.{_≡_, ap, _∙_}
+use mathlib.Core.Path.{_≡_, refl, ap, _∙_}
 use mathlib.Core.Bool.{Bool}
 use mathlib.Core.List.{List}
+use mathlib.Core.Option.{Option, none, some}
 use Prim.Native.Nat.{ℕ}
+use Rattle.refusal.specs.Refusal.{numberOf, answered}
+use Rattle.refusal.specs.declared.Refusal.{Refusal}
 use Rattle.pager_state.specs.World.{World, world}
 use Rattle.pager_state.specs.Opening.{openPager, openedAnswer, openTable, openLogArea}
 use Rattle.pager_state.specs.Stores.{Disk}
@@ -10,11 +13,12 @@ use Rattle.pager_open.specs.Given.{how}
 use Rattle.pager_state.specs.declared.AccessMode.{AccessMode}
 use Rattle.pager_state.specs.declared.Pager.{Pager}
 use Rattle.pager_state.specs.declared.PagerOpened.{PagerOpened}
+use Rattle.pager_state.specs.declared.StageAnswer.the-variants as stage
+use Rattle.capi.specs.Store.{stagedNumber}
 use Rattle.capi_numbers.specs.Numbers.{pagerIn, storeOf}
 use Rattle.capi_numbers.specs.declared.Store.{Store}
 use Rattle.capi_numbers.proofs.Back.{store-back}
-use Rattle.capi_answers.proofs.Agree.{opened-told}
-use Rattle.capi_answers.specs.Answers.{told, openNumber, openedAs}
+use Rattle.capi_answers.specs.Answers.{openedAs}
 use Rattle.capi_answers.specs.declared.Answered.{Answered}
 
 -- ---- a call's contract, from those of its parts
@@ -45,8 +49,14 @@ pub by-opening : {b b′ : Bool} {m m′ : AccessMode} {t′ l′ : List ℕ} {k
     → let h = how clean m b salt in
     let g = how clean m′ b′ salt in
     (k ≡ openedAnswer (openPager h t d s)) × ((t′ ≡ openTable h t d s) × (l′ ≡ openLogArea h t d s))
-    → r ≡ told (openNumber (k .answer)) 0 0 (k .pager)
-    → (r ≡ openedAs (openPager g t d s)) × ((t′ ≡ openTable g t d s) × (l′ ≡ openLogArea g t d s))
+    → r ≡ openedAs (k .answer) (k .pager)
+    → (let a = openedAnswer (openPager g t d s) in r ≡ openedAs (a .answer) (a .pager)) × ((t′ ≡ openTable g t d s) × (l′ ≡ openLogArea g t d s))
 by-opening {b = b} {b′ = b′} {m′ = m′} clean salt t d s em eb h r =
     let e = ap (λ m. how clean m b salt) em ∙ ap (λ b. how clean m′ b salt) eb in
-    (r ∙ ap (λ (x : PagerOpened). told (openNumber (x .answer)) 0 0 (x .pager)) (h .0 ∙ ap (λ x. openedAnswer (openPager x t d s)) e) ∙ opened-told (openPager (how clean m′ b′ salt) t d s), (h .1 .0 ∙ ap (λ x. openTable x t d s) e, h .1 .1 ∙ ap (λ x. openLogArea x t d s) e))
+    (r ∙ ap (λ (x : PagerOpened). openedAs (x .answer) (x .pager)) (h .0 ∙ ap (λ x. openedAnswer (openPager x t d s)) e), (h .1 .0 ∙ ap (λ x. openTable x t d s) e, h .1 .1 ∙ ap (λ x. openLogArea x t d s) e))
+
+-- ---- staging: the answer's number is its judgement's
+
+pub number-told : (v : Option Refusal) → stagedNumber (answered stage.Refused stage.Staged v) ≡ numberOf v
+number-told none = refl
+number-told (some r) = refl

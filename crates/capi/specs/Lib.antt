@@ -1,3 +1,4 @@
 -- The root of the definitions of `capi`.
 pub mod Batch
 pub mod Log
+pub mod Store

@@ -1,18 +1,20 @@
 // The calls of the store. Each takes the store in numbers, makes the pager's call of the same name, and gives its answer in numbers.
 ghost use mathlib.Core.Path.{_≡_};
-ghost use mathlib.Core.Bool.{true, false};
+ghost use mathlib.Core.Bool.{true, false, not};
+ghost use lib.Dec.{eqb};
+ghost use Rattle.refusal.specs.Refusal.{numberOf};
 ghost use Rattle.pager_state.specs.World.{world};
-ghost use Rattle.pager_state.specs.Overlay.{findPage};
-ghost use Rattle.pager_state.specs.Staging.{stagePage, stageAfter, stageRefusal, clearStaged};
+ghost use Rattle.pager_state.specs.Overlay.{slots, placePage, findPage};
+ghost use Rattle.pager_state.specs.Staging.{stageRefusal, stagedAfter, stagingAfter, stagePage, stageAfter, clearStaged};
 ghost use Rattle.pager_state.specs.Queries.{header, accessMode, clockHighWater, observeClock};
 ghost use Rattle.pager_state.specs.Batches.{appendBatch, appendAfter, nextRecovered};
-ghost use Rattle.pager_state.specs.Opening.{create, createTable, createLog, createMain, openPager, openTable, openLogArea};
+ghost use Rattle.pager_state.specs.Opening.{create, createTable, createLog, createMain, openPager, openedAnswer, openTable, openLogArea};
 ghost use Rattle.pager_state.specs.Steps.{beginCommit, beginCheckpoint, stepAnswer, stepped, commitAnswer, commitWorld, checkpointAnswer, checkpointWorld};
 ghost use Rattle.pager_open.specs.Given.{how, files};
-ghost use Rattle.pager_stage.specs.StageIn.{slots, stageIn, stagedIn, stagingIn};
-ghost use Rattle.pager_read.specs.Reading.{mayRead, placePage, readEnd, readRefusal};
+ghost use Rattle.pager_read.specs.Reading.{mayRead, readEnd};
 ghost use Rattle.capi_numbers.specs.Numbers.{pagerIn};
 ghost use Rattle.capi_answers.specs.Answers.{flagIn, modeIn, createdAs, openedAs, headerAs, modeAs, clockAs, observedAs, foundAs, recoveredAs, stagedAs, clearedAs, appendedAs, commitBegunAs, foldBegunAs, committedAs, writtenAs, steppedAs};
+ghost use Rattle.capi.specs.Store.{readNumber, stagedNumber};
 use capi_answers::Answered;
 use capi_answers::BatchPlace;
 use capi_answers::HeaderAnswer;
@@ -22,6 +24,7 @@ use capi_answers::StepAnswered;
 use capi_numbers::Store;
 use header::DbHeader;
 use pager_read::ReadAnswer;
+use pager_state::StageAnswer;
 
 // ---- creation and openings
 
@@ -33,7 +36,9 @@ pub extern "C" fn lateenbael_create(
     staging: &[u8],
     salt: u32,
 ) -> Answered
-    ensures { λ r. ⌜ r ≡ createdAs (create (now (table .entry)) (now (log .entry)) (now (main .entry)) (now (staging .entry)) salt) ⌝ }
+    ensures { λ r. ⌜
+        (let a = create (now (table .entry)) (now (log .entry)) (now (main .entry)) (now (staging .entry)) salt in r ≡ createdAs (a .answer) (a .pager))
+        ⌝ }
     ensures { λ _. ⌜ now (table .exit) ≡ createTable (now (table .entry)) (now (log .entry)) (now (main .entry)) (now (staging .entry)) ⌝ }
     ensures { λ _. ⌜ now (log .exit) ≡ createLog (now (table .entry)) (now (log .entry)) (now (main .entry)) (now (staging .entry)) salt ⌝ }
     ensures { λ _. ⌜ now (main .exit) ≡ createMain (now (table .entry)) (now (log .entry)) (now (main .entry)) (now (staging .entry)) salt ⌝ }
@@ -53,9 +58,21 @@ pub extern "C" fn lateenbael_open_with_mode(
     log_exists: u32,
     salt: u32,
 ) -> Answered
-    ensures { λ r. ⌜ r ≡ openedAs (openPager (how false (modeIn «access_mode») (flagIn «log_exists») salt) (now (table .entry)) (files (now (main .entry)) «main_len» (now (log .entry)) «log_len») (now (staging .entry))) ⌝ }
-    ensures { λ _. ⌜ now (table .exit) ≡ openTable (how false (modeIn «access_mode») (flagIn «log_exists») salt) (now (table .entry)) (files (now (main .entry)) «main_len» (now (log .entry)) «log_len») (now (staging .entry)) ⌝ }
-    ensures { λ _. ⌜ now (log .exit) ≡ openLogArea (how false (modeIn «access_mode») (flagIn «log_exists») salt) (now (table .entry)) (files (now (main .entry)) «main_len» (now (log .entry)) «log_len») (now (staging .entry)) ⌝ }
+    ensures { λ r. ⌜
+        (let d = files (now (main .entry)) «main_len» (now (log .entry)) «log_len» in
+        let o = how false (modeIn «access_mode») (flagIn «log_exists») salt in
+        (let a = openedAnswer (openPager o (now (table .entry)) d (now (staging .entry))) in r ≡ openedAs (a .answer) (a .pager)))
+        ⌝ }
+    ensures { λ _. ⌜
+        (let d = files (now (main .entry)) «main_len» (now (log .entry)) «log_len» in
+        let o = how false (modeIn «access_mode») (flagIn «log_exists») salt in
+        now (table .exit) ≡ openTable o (now (table .entry)) d (now (staging .entry)))
+        ⌝ }
+    ensures { λ _. ⌜
+        (let d = files (now (main .entry)) «main_len» (now (log .entry)) «log_len» in
+        let o = how false (modeIn «access_mode») (flagIn «log_exists») salt in
+        now (log .exit) ≡ openLogArea o (now (table .entry)) d (now (staging .entry)))
+        ⌝ }
 {
     let mode = capi_answers::mode_in(access_mode);
     let exists = capi_answers::flag_in(log_exists);
@@ -84,9 +101,21 @@ pub extern "C" fn lateenbael_open_clean(
     log_exists: u32,
     salt: u32,
 ) -> Answered
-    ensures { λ r. ⌜ r ≡ openedAs (openPager (how true (modeIn «access_mode») (flagIn «log_exists») salt) (now (table .entry)) (files (now (main .entry)) «main_len» (now (log .entry)) «log_len») (now (staging .entry))) ⌝ }
-    ensures { λ _. ⌜ now (table .exit) ≡ openTable (how true (modeIn «access_mode») (flagIn «log_exists») salt) (now (table .entry)) (files (now (main .entry)) «main_len» (now (log .entry)) «log_len») (now (staging .entry)) ⌝ }
-    ensures { λ _. ⌜ now (log .exit) ≡ openLogArea (how true (modeIn «access_mode») (flagIn «log_exists») salt) (now (table .entry)) (files (now (main .entry)) «main_len» (now (log .entry)) «log_len») (now (staging .entry)) ⌝ }
+    ensures { λ r. ⌜
+        (let d = files (now (main .entry)) «main_len» (now (log .entry)) «log_len» in
+        let o = how true (modeIn «access_mode») (flagIn «log_exists») salt in
+        (let a = openedAnswer (openPager o (now (table .entry)) d (now (staging .entry))) in r ≡ openedAs (a .answer) (a .pager)))
+        ⌝ }
+    ensures { λ _. ⌜
+        (let d = files (now (main .entry)) «main_len» (now (log .entry)) «log_len» in
+        let o = how true (modeIn «access_mode») (flagIn «log_exists») salt in
+        now (table .exit) ≡ openTable o (now (table .entry)) d (now (staging .entry)))
+        ⌝ }
+    ensures { λ _. ⌜
+        (let d = files (now (main .entry)) «main_len» (now (log .entry)) «log_len» in
+        let o = how true (modeIn «access_mode») (flagIn «log_exists») salt in
+        now (log .exit) ≡ openLogArea o (now (table .entry)) d (now (staging .entry)))
+        ⌝ }
 {
     let mode = capi_answers::mode_in(access_mode);
     let exists = capi_answers::flag_in(log_exists);
@@ -128,7 +157,7 @@ pub extern "C" fn lateenbael_clock_high_water(store: Store) -> NumberAnswer
 
 #[no_mangle]
 pub extern "C" fn lateenbael_observe_clock_high_water(store: Store, value: u64) -> Answered
-    ensures { λ r. ⌜ r ≡ observedAs (observeClock (pagerIn store) value) ⌝ }
+    ensures { λ r. ⌜ (let a = observeClock (pagerIn store) value in r ≡ observedAs (a .answer) (a .pager)) ⌝ }
 {
     capi_answers::observed_as(pager_read::observe_clock_high_water(
         capi_numbers::pager_in(store),
@@ -147,7 +176,10 @@ pub extern "C" fn lateenbael_find_page(
     staging: &[u8],
     page_num: u32,
 ) -> PageAnswer
-    ensures { λ r. ⌜ r ≡ foundAs (findPage (world (pagerIn store) (now (table .entry)) (now (log .entry)) (now (main .entry))) (now (staging .entry)) «page_num») ⌝ }
+    ensures { λ r. ⌜
+        (let w = world (pagerIn store) (now (table .entry)) (now (log .entry)) (now (main .entry)) in
+        r ≡ foundAs (findPage w (now (staging .entry)) «page_num»))
+        ⌝ }
 {
     capi_answers::found_as(pager_read::find_page(
         capi_numbers::pager_in(store),
@@ -159,13 +191,12 @@ pub extern "C" fn lateenbael_find_page(
     ))
 }
 
-fn read_refusal(answer: ReadAnswer) -> u32
-    ensures { λ r. ⌜ r ≡ readRefusal answer ⌝ }
+fn read_number(answer: ReadAnswer) -> u32
+    ensures { λ r. ⌜ r ≡ readNumber answer ⌝ }
 {
     match answer {
         ReadAnswer::Allowed => 0,
-        ReadAnswer::Area => 1,
-        ReadAnswer::Busy => 9,
+        ReadAnswer::Refused(refusal) => refusal::number(refusal),
     }
 }
 
@@ -181,9 +212,11 @@ pub extern "C" fn lateenbael_may_read(
     main: &[u8],
     staging: &[u8],
 ) -> u32
-    ensures { λ r. ⌜ r ≡ readRefusal (mayRead «page_count» job «log_len» «main_len» (now (table .entry)) (now (log .entry)) (now (main .entry)) (now (staging .entry))) ⌝ }
+    ensures { λ r. ⌜
+        r ≡ readNumber (mayRead «page_count» job «log_len» «main_len» (now (table .entry)) (now (log .entry)) (now (main .entry)) (now (staging .entry)))
+        ⌝ }
 {
-    read_refusal(pager_read::may_read(
+    read_number(pager_read::may_read(
         page_count,
         job,
         log_len,
@@ -212,7 +245,7 @@ pub extern "C" fn lateenbael_place_page(
     staged: &[u16; 64],
     table: &[u32],
 ) -> PageAnswer
-    ensures { λ r. ⌜ r ≡ foundAs (placePage «page_count» «page_num» «staged_count» (now (staged .entry)) (now (table .entry))) ⌝ }
+    ensures { λ r. ⌜ r ≡ foundAs (placePage «page_count» (slots «staged_count» (now (staged .entry))) (now (table .entry)) «page_num») ⌝ }
 {
     capi_answers::found_as(pager_read::place_page(
         page_count,
@@ -245,7 +278,7 @@ pub extern "C" fn lateenbael_stage_page(
     page_num: u32,
     bytes: &[u8],
 ) -> Answered
-    ensures { λ r. ⌜ r ≡ stagedAs (stagePage (pagerIn store) (now (staging .entry)) «page_num» (now (bytes .entry))) ⌝ }
+    ensures { λ r. ⌜ (let a = stagePage (pagerIn store) (now (staging .entry)) «page_num» (now (bytes .entry)) in r ≡ stagedAs (a .answer) (a .pager)) ⌝ }
     ensures { λ _. ⌜ now (staging .exit) ≡ stageAfter (pagerIn store) (now (staging .entry)) «page_num» (now (bytes .entry)) ⌝ }
 {
     capi_answers::staged_as(pager_stage::stage_page(
@@ -254,6 +287,15 @@ pub extern "C" fn lateenbael_stage_page(
         page_num,
         bytes,
     ))
+}
+
+fn staged_number(answer: StageAnswer) -> u32
+    ensures { λ r. ⌜ r ≡ stagedNumber answer ⌝ }
+{
+    match answer {
+        StageAnswer::Staged => 0,
+        StageAnswer::Refused(refusal) => refusal::number(refusal),
+    }
 }
 
 // What staging in place gives: a refusal or 0, and how many pages are staged.
@@ -273,21 +315,30 @@ pub extern "C" fn lateenbael_stage_in(
     staging: &mut [u8],
     bytes: &[u8],
 ) -> StagedCount
-    ensures { λ r. ⌜ r .refusal ≡ stageRefusal (stageIn job «page_num» (slots «staged_count» (now (staged .entry))) (now (staging .entry)) (now (bytes .entry))) ⌝ }
-    ensures { λ r. ⌜ slots (r .count) (now (staged .exit)) ≡ stagedIn (stageIn job «page_num» (slots «staged_count» (now (staged .entry))) (now (staging .entry)) (now (bytes .entry))) (slots «staged_count» (now (staged .entry))) «page_num» ⌝ }
-    ensures { λ _. ⌜ now (staging .exit) ≡ stagingIn (stageIn job «page_num» (slots «staged_count» (now (staged .entry))) (now (staging .entry)) (now (bytes .entry))) (slots «staged_count» (now (staged .entry))) (now (staging .entry)) «page_num» (now (bytes .entry)) ⌝ }
+    ensures { λ r. ⌜
+        (let s = slots «staged_count» (now (staged .entry)) in
+        r .refusal ≡ numberOf (stageRefusal (not (eqb job 0)) s (now (staging .entry)) «page_num» (now (bytes .entry))))
+        ⌝ }
+    ensures { λ r. ⌜
+        (let s = slots «staged_count» (now (staged .entry)) in
+        slots (r .count) (now (staged .exit)) ≡ stagedAfter (not (eqb job 0)) s (now (staging .entry)) «page_num» (now (bytes .entry)))
+        ⌝ }
+    ensures { λ _. ⌜
+        (let s = slots «staged_count» (now (staged .entry)) in
+        now (staging .exit) ≡ stagingAfter (not (eqb job 0)) s (now (staging .entry)) «page_num» (now (bytes .entry)))
+        ⌝ }
 {
     let done = pager_stage::stage_in(job, page_num, staged_count, staged, staging, bytes);
     let answer = done.answer;
     StagedCount {
-        refusal: capi_answers::stage_refusal(answer),
+        refusal: staged_number(answer),
         count: done.count,
     }
 }
 
 #[no_mangle]
 pub extern "C" fn lateenbael_clear_staged(store: Store) -> Answered
-    ensures { λ r. ⌜ r ≡ clearedAs (clearStaged (pagerIn store)) ⌝ }
+    ensures { λ r. ⌜ (let a = clearStaged (pagerIn store) in r ≡ clearedAs (a .answer) (a .pager)) ⌝ }
 {
     capi_answers::cleared_as(pager_stage::clear_staged(capi_numbers::pager_in(store)))
 }
@@ -298,7 +349,7 @@ pub extern "C" fn lateenbael_append_mvcc_batch(
     log: &mut [u8],
     body: &[u8],
 ) -> Answered
-    ensures { λ r. ⌜ r ≡ appendedAs (appendBatch (pagerIn store) (now (log .entry)) (now (body .entry))) ⌝ }
+    ensures { λ r. ⌜ (let a = appendBatch (pagerIn store) (now (log .entry)) (now (body .entry)) in r ≡ appendedAs (a .answer) (a .pager)) ⌝ }
     ensures { λ _. ⌜ now (log .exit) ≡ appendAfter (pagerIn store) (now (log .entry)) (now (body .entry)) ⌝ }
 {
     capi_answers::appended_as(pager_stage::append_mvcc_batch(
@@ -320,7 +371,10 @@ pub extern "C" fn lateenbael_begin_commit<'a>(
     new_header: DbHeader,
     salt: u32,
 ) -> Answered
-    ensures { λ r. ⌜ r ≡ commitBegunAs (beginCommit (now (staging .entry)) (world (pagerIn store) (now (table .entry)) (now (log .entry)) (now (main .entry))) «new_header» salt) ⌝ }
+    ensures { λ r. ⌜
+        (let w = world (pagerIn store) (now (table .entry)) (now (log .entry)) (now (main .entry)) in
+        (let a = beginCommit (now (staging .entry)) w «new_header» salt in r ≡ commitBegunAs (a .answer) (a .pager)))
+        ⌝ }
 {
     capi_answers::commit_begun_as(pager_commit::begin_commit(
         capi_numbers::pager_in(store),
@@ -342,7 +396,10 @@ pub extern "C" fn lateenbael_begin_checkpoint(
     staging: &[u8],
     salt: u32,
 ) -> Answered
-    ensures { λ r. ⌜ r ≡ foldBegunAs (beginCheckpoint (now (staging .entry)) (world (pagerIn store) (now (table .entry)) (now (log .entry)) (now (main .entry))) salt) ⌝ }
+    ensures { λ r. ⌜
+        (let w = world (pagerIn store) (now (table .entry)) (now (log .entry)) (now (main .entry)) in
+        (let a = beginCheckpoint (now (staging .entry)) w salt in r ≡ foldBegunAs (a .answer) (a .pager)))
+        ⌝ }
 {
     capi_answers::fold_begun_as(pager_fold::begin_checkpoint(
         capi_numbers::pager_in(store),
@@ -364,8 +421,15 @@ pub extern "C" fn lateenbael_next_step(
     main: &mut [u8],
     staging: &[u8],
 ) -> StepAnswered
-    ensures { λ r. ⌜ r ≡ steppedAs (stepAnswer (now (staging .entry)) (world (pagerIn store) (now (table .entry)) (now (log .entry)) (now (main .entry)))) (stepped (now (staging .entry)) (world (pagerIn store) (now (table .entry)) (now (log .entry)) (now (main .entry))) .pager) ⌝ }
-    ensures { λ r. ⌜ world (pagerIn (r .store)) (now (table .exit)) (now (log .exit)) (now (main .exit)) ≡ stepped (now (staging .entry)) (world (pagerIn store) (now (table .entry)) (now (log .entry)) (now (main .entry))) ⌝ }
+    ensures { λ r. ⌜
+        (let w = world (pagerIn store) (now (table .entry)) (now (log .entry)) (now (main .entry)) in
+        let g = now (staging .entry) in
+        r ≡ steppedAs (stepAnswer g w) (stepped g w .pager))
+        ⌝ }
+    ensures { λ r. ⌜
+        (let w = world (pagerIn store) (now (table .entry)) (now (log .entry)) (now (main .entry)) in
+        world (pagerIn (r .store)) (now (table .exit)) (now (log .exit)) (now (main .exit)) ≡ stepped (now (staging .entry)) w)
+        ⌝ }
 {
     capi_answers::stepped_as(pager::next_step(
         capi_numbers::pager_in(store),
@@ -388,8 +452,15 @@ pub extern "C" fn lateenbael_commit(
     new_header: DbHeader,
     salt: u32,
 ) -> Answered
-    ensures { λ r. ⌜ r ≡ committedAs (commitAnswer (now (staging .entry)) (world (pagerIn store) (now (table .entry)) (now (log .entry)) (now (main .entry))) «new_header») (commitWorld (now (staging .entry)) (world (pagerIn store) (now (table .entry)) (now (log .entry)) (now (main .entry))) «new_header» salt .pager) ⌝ }
-    ensures { λ r. ⌜ world (pagerIn (r .store)) (now (table .exit)) (now (log .exit)) (now (main .exit)) ≡ commitWorld (now (staging .entry)) (world (pagerIn store) (now (table .entry)) (now (log .entry)) (now (main .entry))) «new_header» salt ⌝ }
+    ensures { λ r. ⌜
+        (let w = world (pagerIn store) (now (table .entry)) (now (log .entry)) (now (main .entry)) in
+        let g = now (staging .entry) in
+        r ≡ committedAs (commitAnswer g w «new_header») (commitWorld g w «new_header» salt .pager))
+        ⌝ }
+    ensures { λ r. ⌜
+        (let w = world (pagerIn store) (now (table .entry)) (now (log .entry)) (now (main .entry)) in
+        world (pagerIn (r .store)) (now (table .exit)) (now (log .exit)) (now (main .exit)) ≡ commitWorld (now (staging .entry)) w «new_header» salt)
+        ⌝ }
 {
     capi_answers::committed_as(pager::commit(
         capi_numbers::pager_in(store),
@@ -411,8 +482,15 @@ pub extern "C" fn lateenbael_checkpoint(
     staging: &[u8],
     salt: u32,
 ) -> Answered
-    ensures { λ r. ⌜ r ≡ writtenAs (checkpointAnswer (now (staging .entry)) (world (pagerIn store) (now (table .entry)) (now (log .entry)) (now (main .entry)))) (checkpointWorld (now (staging .entry)) (world (pagerIn store) (now (table .entry)) (now (log .entry)) (now (main .entry))) salt .pager) ⌝ }
-    ensures { λ r. ⌜ world (pagerIn (r .store)) (now (table .exit)) (now (log .exit)) (now (main .exit)) ≡ checkpointWorld (now (staging .entry)) (world (pagerIn store) (now (table .entry)) (now (log .entry)) (now (main .entry))) salt ⌝ }
+    ensures { λ r. ⌜
+        (let w = world (pagerIn store) (now (table .entry)) (now (log .entry)) (now (main .entry)) in
+        let g = now (staging .entry) in
+        r ≡ writtenAs (checkpointAnswer g w) (checkpointWorld g w salt .pager))
+        ⌝ }
+    ensures { λ r. ⌜
+        (let w = world (pagerIn store) (now (table .entry)) (now (log .entry)) (now (main .entry)) in
+        world (pagerIn (r .store)) (now (table .exit)) (now (log .exit)) (now (main .exit)) ≡ checkpointWorld (now (staging .entry)) w salt)
+        ⌝ }
 {
     capi_answers::written_as(pager::checkpoint(
         capi_numbers::pager_in(store),

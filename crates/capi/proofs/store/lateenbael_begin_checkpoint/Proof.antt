@@ -4,6 +4,7 @@ use Rattle.capi_answers.specs.Answers.{foldBegunAs}
 use Rattle.capi.proofs.Calls.{by}
 use Rattle.pager_state.specs.World.{world}
 use Rattle.pager_state.specs.Steps.{beginCheckpoint}
+use Rattle.pager_state.specs.declared.CheckpointStarted.{CheckpointStarted}
 use borrow.Author.Needs.{needs}
 use Rattle.capi.proofs.store.lateenbael_begin_checkpoint.Statement.{statement}
 use Rattle.capi.proofs.store.lateenbael_begin_checkpoint.Tie as tie
@@ -11,7 +12,7 @@ use Rattle.capi.proofs.store.lateenbael_begin_checkpoint.Tie as tie
 returns : tie.Need-returns
 returns c =
     let a = c .before .before .before .before .before .before .before .args in
-    by foldBegunAs (λ (p : Pager). beginCheckpoint (now (a .staging)) (world p (now (a .table)) (now (a .log)) (now (a .main))) (a .salt)) (c .before .before .pager-in .ensures) (c .before .begin-checkpoint .ensures) (c .fold-begun-as .ensures)
+    by (λ (x : CheckpointStarted). foldBegunAs (x .answer) (x .pager)) (λ (p : Pager). beginCheckpoint (now (a .staging)) (world p (now (a .table)) (now (a .log)) (now (a .main))) (a .salt)) (c .before .before .pager-in .ensures) (c .before .begin-checkpoint .ensures) (c .fold-begun-as .ensures)
 
 pub lateenbael-begin-checkpoint-spec : {M : Type 1} → statement M
 lateenbael-begin-checkpoint-spec =
