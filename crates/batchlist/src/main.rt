@@ -5,6 +5,7 @@
 mod print;
 
 use input::Input;
+use refusal::Refusal;
 
 // One byte more than a body has, so that a longer one is noticed.
 const BODY_SIZE: usize = 4_097;
@@ -37,7 +38,7 @@ fn read_body() {
 
 fn print_one(body: &[u8]) {
     if 4096 < body.len() {
-        print::print_refused(1);
+        print::print_refused(Refusal::Area);
         return;
     }
     print::print_body(body, true);

@@ -3,6 +3,7 @@
 ghost use mathlib.Core.Path.{_≡_};
 ghost use Prim.Native.Nat.{_≤_};
 ghost use Rattle.mvcc.specs.Seen.{decodes};
+use refusal::Refusal;
 
 fn say(text: &[u8]) {
     io::write_all(1, text);
@@ -209,17 +210,14 @@ fn print_records(body: &[u8], count: usize) {
 // ---- a whole body
 
 // Prints a refusal by document 01's number.
-pub fn print_refused(number: u8) {
+pub fn print_refused(row: Refusal) {
     say(b"refused");
-    print_number(number as usize);
+    print_number(refusal::number(row) as usize);
     say(b"\n");
 }
 
-// Prints the lines of a body that decodes.
-fn print_decoded(body: &[u8]) {
-    let mvcc::BatchDecoded::Batch(batch) = mvcc::MvccCommitBatch::decode(body) else {
-        return;
-    };
+// Prints the lines of a batch.
+fn print_decoded(body: &[u8], batch: mvcc::MvccCommitBatch) {
     let count = batch.records;
     say(b"batch ");
     io::print_decimal(1, batch.commit_ts);
@@ -232,13 +230,16 @@ fn print_decoded(body: &[u8]) {
 pub fn print_batch(body: &[u8]) -> bool
     ensures { λ r. ⌜ r ≡ decodes (now (body .entry)) ⌝ }
 {
-    let number = mvcc::refusal_number(body);
-    if number != 0 {
-        print_refused(number);
-        return false;
+    match mvcc::MvccCommitBatch::decode(body) {
+        mvcc::BatchDecoded::Batch(batch) => {
+            print_decoded(body, batch);
+            true
+        }
+        mvcc::BatchDecoded::Refused(row) => {
+            print_refused(row);
+            false
+        }
     }
-    print_decoded(body);
-    true
 }
 
 // Prints the line of the bytes that a batch is encoded in.

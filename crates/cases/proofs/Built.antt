@@ -12,13 +12,14 @@ use mir.Val.{SFits}
 use mir.Syntax.{w64}
 use Rattle.le.specs.Le.{leBytes}
 use Rattle.le.proofs.Fields.{length-leBytes}
+use Rattle.refusal.specs.declared.Refusal.the-variants as refusal
 use Rattle.text.specs.Utf8.{wellFormed, after}
 use Rattle.mvcc.specs.Batch.{null, Col, Rec, tombstone, present, all, encodeText, encodeValue, encodeColumn, encodeRecord, encodeBatch, Each}
-use Rattle.mvcc_build.specs.Build.{recordAdded, columnAdded, column, addedNumber}
+use Rattle.mvcc_build.specs.Build.{recordAdded, columnAdded, column}
 use Rattle.mvcc_build.specs.Built.{Built, builderOf, endsPresent, withIn, withColumn, Held, HeldValue}
 use Rattle.mvcc_build.specs.Run.{record-call, column-call, HeldCall, columnRecords, nextRecords, runRecords}
 use Rattle.mvcc_build.specs.declared.BatchBuilder.{BatchBuilder}
-use Rattle.mvcc_build.specs.declared.Added.the-variants.{Done}
+use Rattle.mvcc_build.specs.declared.Added.the-variants.{Done, Refused}
 use Rattle.mvcc_build.proofs.Grow.{batch-size, record-size}
 use Rattle.mvcc_build.proofs.Built.{start-built, record-answer, column-answer}
 use Rattle.mvcc_build.proofs.Run.{run-built}
@@ -51,12 +52,12 @@ empty-text = refl
 
 module _ (t : ℕ) (rows : List ℤ) (b : BatchBuilder) (body : List ℕ) (h : Built t (tombstones rows) b body) where
   -- the 370th is added, and the 371st is refused with 20
-  pub tombstone-370th : length rows ≡ 369 → (row : ℤ) → addedNumber (recordAdded b body (tombstone [] row)) ≡ 0
+  pub tombstone-370th : length rows ≡ 369 → (row : ℤ) → recordAdded b body (tombstone [] row) ≡ Done (builderOf t (tombstones rows ++ (tombstone [] row ∷ [])))
   tombstone-370th e row =
       let k : length (encodeBatch t (tombstones rows)) + 11 ≤ 4096 = rw (tombstones-size, e) (omega arith) in
       rw (record-answer h (tombstone [] row), empty-text, record-size, tombstone-size, le-leb _ _ k)
 
-  pub tombstone-371st : length rows ≡ 370 → (row : ℤ) → addedNumber (recordAdded b body (tombstone [] row)) ≡ 20
+  pub tombstone-371st : length rows ≡ 370 → (row : ℤ) → recordAdded b body (tombstone [] row) ≡ Refused refusal.Fit
   tombstone-371st e row =
       let k : 4096 < length (encodeBatch t (tombstones rows)) + 11 = rw (tombstones-size, e) (omega arith) in
       rw (record-answer h (tombstone [] row), empty-text, record-size, tombstone-size, lt-leb _ _ k)
@@ -133,7 +134,7 @@ unfolding builderOf
 null-1355th-end t row = nulls-1355 t row
 
 pub null-1356th : (t : ℕ) (row : ℤ) (b : BatchBuilder) (body : List ℕ) → Built t (nullRow row 1355) b body
-    → addedNumber (columnAdded b body (column [] null)) ≡ 20
+    → columnAdded b body (column [] null) ≡ Refused refusal.Fit
 null-1356th t row b body h =
     let k : 4096 < length (encodeBatch t (nullRow row 1355)) + 3 = rw nulls-1355 (omega arith) in
     rw (column-answer h (column [] null), empty-text, null-size, lt-leb _ _ k)

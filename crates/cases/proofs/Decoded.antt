@@ -2,20 +2,22 @@
 use mathlib.Core.Path.{_≡_, refl}
 use mathlib.Core.Bool.{true}
 use mathlib.Core.List.{[], _∷_}
+use mathlib.Core.Option.{some}
 use lib.ListN.{getD, replicate}
 use lib.IntN.{pos}
 use Rattle.le.specs.Le.{leOf, leBytes}
+use Rattle.refusal.specs.declared.Refusal.the-variants as refusal
 use Rattle.text.specs.Utf8.{wellFormed, after}
 use Rattle.mvcc.specs.Answer.{many}
-use Rattle.mvcc.specs.Decode.{numAt, textOf, textAt, signed, boolAt, taggedAt, valueAt, columnAt, presentAt, judgedAt, recordAt, recordsAt, magic, batchOf}
+use Rattle.mvcc.specs.Decode.{numAt, textOf, textAt, signed, boolAt, taggedAt, valueAt, columnAt, presentAt, judgedAt, recordAt, recordsAt, magic, headingRefusal, batchOf}
 use Rattle.mvcc.specs.Batch.{present, bool, all, encodeText, encodeValue, encodeColumn, encodeRecord, encodeBatch, encodeBody, padded}
-use Rattle.mvcc.specs.Seen.{seen, seenColumn, seenRow, seenRecord, refusalOf, decodes, records, canonical}
+use Rattle.mvcc.specs.Seen.{seen, seenColumn, seenRow, seenRecord, decodeRefusal, decodes, records, canonical}
 use Rattle.cases.specs.Cases.{boolTwo, opNine}
 
 -- ---- a bool byte
 
 pub bool-two-decodes : decodes boolTwo ≡ true
-unfolding decodes refusalOf batchOf magic leOf recordsAt many recordAt judgedAt presentAt columnAt valueAt taggedAt boolAt textAt textOf numAt wellFormed after
+unfolding decodes decodeRefusal batchOf headingRefusal magic leOf recordsAt many recordAt judgedAt presentAt columnAt valueAt taggedAt boolAt textAt textOf numAt wellFormed after
 bool-two-decodes = refl
 
 -- it is true
@@ -30,10 +32,10 @@ bool-two-one = rw bool-two-true
 
 -- ---- an unknown op
 
-pub op-nine-cut : refusalOf (opNine (5 ∷ 0 ∷ 0x61 ∷ [])) ≡ 17
-unfolding refusalOf batchOf magic leOf recordsAt many recordAt textAt textOf numAt
+pub op-nine-cut : decodeRefusal (opNine (5 ∷ 0 ∷ 0x61 ∷ [])) ≡ some refusal.Truncated
+unfolding decodeRefusal batchOf headingRefusal magic leOf recordsAt many recordAt textAt textOf numAt
 op-nine-cut = refl
 
-pub op-nine-whole : refusalOf (opNine (replicate 10 0)) ≡ 18
-unfolding refusalOf batchOf magic leOf recordsAt many recordAt judgedAt textAt textOf numAt wellFormed after
+pub op-nine-whole : decodeRefusal (opNine (replicate 10 0)) ≡ some refusal.Tag
+unfolding decodeRefusal batchOf headingRefusal magic leOf recordsAt many recordAt judgedAt textAt textOf numAt wellFormed after
 op-nine-whole = refl

@@ -1,21 +1,23 @@
 -- Document 01's starred cases, one row each or more, in its order. `cases` of proofs/Cases.antt proves them all.
 use mathlib.Core.Bool.{true}
 use mathlib.Core.Path.{_≡_}
-use mathlib.Core.List.{List, [], _∷_, map}
+use mathlib.Core.List.{List, [], _∷_, _++_, map}
+use mathlib.Core.Option.{some}
 use Prim.Native.Nat.{ℕ, _^_, _≤_, _<_}
 use lib.IntN.{ℤ, pos}
 use lib.ListN.{length, getD, replicate}
 use mir.Val.{SFits}
 use mir.Syntax.{w64}
-use Rattle.text.specs.Utf8.{utf8Of, refusal}
+use Rattle.refusal.specs.declared.Refusal.the-variants as refusal
+use Rattle.text.specs.Utf8.{utf8Of, refusal as textRefusal}
 use Rattle.frame.specs.Frame.{frameSum}
 use Rattle.mvcc.specs.Batch.{null, bool, Col, Rec, tombstone, present, encodeBatch, Each}
-use Rattle.mvcc.specs.Seen.{refusalOf, decodes, records, canonical}
-use Rattle.mvcc_build.specs.Build.{addedNumber, startedBytes, recordAdded, column, columnAdded}
+use Rattle.mvcc.specs.Seen.{decodeRefusal, decodes, records, canonical}
+use Rattle.mvcc_build.specs.Build.{startedBytes, recordAdded, column, columnAdded}
 use Rattle.mvcc_build.specs.Built.{builderOf, Built}
 use Rattle.mvcc_build.specs.Run.{Call, record-call, column-call, runBuilder, runBody}
 use Rattle.mvcc_build.specs.declared.BatchBuilder.{BatchBuilder}
-use Rattle.mvcc_build.specs.declared.Added.the-variants.{Done}
+use Rattle.mvcc_build.specs.declared.Added.the-variants.{Done, Refused}
 use Rattle.wal.specs.Recovery.{recovered, frameCount}
 
 -- a page of zeros
@@ -76,9 +78,9 @@ pub record Cases : Type 0 where
   -- .. as many calls build them; the builder takes the 370th and refuses the 371st with 20
   pub tombstones-built : (t : ℕ) (rows : List ℤ) → t < 256 ^ 8 → Each (SFits w64) rows → length rows ≤ 370 → Builds t (tombstoneCalls rows) (tombstones rows)
   pub tombstone-370th : (t : ℕ) (rows : List ℤ) (b : BatchBuilder) (body : List ℕ) → Built t (tombstones rows) b body → length rows ≡ 369
-      → (row : ℤ) → addedNumber (recordAdded b body (tombstone [] row)) ≡ 0
+      → (row : ℤ) → recordAdded b body (tombstone [] row) ≡ Done (builderOf t (tombstones rows ++ (tombstone [] row ∷ [])))
   pub tombstone-371st : (t : ℕ) (rows : List ℤ) (b : BatchBuilder) (body : List ℕ) → Built t (tombstones rows) b body → length rows ≡ 370
-      → (row : ℤ) → addedNumber (recordAdded b body (tombstone [] row)) ≡ 20
+      → (row : ℤ) → recordAdded b body (tombstone [] row) ≡ Refused refusal.Fit
   -- "One present record, empty table name, with 1,355 null columns with empty names fills 4,096; 1,356 don't"
   pub nulls-1355 : (t : ℕ) (row : ℤ) → length (encodeBatch t (nullRow row 1355)) ≡ 4096
   pub nulls-1356 : (t : ℕ) (row : ℤ) → 4096 < length (encodeBatch t (nullRow row 1356))
@@ -88,13 +90,13 @@ pub record Cases : Type 0 where
       → columnAdded b body (column [] null) ≡ Done (builderOf t (nullRow row 1355))
   pub null-1355th-end : (t : ℕ) (row : ℤ) → builderOf t (nullRow row 1355) .at ≡ 4096
   pub null-1356th : (t : ℕ) (row : ℤ) (b : BatchBuilder) (body : List ℕ) → Built t (nullRow row 1355) b body
-      → addedNumber (columnAdded b body (column [] null)) ≡ 20
+      → columnAdded b body (column [] null) ≡ Refused refusal.Fit
   -- "Text C3 A9 and F4 8F BF BF good; C0 80, ED A0 80 and F4 90 80 80 bad (hexadecimal)": no refusal, and refusal 19
-  pub text-c3-a9 : refusal (utf8Of (0xc3 ∷ 0xa9 ∷ [])) ≡ 0
-  pub text-f4-8f-bf-bf : refusal (utf8Of (0xf4 ∷ 0x8f ∷ 0xbf ∷ 0xbf ∷ [])) ≡ 0
-  pub text-c0-80 : refusal (utf8Of (0xc0 ∷ 0x80 ∷ [])) ≡ 19
-  pub text-ed-a0-80 : refusal (utf8Of (0xed ∷ 0xa0 ∷ 0x80 ∷ [])) ≡ 19
-  pub text-f4-90-80-80 : refusal (utf8Of (0xf4 ∷ 0x90 ∷ 0x80 ∷ 0x80 ∷ [])) ≡ 19
+  pub text-c3-a9 : textRefusal (utf8Of (0xc3 ∷ 0xa9 ∷ [])) ≡ 0
+  pub text-f4-8f-bf-bf : textRefusal (utf8Of (0xf4 ∷ 0x8f ∷ 0xbf ∷ 0xbf ∷ [])) ≡ 0
+  pub text-c0-80 : textRefusal (utf8Of (0xc0 ∷ 0x80 ∷ [])) ≡ 19
+  pub text-ed-a0-80 : textRefusal (utf8Of (0xed ∷ 0xa0 ∷ 0x80 ∷ [])) ≡ 19
+  pub text-f4-90-80-80 : textRefusal (utf8Of (0xf4 ∷ 0x90 ∷ 0x80 ∷ 0x80 ∷ [])) ≡ 19
   -- "Bool byte 2 is true and is written back as 1": a body with one record and one column, whose bool's byte, 34, is 2
   pub bool-2-is-there : getD boolTwo 34 0 ≡ 2
   pub bool-2-decodes : decodes boolTwo ≡ true
@@ -102,5 +104,5 @@ pub record Cases : Type 0 where
   pub bool-2-written-1 : getD (canonical boolTwo) 34 0 ≡ 1
   -- "An op is judged after table and row id are read": op 9 is refused with 17 where its table text, of 5 bytes, is cut after
   -- one, and with 18 where an empty table and a row id are there
-  pub op-9-cut : refusalOf (opNine (5 ∷ 0 ∷ 0x61 ∷ [])) ≡ 17
-  pub op-9-whole : refusalOf (opNine (replicate 10 0)) ≡ 18
+  pub op-9-cut : decodeRefusal (opNine (5 ∷ 0 ∷ 0x61 ∷ [])) ≡ some refusal.Truncated
+  pub op-9-whole : decodeRefusal (opNine (replicate 10 0)) ≡ some refusal.Tag

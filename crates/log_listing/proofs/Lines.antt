@@ -14,6 +14,7 @@ use Rattle.le.specs.Le.{field, wholeField}
 use Rattle.le.proofs.Compare.{no-test}
 use Rattle.le.proofs.Tests.{le-or-lt}
 use Rattle.le.proofs.Stores.{get-put}
+use Rattle.refusal.specs.declared.Refusal.the-variants as refusal
 use Rattle.frame.specs.Frame.{frameAt, headerOf, bodyOf}
 use Rattle.wal.specs.Recovery.{chunks, chunkAt, readable, Recovered, recovered, frameCount, walOf, openLog}
 use Rattle.frame.specs.declared.FrameHeader.{FrameHeader}
@@ -117,7 +118,7 @@ module _ {n at : ℕ} {l after : List ℕ} {end : ℕ} where
   unfolding openedText walOf
   opened-added len r w e a = rw e at a
 
-  pub long-added : (file : List ℕ) → 61712 < length file → Added n l at (refusedLine 1) after end → Added n l at (listing file) after end
+  pub long-added : (file : List ℕ) → 61712 < length file → Added n l at (refusedLine refusal.Area) after end → Added n l at (listing file) after end
   unfolding listing
   long-added file h a = rw (lt-leb _ _ h) a
 

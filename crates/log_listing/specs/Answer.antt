@@ -6,6 +6,7 @@ use lib.Dec.{leb}
 use lib.ListN.{length}
 use Rattle.le.specs.Choice.{pick}
 use Rattle.le.specs.Le.{put}
+use Rattle.refusal.specs.declared.Refusal.the-variants as refusal
 use Rattle.log_listing.specs.Listing.{listing}
 use Rattle.log_listing.specs.declared.Listed.{Listed}
 use Rattle.log_listing.specs.declared.Listed.the-variants as listed
@@ -22,12 +23,7 @@ listingSize = 2048
 
 -- how many bytes the listing has, where the buffer has room for every one; otherwise refusal 1, and the buffer stays as it was
 unfoldable pub listedAnswer : List ℕ → List ℕ → Listed
-listedAnswer l out = pick (leb listingSize (length out)) (listed.Bytes (length (listing l))) listed.Area
+listedAnswer l out = pick (leb listingSize (length out)) (listed.Bytes (length (listing l))) (listed.Refused refusal.Area)
 
 unfoldable pub listedAfter : List ℕ → List ℕ → List ℕ
 listedAfter l out = pick (leb listingSize (length out)) (put out 0 (listing l)) out
-
--- document 01's number; 0 is none
-abbrev pub listRefusal : Listed → ℕ
-listRefusal (listed.Bytes n) = 0
-listRefusal listed.Area = 1

@@ -6,6 +6,9 @@ use lib.ListN.{length}
 use Rattle.le.specs.Choice.{pick}
 use Rattle.le.specs.Le.{field}
 use Rattle.io.specs.Digits.{digits}
+use Rattle.refusal.specs.Refusal.{number as rowNumber}
+use Rattle.refusal.specs.declared.Refusal.{Refusal}
+use Rattle.refusal.specs.declared.Refusal.the-variants as refusal
 use Rattle.frame.specs.Frame.{bodyOf}
 use Rattle.wal.specs.Recovery.{batchPage, pageOf, countOf, Recovered, recovered, frameCount, commitPoint, lastCommit, openLog}
 use Rattle.wal.specs.declared.WalHeader.{WalHeader}
@@ -85,8 +88,8 @@ unfoldable pub endLine : ℕ → ℕ → LastCommit → List ℕ
 endLine frames point last = wordEnd ++ number frames ++ number point ++ lastText last ++ newline
 
 -- "A refused header: `refused` and the number"
-unfoldable pub refusedLine : ℕ → List ℕ
-refusedLine n = wordRefused ++ number n ++ newline
+unfoldable pub refusedLine : Refusal → List ℕ
+refusedLine r = wordRefused ++ number (rowNumber r) ++ newline
 
 -- ---- the whole listing
 
@@ -97,12 +100,8 @@ openedText r = logLine (r .header) ++ frameLines 0 (r .frames) ++ endLine (frame
 -- of what opening says
 abbrev pub textOf : List ℕ → WalOpened → List ℕ
 textOf l (opened.Opened w) = openedText (recovered l)
-textOf l opened.Area = refusedLine 1
-textOf l opened.Short = refusedLine 2
-textOf l opened.Magic = refusedLine 3
-textOf l opened.Version = refusedLine 4
-textOf l opened.PageSize = refusedLine 5
+textOf l (opened.Refused r) = refusedLine r
 
 -- "reads a log of at most 61,712 bytes (15 frames) ..; a longer one prints `refused 1`"
 unfoldable pub listing : List ℕ → List ℕ
-listing l = pick (leb (length l) 61712) (textOf l (openLog l)) (refusedLine 1)
+listing l = pick (leb (length l) 61712) (textOf l (openLog l)) (refusedLine refusal.Area)

@@ -9,6 +9,7 @@ ghost use Rattle.log_listing.specs.Listing.{decimal, number, saltText, l
 ghost use Rattle.log_listing.specs.Answer.{Added, listedAnswer, listedAfter};
 use frame::FRAME_SIZE;
 use mvcc::MVCC_FRAME_MARKER;
+use refusal::Refusal;
 use wal::LastCommit;
 use wal::WAL_HEADER_SIZE;
 use wal::Wal;
@@ -153,12 +154,12 @@ fn add_opened(file: &[u8], wal: Wal, out: &mut [u8]) -> usize
 }
 
 // Adds the line of a refusal.
-fn add_refused(out: &mut [u8], refusal: u64) -> usize
+fn add_refused(out: &mut [u8], row: Refusal) -> usize
     requires { ⌜ 2048 ≤ length (now out) ⌝ }
-    ensures { λ r. ⌜ Added 2048 (now (out .entry)) 0 (refusedLine refusal) (now (out .exit)) r ⌝ }
+    ensures { λ r. ⌜ Added 2048 (now (out .entry)) 0 (refusedLine row) (now (out .exit)) r ⌝ }
 {
     let word = add_text(out, 0, b"refused");
-    let end = add_number(out, word, refusal);
+    let end = add_number(out, word, refusal::number(row) as u64);
     add_text(out, end, b"\n")
 }
 
@@ -168,15 +169,11 @@ fn add_listing(file: &[u8], out: &mut [u8]) -> usize
     ensures { λ r. ⌜ Added 2048 (now (out .entry)) 0 (listing (now (file .entry))) (now (out .exit)) r ⌝ }
 {
     if LISTED_SIZE < file.len() {
-        return add_refused(out, 1);
+        return add_refused(out, Refusal::Area);
     }
     match Wal::open(file) {
         WalOpened::Opened(wal) => add_opened(file, wal, out),
-        WalOpened::Area => add_refused(out, 1),
-        WalOpened::Short => add_refused(out, 2),
-        WalOpened::Magic => add_refused(out, 3),
-        WalOpened::Version => add_refused(out, 4),
-        WalOpened::PageSize => add_refused(out, 5),
+        WalOpened::Refused(row) => add_refused(out, row),
     }
 }
 
@@ -184,8 +181,8 @@ fn add_listing(file: &[u8], out: &mut [u8]) -> usize
 pub enum Listed {
     // How many bytes were written.
     Bytes(usize),
-    // The buffer is too short, and stays as it was.
-    Area,
+    // Area: the buffer is too short, and stays as it was.
+    Refused(Refusal),
 }
 
 // Writes the listing of a log at the front of `out`.
@@ -193,7 +190,7 @@ pub fn list_log(file: &[u8], out: &mut [u8]) -> Listed
     ensures { λ r. ⌜ (r ≡ listedAnswer (now (file .entry)) (now (out .entry))) × (now (out .exit) ≡ listedAfter (now (file .entry)) (now (out .entry))) ⌝ }
 {
     if out.len() < LISTING_SIZE {
-        return Listed::Area;
+        return Listed::Refused(Refusal::Area);
     }
     Listed::Bytes(add_listing(file, out))
 }

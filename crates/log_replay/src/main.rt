@@ -41,7 +41,7 @@ fn answer(case: &[u8]) {
     let mut out = [0u8; LISTING_SIZE];
     match log_listing::list_log(le::part(&log, 0, len), &mut out) {
         Listed::Bytes(end) => print(le::part(&out, 0, end)),
-        Listed::Area => print(b"wrong\n"),
+        Listed::Refused(_) => print(b"wrong\n"),
     }
 }
 

@@ -24,7 +24,7 @@ fn list(log: &[u8]) {
     let mut out = [0u8; LISTING_SIZE];
     match log_listing::list_log(log, &mut out) {
         Listed::Bytes(end) => print(le::part(&out, 0, end)),
-        Listed::Area => print(b""),
+        Listed::Refused(_) => print(b""),
     }
 }
 

@@ -25,35 +25,11 @@ returns-2 c =
 
 returns-3 : tie.Need-returns-3
 returns-3 c =
-    let d = c .before .before .before .before in
+    let d = c .before .before .before .before .before in
     let o = d .before .before in
-    listing-added _ _ (o .before .if1 .left) (sym (o .«open» .ensures) ∙ d .enum-told .given .1) (c .before .before .add-refused2 .ensures)
-
-returns-4 : tie.Need-returns-4
-returns-4 c =
-    let d = c .before .before .before .before in
-    let o = d .before .before in
-    listing-added _ _ (o .before .if1 .left) (sym (o .«open» .ensures) ∙ d .enum-told2 .given .1) (c .before .before .add-refused3 .ensures)
-
-returns-5 : tie.Need-returns-5
-returns-5 c =
-    let d = c .before .before .before .before in
-    let o = d .before .before in
-    listing-added _ _ (o .before .if1 .left) (sym (o .«open» .ensures) ∙ d .enum-told3 .given .1) (c .before .before .add-refused4 .ensures)
-
-returns-6 : tie.Need-returns-6
-returns-6 c =
-    let d = c .before .before .before .before in
-    let o = d .before .before in
-    listing-added _ _ (o .before .if1 .left) (sym (o .«open» .ensures) ∙ d .enum-told4 .given .1) (c .before .before .add-refused5 .ensures)
-
-returns-7 : tie.Need-returns-7
-returns-7 c =
-    let d = c .before .before .before .before in
-    let o = d .before .before in
-    listing-added _ _ (o .before .if1 .left) (sym (o .«open» .ensures) ∙ d .enum-told5 .given .1) (c .before .before .add-refused6 .ensures)
+    listing-added _ _ (o .before .if1 .left) (sym (o .«open» .ensures) ∙ d .row .given .1) (c .before .before .add-refused2 .ensures)
 
 pub add-listing-spec : {M : Type 1} → statement M
 add-listing-spec =
     tie.close
-    (tie.spec (search needs) (search needs) returns (search needs) (search needs) add-opened-requires (search needs) (search needs) (search needs) (search needs) (search needs) (search needs) (search needs) (search needs) (search needs) (search needs) (search needs) returns-2 (search needs) returns-3 (search needs) returns-4 (search needs) returns-5 (search needs) returns-6 (search needs) returns-7)
+    (tie.spec (search needs) (search needs) returns (search needs) (search needs) add-opened-requires (search needs) (search needs) (search needs) returns-2 (search needs) returns-3)

@@ -1,19 +1,20 @@
-use mathlib.Core.Path.{sym}
-use borrow.Author.Tests.{eq-eqb, ne-eqb}
-use Rattle.mvcc.specs.Seen.{decodes}
+use mathlib.Core.Path.{sym, ap, _∙_}
+use Rattle.refusal.specs.Refusal.{accepts}
+use Rattle.mvcc.specs.Seen.{refusalIn, decodeRefusal, decodes}
+use Rattle.mvcc.specs.declared.BatchDecoded.{BatchDecoded}
 use borrow.Author.Needs.{needs}
 use Rattle.batchlist.proofs.print.print_batch.Statement.{statement}
 use Rattle.batchlist.proofs.print.print_batch.Tie as tie
 
 returns : tie.Need-returns
-unfolding decodes
-returns c = rw (← (c .before .before .refusal-number .ensures)) (sym (ne-eqb _ 0 (c .before .if1 .taken)))
+unfolding decodes decodeRefusal
+returns c = ap (λ (d : BatchDecoded). accepts (refusalIn d)) (sym (c .before .before .batch .given .1) ∙ c .before .before .before .before .decode .ensures)
 
 returns-2 : tie.Need-returns-2
-unfolding decodes
-returns-2 c = rw (← (c .before .before .refusal-number .ensures)) (sym (eq-eqb _ 0 (c .before .if1 .left)))
+unfolding decodes decodeRefusal
+returns-2 c = ap (λ (d : BatchDecoded). accepts (refusalIn d)) (sym (c .before .before .row .given .1) ∙ c .before .before .before .before .decode .ensures)
 
 pub print-batch-spec : {M : Type 1} → statement M
 print-batch-spec =
     tie.close
-    (tie.spec (search needs) (search needs) returns (search needs) returns-2)
+    (tie.spec (search needs) (search needs) (search needs) (search needs) (search needs) returns returns-2)
