@@ -17,17 +17,19 @@
  * or opening that there is not comes back as what it was taken for: none, and one that writes nothing.) A place that a call tells has
  * its whole page inside the area, whatever the table holds.
  *
- * A commit adds frames to the log, one for each staged page that differs and a last one that seals them: what no seal closes does not
- * count. A fold (checkpoint) writes the log's pages to the main file and empties the log. A batch is a list of changed rows that
- * goes into the log beside the pages and is sealed with them; an opening gives the sealed ones back.
+ * A commit adds frames to the log, one for each staged page that differs and a last one, the commit frame (document 01's seal): what no
+ * commit frame follows does not count. A checkpoint (document 01's fold) writes the log's pages to the main file and empties the log. A
+ * batch is a list of changed rows that goes into the log beside the pages and is committed with them; an opening gives the committed ones
+ * back.
  *
- * What the host carries to its files:
+ * What the host writes to its files:
  *
  *     creation          the main file's first 8,192 bytes and a flush, then the log's first 32 bytes and a flush
  *     an opening        if there was no log and it isn't read-only: the log's first 32 bytes and a flush;
  *                       a clean one: the log file's length becomes store.wal.len, and a flush
  *     a batch append    LATEENBAEL_FRAME_SIZE bytes of the log, from what store.wal.len was before; no flush
- *     a commit, a fold  the stores that lateenbael_next_step names, one by one and in that order:
+ *     a commit and      the writes (document 01's stores) that lateenbael_next_step names, one by one and in that order:
+ *     a checkpoint
  *
  *         lateenbael_answered a = lateenbael_begin_commit(store, .., new_header, salt);
  *         if (a.refusal != LATEENBAEL_OK) return a.refusal;
@@ -35,8 +37,8 @@
  *         do {
  *             step = lateenbael_next_step(store, ..);
  *             store = step.store;
- *             ... carry the store that the step names ...
- *         } while (step.kind == LATEENBAEL_STEP_STORE);
+ *             ... do the write that the step names ...
+ *         } while (step.kind == LATEENBAEL_STEP_WRITE);
  *
  * If the disk fails on the way, the host stops using the store, and opens the files anew.
  */
@@ -72,8 +74,8 @@ enum lateenbael_refusal {
     LATEENBAEL_REFUSED_LIMIT = 6,       /* opening: a page count above 1,024 */
     LATEENBAEL_REFUSED_MAIN_SHORT = 7,  /* main shorter than its page count says */
     LATEENBAEL_REFUSED_PAGE_ZERO = 8,   /* the log's page 0 is no header: it has refusal 3, 4 or 5 */
-    LATEENBAEL_REFUSED_BUSY = 9,        /* a commit or fold is part done: only its next step, or an opening, may come */
-    LATEENBAEL_REFUSED_READ_ONLY = 10,  /* commit, fold, batch append or clean opening, read-only */
+    LATEENBAEL_REFUSED_BUSY = 9,        /* a commit or checkpoint is part done: only its next step, or an opening, may come */
+    LATEENBAEL_REFUSED_READ_ONLY = 10,  /* commit, checkpoint, batch append or clean opening, read-only */
     LATEENBAEL_REFUSED_PAGE = 11,       /* staging a page above 1,023 */
     LATEENBAEL_REFUSED_STAGING = 12,    /* 64 other pages are staged */
     LATEENBAEL_REFUSED_NEW_HEADER = 13, /* commit with page count 0 or above 1,024, or a version that isn't 4 to 6 */
@@ -110,9 +112,9 @@ typedef struct {
     lateenbael_wal_header header;
     size_t len;                /* the file's length */
     size_t good_end;           /* where the good frames end */
-    size_t last_commit_offset; /* the commit point: the end of the last frame that seals, else 32 */
+    size_t last_commit_offset; /* the commit point: the end of the last commit frame, else 32 */
     size_t frame_count;
-    uint32_t sealed; /* 0: no frame seals */
+    uint32_t committed; /* 0: there is no commit frame */
     uint32_t last_commit_page_count;
 } lateenbael_wal;
 
@@ -128,7 +130,7 @@ typedef struct {
     uint16_t pages[LATEENBAEL_STAGED_PAGES];
 } lateenbael_staged;
 
-/* What is part done, of which the next step is: 0 nothing, 1 a commit's frame, 2 a fold's page or main header, 3 the main length,
+/* What is part done, of which the next step is: 0 nothing, 1 a commit's frame, 2 a checkpoint's page or main header, 3 the main length,
  * 4 the log length, 5 the log header. */
 typedef struct {
     uint32_t kind;
@@ -159,8 +161,8 @@ typedef struct {
 /* What a call answers that may change the store. */
 typedef struct {
     uint32_t refusal;
-    uint32_t begun; /* 1: a commit or fold has begun; lateenbael_next_step does its stores */
-    size_t answer;  /* pages that a commit or fold wrote; beside refusal 14 the lowest page that is missing */
+    uint32_t begun; /* 1: a commit or checkpoint has begun; lateenbael_next_step does its writes */
+    size_t answer;  /* pages that a commit or checkpoint wrote; beside refusal 14 the lowest page that is missing */
     lateenbael_store store;
 } lateenbael_answered;
 
@@ -198,12 +200,12 @@ typedef struct {
 
 enum lateenbael_step_kind {
     LATEENBAEL_STEP_IDLE = 0,  /* nothing was part done, and nothing was done */
-    LATEENBAEL_STEP_STORE = 1, /* a store, and more are to come */
-    LATEENBAEL_STEP_LAST = 2   /* the last store; `answer` is the commit's or fold's */
+    LATEENBAEL_STEP_WRITE = 1, /* a write, and more are to come */
+    LATEENBAEL_STEP_LAST = 2   /* the last write; `answer` is the commit's or checkpoint's */
 };
 
-/* A next step names the one store that it did in its area, for the host to carry to the file: `len` bytes from `at` on, or, with
- * len 0, the file's new length `at`; then, if `flush` is 1, everything stored so far goes to the disk (fsync). */
+/* A next step names the one write that it did in its area, for the host to do on the file: `len` bytes from `at` on, or, with
+ * len 0, the file's new length `at`; then, if `flush` is 1, everything written so far goes to the disk (fsync). */
 typedef struct {
     uint32_t refusal;
     uint32_t kind; /* enum lateenbael_step_kind */
@@ -226,8 +228,8 @@ lateenbael_answered lateenbael_open_with_mode(uint32_t *table, size_t table_entr
                                               size_t main_size, const uint8_t *staging, size_t staging_size, size_t main_len,
                                               size_t log_len, uint32_t access_mode, uint32_t log_exists, uint32_t salt);
 
-/* Clean opening, read-write only: the log is cut at the commit point, which becomes store.wal.len, so that nothing that no seal
- * closed is ever taken in. Refusals 1 to 8 and 10. */
+/* Clean opening, read-write only: the log is cut at the commit point, which becomes store.wal.len, so that nothing that no
+ * commit frame follows is ever taken in. Refusals 1 to 8 and 10. */
 lateenbael_answered lateenbael_open_clean(uint32_t *table, size_t table_entries, uint8_t *log, size_t log_size, const uint8_t *main,
                                           size_t main_size, const uint8_t *staging, size_t staging_size, size_t main_len, size_t log_len,
                                           uint32_t access_mode, uint32_t log_exists, uint32_t salt);
@@ -237,7 +239,7 @@ lateenbael_header_answer lateenbael_header(lateenbael_store store);
 lateenbael_number_answer lateenbael_access_mode(lateenbael_store store);
 lateenbael_number_answer lateenbael_clock_high_water(lateenbael_store store);
 
-/* Raises the clock; a lower value is ignored. It reaches the log's header with the next fold. Refusal 9. */
+/* Raises the clock; a lower value is ignored. It reaches the log's header with the next checkpoint. Refusal 9. */
 lateenbael_answered lateenbael_observe_clock_high_water(lateenbael_store store, uint64_t value);
 
 /* Where a page stands: staged, in the log, in the main file, or nowhere. Refusals 1 and 9. */
@@ -260,8 +262,8 @@ size_t lateenbael_read_end(uint32_t page_count, size_t staged_count);
 lateenbael_page_answer lateenbael_place_page(uint32_t page_count, uint32_t page_num, size_t staged_count,
                                              const uint16_t staged[LATEENBAEL_STAGED_PAGES], const uint32_t *table, size_t table_entries);
 
-/* The batches that the opening found sealed, until a fold ends them: the first whose frame has that index or a higher one. Ask for
- * index 0, then for the index answered plus 1. Refusals 1 and 9. */
+/* The batches that the opening found committed, until a checkpoint drops them: the first whose frame has that index or a higher one. Ask
+ * for index 0, then for the index answered plus 1. Refusals 1 and 9. */
 lateenbael_batch_place lateenbael_recovered_mvcc_commits(lateenbael_store store, const uint8_t *log, size_t log_size, size_t index);
 
 /* Stages a page of 4,096 bytes for the next commit. Refusals 1, 9, 11, 12. */
@@ -283,29 +285,29 @@ lateenbael_staged_count lateenbael_stage_in(uint32_t job, uint32_t page_num, siz
 /* Drops what is staged. Refusal 9. */
 lateenbael_answered lateenbael_clear_staged(lateenbael_store store);
 
-/* Appends a batch to the log, as a frame that stands at the old store.wal.len; it counts once a commit has sealed it.
+/* Appends a batch to the log, as a frame that stands at the old store.wal.len; it counts once a commit follows it.
  * Refusals 1, 2, 3, 9, 10, 15, 17 to 19. */
 lateenbael_answered lateenbael_append_mvcc_batch(lateenbael_store store, uint8_t *log, size_t log_size, const uint8_t *body,
                                                  size_t body_len);
 
-/* Begins a commit of what is staged; nothing is stored yet. A commit that brings the log to 100 frames also folds it, and then the
- * salt is the new log's. Refusals 1 (also where a made-up table says that a staged page's frame ends behind the log's length), 9, 10, 13,
- * 14, 15. */
+/* Begins a commit of what is staged; nothing is stored yet. A commit that brings the log to 100 frames is followed by a checkpoint, and
+ * then the salt is the new log's. Refusals 1 (also where a made-up table says that a staged page's frame ends behind the log's length), 9,
+ * 10, 13, 14, 15. */
 lateenbael_answered lateenbael_begin_commit(lateenbael_store store, const uint32_t *table, size_t table_entries, const uint8_t *log,
                                             size_t log_size, const uint8_t *main, size_t main_size, const uint8_t *staging,
                                             size_t staging_size, lateenbael_db_header new_header, uint32_t salt);
 
-/* Begins a fold of the log into the main file; nothing is stored yet, and begun is 0 if nothing is to be. The salt is the new log's.
- * Refusals 1, 9, 10. */
+/* Begins a checkpoint, the log's pages to the main file; nothing is written yet, and begun is 0 if nothing is to be. The salt is the new
+ * log's. Refusals 1, 9, 10. */
 lateenbael_answered lateenbael_begin_checkpoint(lateenbael_store store, const uint32_t *table, size_t table_entries, const uint8_t *log,
                                                 size_t log_size, const uint8_t *main, size_t main_size, const uint8_t *staging,
                                                 size_t staging_size, uint32_t salt);
 
-/* Does the next store of what is part done, and names it. Refusal 1. */
+/* Does the next write of what is part done in its area, and names it. Refusal 1. */
 lateenbael_step_answered lateenbael_next_step(lateenbael_store store, uint32_t *table, size_t table_entries, uint8_t *log, size_t log_size,
                                               uint8_t *main, size_t main_size, const uint8_t *staging, size_t staging_size);
 
-/* A commit or fold in one call: begun, and its steps run to the end, for a host that stores both areas whole. */
+/* A commit or checkpoint in one call: begun, and its steps run to the end, for a host that stores both areas whole. */
 lateenbael_answered lateenbael_commit(lateenbael_store store, uint32_t *table, size_t table_entries, uint8_t *log, size_t log_size,
                                       uint8_t *main, size_t main_size, const uint8_t *staging, size_t staging_size,
                                       lateenbael_db_header new_header, uint32_t salt);
@@ -330,7 +332,7 @@ typedef struct {
 
 typedef struct {
     uint32_t page_num;
-    uint32_t commit_page_count; /* above 0 it seals, and is the new page count */
+    uint32_t commit_page_count; /* above 0: a commit frame, and the new page count */
     uint32_t salt;
     uint32_t checksum;
 } lateenbael_frame_header;
@@ -349,7 +351,7 @@ typedef struct {
 lateenbael_wal_answer lateenbael_wal_create(uint8_t *log, size_t log_size, uint32_t salt); /* 1 */
 lateenbael_wal_answer lateenbael_wal_open(const uint8_t *file, size_t file_len);           /* 1 to 5 */
 
-/* Adds a page's frame at the log's length; a commit_page_count above 0 seals. 1, 15 */
+/* Adds a page's frame at the log's length; with a commit_page_count above 0 it is a commit frame. 1, 15 */
 lateenbael_wal_answer lateenbael_wal_append_frame(uint8_t *log, size_t log_size, lateenbael_wal wal, uint32_t page_num,
                                                   const uint8_t *content, size_t content_len, uint32_t commit_page_count);
 
@@ -366,10 +368,10 @@ lateenbael_wal_answer lateenbael_wal_set_clock_high_water(lateenbael_wal wal, ui
 /* The frame at an index, good or not. */
 lateenbael_frame_answer lateenbael_wal_frame_at(const uint8_t *file, size_t file_len, size_t index);
 
-/* Where a page's last sealed frame has its 4,096 bytes: LATEENBAEL_AREA_LOG, or LATEENBAEL_AREA_NONE. */
+/* Where a page's last committed frame has its 4,096 bytes: LATEENBAEL_AREA_LOG, or LATEENBAEL_AREA_NONE. */
 lateenbael_page_answer lateenbael_wal_find_page(const uint8_t *file, size_t file_len, lateenbael_wal wal, uint32_t page_num);
 
-/* The first sealed batch whose frame has that index or a higher one. */
+/* The first committed batch whose frame has that index or a higher one. */
 lateenbael_batch_place lateenbael_wal_next_batch(const uint8_t *file, size_t file_len, lateenbael_wal wal, size_t index);
 
 /* Lists a log of at most 15 frames, one line a frame, into LATEENBAEL_LISTING_SIZE bytes or more; a log that is longer or does not

@@ -12,7 +12,7 @@ static bool is_text(lateenbael_text_place place, const char *s) {
 }
 
 /* Keeps what a call gives if it wasn't refused. */
-static uint32_t took_on(lateenbael_building *b, lateenbael_building next) {
+static uint32_t keep_batch(lateenbael_building *b, lateenbael_building next) {
     if (next.refusal == LATEENBAEL_OK) {
         *b = next;
     }
@@ -25,20 +25,20 @@ static void build(void) {
     static const uint8_t long_text[PAGE];
     lateenbael_building b = lateenbael_mvcc_start(body, PAGE, 0x0102030405060708);
     CHECK(b.refusal == LATEENBAEL_OK && b.at == LATEENBAEL_FIRST_RECORD && b.records == 0);
-    CHECK(took_on(&b, lateenbael_mvcc_add_null(body, PAGE, b, text("early"), 5)) == LATEENBAEL_REFUSED_NO_RECORD);
-    CHECK(took_on(&b, lateenbael_mvcc_add_tombstone(body, PAGE, b, text("cabins"), 6, -3)) == LATEENBAEL_OK);
-    CHECK(took_on(&b, lateenbael_mvcc_begin_present(body, PAGE, b, text("grips"), 5, 7)) == LATEENBAEL_OK);
-    CHECK(took_on(&b, lateenbael_mvcc_add_null(body, PAGE, b, text("a"), 1)) == LATEENBAEL_OK);
-    CHECK(took_on(&b, lateenbael_mvcc_add_integer(body, PAGE, b, text("b"), 1, -5)) == LATEENBAEL_OK);
-    CHECK(took_on(&b, lateenbael_mvcc_add_real_bits(body, PAGE, b, text("c"), 1, 0x7ff8000000000001)) == LATEENBAEL_OK);
-    CHECK(took_on(&b, lateenbael_mvcc_add_text(body, PAGE, b, text("d"), 1, text("gr\xc3\xbcn"), 5)) == LATEENBAEL_OK);
-    CHECK(took_on(&b, lateenbael_mvcc_add_bool(body, PAGE, b, text("e"), 1, 2)) == LATEENBAEL_OK);
-    CHECK(took_on(&b, lateenbael_mvcc_add_vector(body, PAGE, b, text("f"), 1, elements, 8)) == LATEENBAEL_OK);
+    CHECK(keep_batch(&b, lateenbael_mvcc_add_null(body, PAGE, b, text("early"), 5)) == LATEENBAEL_REFUSED_NO_RECORD);
+    CHECK(keep_batch(&b, lateenbael_mvcc_add_tombstone(body, PAGE, b, text("cabins"), 6, -3)) == LATEENBAEL_OK);
+    CHECK(keep_batch(&b, lateenbael_mvcc_begin_present(body, PAGE, b, text("grips"), 5, 7)) == LATEENBAEL_OK);
+    CHECK(keep_batch(&b, lateenbael_mvcc_add_null(body, PAGE, b, text("a"), 1)) == LATEENBAEL_OK);
+    CHECK(keep_batch(&b, lateenbael_mvcc_add_integer(body, PAGE, b, text("b"), 1, -5)) == LATEENBAEL_OK);
+    CHECK(keep_batch(&b, lateenbael_mvcc_add_real_bits(body, PAGE, b, text("c"), 1, 0x7ff8000000000001)) == LATEENBAEL_OK);
+    CHECK(keep_batch(&b, lateenbael_mvcc_add_text(body, PAGE, b, text("d"), 1, text("gr\xc3\xbcn"), 5)) == LATEENBAEL_OK);
+    CHECK(keep_batch(&b, lateenbael_mvcc_add_bool(body, PAGE, b, text("e"), 1, 2)) == LATEENBAEL_OK);
+    CHECK(keep_batch(&b, lateenbael_mvcc_add_vector(body, PAGE, b, text("f"), 1, elements, 8)) == LATEENBAEL_OK);
     CHECK(b.records == 2 && b.columns == 6);
-    CHECK(took_on(&b, lateenbael_mvcc_add_vector(body, PAGE, b, text("g"), 1, elements, 7)) == LATEENBAEL_REFUSED_TRUNCATED);
-    CHECK(took_on(&b, lateenbael_mvcc_add_text(body, PAGE, b, text("g"), 1, text("\xc0\x80"), 2)) == LATEENBAEL_REFUSED_TEXT);
-    CHECK(took_on(&b, lateenbael_mvcc_add_text(body, PAGE, b, text("g"), 1, long_text, PAGE)) == LATEENBAEL_REFUSED_FIT);
-    CHECK(took_on(&b, lateenbael_mvcc_add_bool(body, PAGE - 1, b, text("g"), 1, 1)) == LATEENBAEL_REFUSED_AREA);
+    CHECK(keep_batch(&b, lateenbael_mvcc_add_vector(body, PAGE, b, text("g"), 1, elements, 7)) == LATEENBAEL_REFUSED_TRUNCATED);
+    CHECK(keep_batch(&b, lateenbael_mvcc_add_text(body, PAGE, b, text("g"), 1, text("\xc0\x80"), 2)) == LATEENBAEL_REFUSED_TEXT);
+    CHECK(keep_batch(&b, lateenbael_mvcc_add_text(body, PAGE, b, text("g"), 1, long_text, PAGE)) == LATEENBAEL_REFUSED_FIT);
+    CHECK(keep_batch(&b, lateenbael_mvcc_add_bool(body, PAGE - 1, b, text("g"), 1, 1)) == LATEENBAEL_REFUSED_AREA);
 }
 
 static void walk(void) {
@@ -110,9 +110,9 @@ static void refusals(void) {
 static void fullest(void) {
     lateenbael_building b = lateenbael_mvcc_start(body, PAGE, 1);
     for (int64_t row = 0; row < 370; row++) {
-        CHECK(took_on(&b, lateenbael_mvcc_add_tombstone(body, PAGE, b, text(""), 0, row)) == LATEENBAEL_OK);
+        CHECK(keep_batch(&b, lateenbael_mvcc_add_tombstone(body, PAGE, b, text(""), 0, row)) == LATEENBAEL_OK);
     }
-    CHECK(took_on(&b, lateenbael_mvcc_add_tombstone(body, PAGE, b, text(""), 0, 370)) == LATEENBAEL_REFUSED_FIT);
+    CHECK(keep_batch(&b, lateenbael_mvcc_add_tombstone(body, PAGE, b, text(""), 0, 370)) == LATEENBAEL_REFUSED_FIT);
     CHECK(lateenbael_mvcc_decode(body, PAGE).records == 370);
 }
 

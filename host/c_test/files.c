@@ -1,5 +1,5 @@
-/* The store on two real files, as a C host keeps it: each named store by pwrite or ftruncate, and fsync where a flush follows. A
- * process that commits is killed after any of its stores, and the files are opened again. */
+/* The store on two real files, as a C host keeps it: each write that a step names by pwrite or ftruncate, and fsync where a flush follows.
+ * A process that commits is killed after any of its writes, and the files are opened again. */
 #define _POSIX_C_SOURCE 200809L
 #include "test.h"
 #include <fcntl.h>
@@ -33,8 +33,8 @@ static void remove_both(const char *folder) {
     CHECK(unlink(path) == 0 && rmdir(folder) == 0);
 }
 
-/* Whether a step's store reached its file, and the disk if a flush follows. */
-static bool carried(const files *f, const host *h, const lateenbael_step_answered *step) {
+/* Whether a step's write reached its file, and the disk if a flush follows. */
+static bool done_on_files(const files *f, const host *h, const lateenbael_step_answered *step) {
     bool in_log = step->area == LATEENBAEL_AREA_LOG;
     int file = in_log ? f->log : f->main;
     const uint8_t *area = in_log ? h->log : h->main;
@@ -45,7 +45,7 @@ static bool carried(const files *f, const host *h, const lateenbael_step_answere
 
 static void create_on(const files *f) {
     host h = new_host();
-    CHECK(took(&h, lateenbael_create(AREAS(&h), 0xab)) == LATEENBAEL_OK);
+    CHECK(keep_store(&h, lateenbael_create(AREAS(&h), 0xab)) == LATEENBAEL_OK);
     CHECK(pwrite(f->main, h.main, 2 * PAGE, 0) == 2 * PAGE && fsync(f->main) == 0);
     CHECK(pwrite(f->log, h.log, 32, 0) == 32 && fsync(f->log) == 0);
     free_host(&h);
@@ -57,40 +57,40 @@ static host open_clean(const files *f) {
     ssize_t main_len = pread(f->main, h.main, LATEENBAEL_MAIN_AREA, 0);
     ssize_t log_len = pread(f->log, h.log, LATEENBAEL_LOG_AREA, 0);
     CHECK(main_len >= 0 && log_len >= 0);
-    CHECK(took(&h, lateenbael_open_clean(AREAS(&h), (size_t)main_len, (size_t)log_len, 0, 1, 7)) == LATEENBAEL_OK);
+    CHECK(keep_store(&h, lateenbael_open_clean(AREAS(&h), (size_t)main_len, (size_t)log_len, 0, 1, 7)) == LATEENBAEL_OK);
     CHECK(ftruncate(f->log, (off_t)h.store.wal.len) == 0 && fsync(f->log) == 0);
     return h;
 }
 
-/* Commits two pages of equal bytes and folds them; the process is killed after so many stores. Returns if there are fewer. */
-static void write_until_killed(const files *f, uint8_t byte, unsigned stores) {
+/* Commits two pages of equal bytes with a checkpoint behind; the process is killed after so many writes. Returns if there are fewer. */
+static void write_until_killed(const files *f, uint8_t byte, unsigned writes) {
     host h = open_clean(f);
     lateenbael_db_header header = {3, 1, 4, 0};
     CHECK(stage(&h, 1, byte) == LATEENBAEL_OK && stage(&h, 2, byte) == LATEENBAEL_OK);
     lateenbael_answered begun = lateenbael_begin_commit(h.store, AREAS(&h), header, 1);
-    for (int fold = 0; fold < 2; fold++) {
-        CHECK(begun.begun == 1 && took(&h, begun) == LATEENBAEL_OK);
+    for (int checkpoint = 0; checkpoint < 2; checkpoint++) {
+        CHECK(begun.begun == 1 && keep_store(&h, begun) == LATEENBAEL_OK);
         lateenbael_step_answered step;
         do {
-            if (stores-- == 0) {
+            if (writes-- == 0) {
                 kill(getpid(), SIGKILL);
             }
             step = lateenbael_next_step(h.store, AREAS(&h));
             h.store = step.store;
-            CHECK(carried(f, &h, &step));
-        } while (step.kind == LATEENBAEL_STEP_STORE);
+            CHECK(done_on_files(f, &h, &step));
+        } while (step.kind == LATEENBAEL_STEP_WRITE);
         begun = lateenbael_begin_checkpoint(h.store, AREAS(&h), 2);
     }
     free_host(&h);
 }
 
 /* Whether the writer was killed before its last store. */
-static bool killed(const files *f, uint8_t byte, unsigned stores) {
+static bool killed(const files *f, uint8_t byte, unsigned writes) {
     fflush(stdout);
     pid_t writer = fork();
     CHECK(writer >= 0);
     if (writer == 0) {
-        write_until_killed(f, byte, stores);
+        write_until_killed(f, byte, writes);
         fflush(stdout);
         _exit(failed_checks() != 0);
     }
@@ -106,12 +106,12 @@ void test_files(void) {
     files f = open_both(folder);
     create_on(&f);
     write_until_killed(&f, 1, 100);
-    /* The commit has 3 stores, the seal last; the fold 2 pages, main header, main length, log length, log header. */
-    for (unsigned stores = 0; stores <= 9; stores++) {
-        uint8_t old = (uint8_t)(1 + stores), byte = (uint8_t)(2 + stores);
-        CHECK(killed(&f, byte, stores) == (stores < 9));
+    /* The commit has 3 writes, the commit frame last; the checkpoint 2 pages, main header, main length, log length, log header. */
+    for (unsigned writes = 0; writes <= 9; writes++) {
+        uint8_t old = (uint8_t)(1 + writes), byte = (uint8_t)(2 + writes);
+        CHECK(killed(&f, byte, writes) == (writes < 9));
         host h = open_clean(&f);
-        uint8_t seen = stores < 3 ? old : byte;
+        uint8_t seen = writes < 3 ? old : byte;
         CHECK(reads_as(&h, 1, seen) && reads_as(&h, 2, seen));
         free_host(&h);
         write_until_killed(&f, byte, 100);

@@ -39,7 +39,8 @@ static void call_all(host *h, lateenbael_store store, const uint8_t *body) {
     CHECK(found.area <= LATEENBAEL_AREA_STAGING && (found.area == LATEENBAEL_AREA_NONE || found.at + PAGE <= sizes[found.area]));
     uint32_t refusal = lateenbael_may_read(READING(&store), AREAS(h));
     CHECK(refusal == LATEENBAEL_OK || refusal == LATEENBAEL_REFUSED_AREA || refusal == LATEENBAEL_REFUSED_BUSY);
-    found = lateenbael_place_page(store.current_header.page_count, page, store.staged.count, store.staged.pages, h->table, LATEENBAEL_PAGES);
+    found =
+        lateenbael_place_page(store.current_header.page_count, page, store.staged.count, store.staged.pages, h->table, LATEENBAEL_PAGES);
     CHECK(found.area <= LATEENBAEL_AREA_STAGING && (found.area == LATEENBAEL_AREA_NONE || found.at + PAGE <= sizes[found.area]));
     lateenbael_batch_place place = lateenbael_recovered_mvcc_commits(store, h->log, LATEENBAEL_LOG_AREA, (size_t)some_number());
     CHECK(place.found == 0 || place.offset + FRAME <= LATEENBAEL_LOG_AREA);
@@ -63,7 +64,7 @@ static void call_all(host *h, lateenbael_store store, const uint8_t *body) {
     lateenbael_checkpoint(store, AREAS(h), 1);
 }
 
-/* A store that the wrong lengths of areas are told with is refused by every call that looks at them. */
+/* A store with wrong lengths of areas beside it is refused by every call that looks at them. */
 static void wrong_lengths(host *h) {
     lateenbael_db_header header = {2, 1, 4, 0};
     CHECK(lateenbael_find_page(h->store, h->table, 1023, h->log, LATEENBAEL_LOG_AREA, h->main, LATEENBAEL_MAIN_AREA, h->staging,
@@ -84,8 +85,8 @@ static void wrong_lengths(host *h) {
               .refusal == LATEENBAEL_REFUSED_AREA);
 }
 
-/* Room for the frames of two pages and no seal, and a table that says that one of the pages stands right at the log's length, where its
- * bytes lie already: the other page's frame would overwrite what it is compared with. */
+/* Room for the frames of two pages and no commit frame, and a table that says that one of the pages stands right at the log's length, where
+ * its bytes lie already: the other page's frame would overwrite what it is compared with. */
 static void table_past_the_log(host *h) {
     lateenbael_db_header header = {3, 1, 4, 0};
     size_t len = LATEENBAEL_LOG_AREA - 2 * FRAME;
@@ -111,13 +112,13 @@ static void table_past_the_log(host *h) {
     CHECK(a.refusal == LATEENBAEL_OK && a.answer == 2 && a.store.job.kind == 0 && a.store.staged.count == 0);
     CHECK(a.store.wal.len == LATEENBAEL_LOG_AREA);
     h->table[2] = h->table[3] = 0;
-    CHECK(took(h, lateenbael_clear_staged(h->store)) == LATEENBAEL_OK);
+    CHECK(keep_store(h, lateenbael_clear_staged(h->store)) == LATEENBAEL_OK);
 }
 
 void test_forged(void) {
     host h = new_host();
     uint8_t body[PAGE];
-    CHECK(took(&h, lateenbael_create(AREAS(&h), 0xab)) == LATEENBAEL_OK);
+    CHECK(keep_store(&h, lateenbael_create(AREAS(&h), 0xab)) == LATEENBAEL_OK);
     wrong_lengths(&h);
     table_past_the_log(&h);
     CHECK(lateenbael_mvcc_start(body, PAGE, 1).refusal == LATEENBAEL_OK);

@@ -21,7 +21,7 @@ PLACE(wal, len, 24);
 PLACE(wal, good_end, 32);
 PLACE(wal, last_commit_offset, 40);
 PLACE(wal, frame_count, 48);
-PLACE(wal, sealed, 56);
+PLACE(wal, committed, 56);
 PLACE(wal, last_commit_page_count, 60);
 
 SIZE(file_storage, 24);

@@ -11,13 +11,13 @@ static lateenbael_wal appended(lateenbael_wal wal, uint32_t page_num, uint32_t c
     return a.wal;
 }
 
-/* Document 01's sample: salt 0, page 1 with zero bytes, then the same sealed with count 2. */
+/* Document 01's sample: salt 0, page 1 with zero bytes, then the same as a commit frame with count 2. */
 static void sample(void) {
     const char *lines = "log 3 00000000 0 0\n0 page 1 0\n1 page 1 2\nend 2 8256 2\n";
     uint8_t out[LATEENBAEL_LISTING_SIZE] = {0};
     lateenbael_wal wal = lateenbael_wal_create(log_area, sizeof log_area, 0).wal;
     wal = appended(appended(wal, 1, 0), 1, 2);
-    CHECK(wal.len == 8256 && wal.last_commit_offset == 8256 && wal.frame_count == 2 && wal.sealed == 1);
+    CHECK(wal.len == 8256 && wal.last_commit_offset == 8256 && wal.frame_count == 2 && wal.committed == 1);
     lateenbael_list_answer listed = lateenbael_list_log(log_area, wal.len, out, sizeof out);
     CHECK(listed.refusal == LATEENBAEL_OK && listed.len == strlen(lines) && memcmp(out, lines, listed.len) == 0);
     CHECK(lateenbael_list_log(log_area, wal.len, out, sizeof out - 1).refusal == LATEENBAEL_REFUSED_AREA);
@@ -47,7 +47,7 @@ static void pages_and_batches(void) {
     CHECK(lateenbael_wal_next_batch(log_area, batch.wal.len, batch.wal, 0).found == 0);
     CHECK(found_at(batch.wal, 4, 0));
     wal = appended(appended(batch.wal, 4, 5), 6, 0);
-    /* The batch that this session sealed is found at once, and is no page. */
+    /* The batch that this session committed is found at once, and is no page. */
     CHECK(lateenbael_wal_next_batch(log_area, wal.len, wal, 0).offset == 32 + FRAME && found_at(wal, LATEENBAEL_MVCC_FRAME_MARKER, 0));
     lateenbael_wal_answer opened = lateenbael_wal_open(log_area, wal.len);
     CHECK(opened.refusal == LATEENBAEL_OK && opened.wal.len == wal.len && opened.wal.frame_count == 4 && wal.frame_count == 4);

@@ -1,10 +1,10 @@
-/* The store: created, written by steps, cut, reopened and folded; batches in it; every refusal of its calls. */
+/* The store: created, written by steps, cut, reopened, with checkpoints; batches in it; every refusal of its calls. */
 #include "test.h"
 
 /* A new store of 2 pages, and its files. */
 static host created(disk *d) {
     host h = new_host();
-    CHECK(took(&h, lateenbael_create(AREAS(&h), 0xab)) == LATEENBAEL_OK);
+    CHECK(keep_store(&h, lateenbael_create(AREAS(&h), 0xab)) == LATEENBAEL_OK);
     memcpy(d->main, h.main, h.store.storage.len);
     memcpy(d->log, h.log, h.store.wal.len);
     d->main_len = h.store.storage.len;
@@ -24,14 +24,14 @@ static lateenbael_db_header with_count(const host *h, uint32_t count) {
     return header;
 }
 
-/* Does and carries what is part done; the answer. `stores` counts the steps. */
-static size_t run_steps(host *h, disk *d, unsigned *stores) {
-    for (*stores = 1;; ++*stores) {
+/* Does what is part done, on the files too; the answer. `writes` counts the steps. */
+static size_t run_steps(host *h, disk *d, unsigned *writes) {
+    for (*writes = 1;; ++*writes) {
         lateenbael_step_answered step = lateenbael_next_step(h->store, AREAS(h));
         CHECK(step.refusal == LATEENBAEL_OK && step.kind != LATEENBAEL_STEP_IDLE);
         h->store = step.store;
-        carry(d, h, &step, SIZE_MAX);
-        if (step.kind != LATEENBAEL_STEP_STORE) {
+        write_step(d, h, &step, SIZE_MAX);
+        if (step.kind != LATEENBAEL_STEP_WRITE) {
             return step.answer;
         }
     }
@@ -42,24 +42,24 @@ static bool files_match(const host *h, const disk *d) {
            memcmp(d->log, h->log, d->log_len) == 0;
 }
 
-static size_t commit_by_steps(host *h, disk *d, lateenbael_db_header header, unsigned *stores) {
+static size_t commit_by_steps(host *h, disk *d, lateenbael_db_header header, unsigned *writes) {
     lateenbael_answered begun = lateenbael_begin_commit(h->store, AREAS(h), header, 0xcd);
-    CHECK(begun.begun == 1 && took(h, begun) == LATEENBAEL_OK);
-    return run_steps(h, d, stores);
+    CHECK(begun.begun == 1 && keep_store(h, begun) == LATEENBAEL_OK);
+    return run_steps(h, d, writes);
 }
 
-/* A store of 7 pages whose bytes are their numbers, folded, and its files. */
+/* A store of 7 pages whose bytes are their numbers, behind a checkpoint, and its files. */
 static host seven_pages(disk *d) {
     host h = created(d);
-    unsigned stores;
+    unsigned writes;
     for (uint32_t page = 2; page < 7; page++) {
         CHECK(stage(&h, page, (uint8_t)page) == LATEENBAEL_OK);
     }
-    CHECK(commit_by_steps(&h, d, with_count(&h, 7), &stores) == 5 && stores == 6);
+    CHECK(commit_by_steps(&h, d, with_count(&h, 7), &writes) == 5 && writes == 6);
     CHECK(d->flushes == 1 && files_match(&h, d));
     lateenbael_answered begun = lateenbael_begin_checkpoint(h.store, AREAS(&h), 0xef);
-    CHECK(begun.begun == 1 && took(&h, begun) == LATEENBAEL_OK);
-    CHECK(run_steps(&h, d, &stores) == 5 && stores == 5 + 4);
+    CHECK(begun.begun == 1 && keep_store(&h, begun) == LATEENBAEL_OK);
+    CHECK(run_steps(&h, d, &writes) == 5 && writes == 5 + 4);
     CHECK(d->flushes == 4 && files_match(&h, d) && d->log_len == 32 && d->main_len == 7 * PAGE);
     return h;
 }
@@ -88,7 +88,7 @@ static void busy(void) {
     disk d = new_disk();
     host h = seven_pages(&d);
     CHECK(stage(&h, 1, 11) == LATEENBAEL_OK);
-    CHECK(took(&h, lateenbael_begin_commit(h.store, AREAS(&h), header_of(&h), 1)) == LATEENBAEL_OK);
+    CHECK(keep_store(&h, lateenbael_begin_commit(h.store, AREAS(&h), header_of(&h), 1)) == LATEENBAEL_OK);
     CHECK(lateenbael_header(h.store).refusal == LATEENBAEL_REFUSED_BUSY);
     CHECK(lateenbael_access_mode(h.store).refusal == LATEENBAEL_REFUSED_BUSY);
     CHECK(lateenbael_clock_high_water(h.store).refusal == LATEENBAEL_REFUSED_BUSY);
@@ -99,8 +99,8 @@ static void busy(void) {
     CHECK(lateenbael_clear_staged(h.store).refusal == LATEENBAEL_REFUSED_BUSY);
     CHECK(lateenbael_checkpoint(h.store, AREAS(&h), 1).refusal == LATEENBAEL_REFUSED_BUSY);
     CHECK(h.store.job.kind == 1);
-    unsigned stores;
-    CHECK(run_steps(&h, &d, &stores) == 1 && stores == 2);
+    unsigned writes;
+    CHECK(run_steps(&h, &d, &writes) == 1 && writes == 2);
     lateenbael_step_answered idle = lateenbael_next_step(h.store, AREAS(&h));
     CHECK(idle.refusal == LATEENBAEL_OK && idle.kind == LATEENBAEL_STEP_IDLE);
     CHECK(reads_as(&h, 1, 11) && files_match(&h, &d));
@@ -109,18 +109,18 @@ static void busy(void) {
 }
 
 /* The first steps of a commit of page 5 reach the files, and of the next one some bytes. */
-static void cut_commit(host *h, disk *d, unsigned whole, size_t bytes) {
+static void power_cut_commit(host *h, disk *d, unsigned whole, size_t bytes) {
     CHECK(stage(h, 5, 55) == LATEENBAEL_OK);
-    CHECK(took(h, lateenbael_begin_commit(h->store, AREAS(h), header_of(h), 1)) == LATEENBAEL_OK);
+    CHECK(keep_store(h, lateenbael_begin_commit(h->store, AREAS(h), header_of(h), 1)) == LATEENBAEL_OK);
     for (unsigned i = 0; i <= whole; i++) {
         lateenbael_step_answered step = lateenbael_next_step(h->store, AREAS(h));
         h->store = step.store;
-        carry(d, h, &step, i < whole ? SIZE_MAX : bytes);
+        write_step(d, h, &step, i < whole ? SIZE_MAX : bytes);
     }
 }
 
-/* A cut commit counts only with its seal whole. */
-static void cutting(void) {
+/* A commit that a power cut ends counts only with its commit frame whole. */
+static void power_cuts(void) {
     const struct {
         unsigned whole;
         size_t bytes;
@@ -129,7 +129,7 @@ static void cutting(void) {
     for (size_t i = 0; i < sizeof cuts / sizeof *cuts; i++) {
         disk d = new_disk();
         host before = seven_pages(&d), after = new_host();
-        cut_commit(&before, &d, cuts[i].whole, cuts[i].bytes);
+        power_cut_commit(&before, &d, cuts[i].whole, cuts[i].bytes);
         CHECK(open_files(&after, &d, CLEAN) == LATEENBAEL_OK);
         CHECK(reads_as(&after, 5, cuts[i].page_5) && header_of(&after).page_count == 7);
         CHECK(after.store.wal.len == (cuts[i].page_5 == 5 ? 32 : 32 + 2 * FRAME));
@@ -139,17 +139,17 @@ static void cutting(void) {
     }
 }
 
-/* Page 5 unsealed, cut, reopened, page 3 committed, reopened: what page 5 is then. */
-static uint8_t page_5_after(enum how how) {
+/* Page 5 uncommitted, cut, reopened, page 3 committed, reopened: what page 5 is then. */
+static uint8_t page_5_after(enum open_mode mode) {
     disk d = new_disk();
     host h = seven_pages(&d), again = new_host();
-    unsigned stores;
-    cut_commit(&h, &d, 1, 0);
-    CHECK(open_files(&again, &d, how) == LATEENBAEL_OK);
+    unsigned writes;
+    power_cut_commit(&h, &d, 1, 0);
+    CHECK(open_files(&again, &d, mode) == LATEENBAEL_OK);
     d.log_len = again.store.wal.len;
     CHECK(stage(&again, 3, 33) == LATEENBAEL_OK);
-    CHECK(commit_by_steps(&again, &d, header_of(&again), &stores) == 1);
-    CHECK(open_files(&h, &d, how) == LATEENBAEL_OK && reads_as(&h, 3, 33));
+    CHECK(commit_by_steps(&again, &d, header_of(&again), &writes) == 1);
+    CHECK(open_files(&h, &d, mode) == LATEENBAEL_OK && reads_as(&h, 3, 33));
     uint8_t page_5 = reads_as(&h, 5, 5) ? 5 : reads_as(&h, 5, 55) ? 55 : 0;
     free_host(&h);
     free_host(&again);
@@ -157,7 +157,7 @@ static uint8_t page_5_after(enum how how) {
     return page_5;
 }
 
-static void phantoms(void) {
+static void uncommitted_frames(void) {
     CHECK(page_5_after(PLAIN) == 55);
     CHECK(page_5_after(CLEAN) == 5);
 }
@@ -173,15 +173,15 @@ static void batches(void) {
     disk d = new_disk();
     host h = seven_pages(&d), again = new_host();
     uint8_t body[PAGE];
-    unsigned stores;
+    unsigned writes;
     for (uint64_t time = 1; time <= 3; time++) {
         size_t at = h.store.wal.len;
         small_batch(body, time);
-        CHECK(took(&h, lateenbael_append_mvcc_batch(h.store, h.log, LATEENBAEL_LOG_AREA, body, PAGE)) == LATEENBAEL_OK);
+        CHECK(keep_store(&h, lateenbael_append_mvcc_batch(h.store, h.log, LATEENBAEL_LOG_AREA, body, PAGE)) == LATEENBAEL_OK);
         memcpy(d.log + at, h.log + at, FRAME);
         d.log_len = h.store.wal.len;
         if (time == 2) {
-            CHECK(commit_by_steps(&h, &d, header_of(&h), &stores) == 0 && stores == 1);
+            CHECK(commit_by_steps(&h, &d, header_of(&h), &writes) == 0 && writes == 1);
         }
     }
     CHECK(lateenbael_recovered_mvcc_commits(h.store, h.log, LATEENBAEL_LOG_AREA, 0).found == 0);
@@ -194,7 +194,7 @@ static void batches(void) {
         index = place.index + 1;
     }
     CHECK(lateenbael_recovered_mvcc_commits(again.store, again.log, LATEENBAEL_LOG_AREA, index).found == 0);
-    CHECK(took(&again, lateenbael_checkpoint(again.store, AREAS(&again), 1)) == LATEENBAEL_OK);
+    CHECK(keep_store(&again, lateenbael_checkpoint(again.store, AREAS(&again), 1)) == LATEENBAEL_OK);
     CHECK(lateenbael_recovered_mvcc_commits(again.store, again.log, LATEENBAEL_LOG_AREA, 0).found == 0);
     CHECK(lateenbael_recovered_mvcc_commits(again.store, again.log, 0, 0).refusal == LATEENBAEL_REFUSED_AREA);
     free_host(&h);
@@ -202,19 +202,19 @@ static void batches(void) {
     free_disk(&d);
 }
 
-/* One call stores what the steps store. */
+/* One call writes what the steps store. */
 static void in_one_call(void) {
     disk d = new_disk();
     host by_steps = seven_pages(&d), at_once = new_host();
-    unsigned stores;
+    unsigned writes;
     CHECK(open_files(&at_once, &d, CLEAN) == LATEENBAEL_OK);
     for (uint8_t n = 0; n < 50; n++) {
         lateenbael_db_header header = with_count(&by_steps, 7);
         CHECK(stage(&by_steps, 4, 100 + n) == LATEENBAEL_OK && stage(&at_once, 4, 100 + n) == LATEENBAEL_OK);
         lateenbael_answered answer = lateenbael_commit(at_once.store, AREAS(&at_once), header, 0xcd);
-        CHECK(took(&at_once, answer) == LATEENBAEL_OK);
-        CHECK(answer.answer == commit_by_steps(&by_steps, &d, header, &stores));
-        CHECK(stores == (n < 49 ? 2 : 2 + 5) && files_match(&at_once, &d));
+        CHECK(keep_store(&at_once, answer) == LATEENBAEL_OK);
+        CHECK(answer.answer == commit_by_steps(&by_steps, &d, header, &writes));
+        CHECK(writes == (n < 49 ? 2 : 2 + 5) && files_match(&at_once, &d));
     }
     CHECK(at_once.store.wal.frame_count == 0 && at_once.store.wal.header.salt == 0xcd && at_once.store.wal.header.checkpoint_seq == 2);
     free_host(&by_steps);
@@ -225,8 +225,8 @@ static void in_one_call(void) {
 static void clocks_and_staging(void) {
     disk d = new_disk();
     host h = seven_pages(&d);
-    CHECK(took(&h, lateenbael_observe_clock_high_water(h.store, 40)) == LATEENBAEL_OK);
-    CHECK(took(&h, lateenbael_observe_clock_high_water(h.store, 30)) == LATEENBAEL_OK);
+    CHECK(keep_store(&h, lateenbael_observe_clock_high_water(h.store, 40)) == LATEENBAEL_OK);
+    CHECK(keep_store(&h, lateenbael_observe_clock_high_water(h.store, 30)) == LATEENBAEL_OK);
     CHECK(lateenbael_clock_high_water(h.store).number == 40);
     for (uint32_t page = 0; page < 64; page++) {
         CHECK(stage(&h, page, 1) == LATEENBAEL_OK);
@@ -237,7 +237,7 @@ static void clocks_and_staging(void) {
     CHECK(stage(&h, 1024, 1) == LATEENBAEL_REFUSED_PAGE);
     CHECK(lateenbael_stage_page(h.store, h.staging, LATEENBAEL_STAGING_AREA, 1, h.main, 1).refusal == LATEENBAEL_REFUSED_AREA);
     CHECK(found_in(&h, &h.store, 5).area == LATEENBAEL_AREA_STAGING);
-    CHECK(took(&h, lateenbael_clear_staged(h.store)) == LATEENBAEL_OK && reads_as(&h, 5, 5));
+    CHECK(keep_store(&h, lateenbael_clear_staged(h.store)) == LATEENBAEL_OK && reads_as(&h, 5, 5));
     free_host(&h);
     free_disk(&d);
 }
@@ -262,7 +262,7 @@ static void refusals(void) {
     CHECK(files_match(&h, &d));
     small_batch(body, 1);
     for (unsigned i = 0; i < 1024; i++) {
-        CHECK(took(&h, lateenbael_append_mvcc_batch(h.store, h.log, LATEENBAEL_LOG_AREA, body, PAGE)) == LATEENBAEL_OK);
+        CHECK(keep_store(&h, lateenbael_append_mvcc_batch(h.store, h.log, LATEENBAEL_LOG_AREA, body, PAGE)) == LATEENBAEL_OK);
     }
     CHECK(h.store.wal.len == LATEENBAEL_LOG_AREA);
     CHECK(lateenbael_append_mvcc_batch(h.store, h.log, LATEENBAEL_LOG_AREA, body, PAGE).refusal == LATEENBAEL_REFUSED_LOG_FULL);
@@ -314,7 +314,7 @@ static uint8_t *log_page_size(disk *d) {
     return d->log + 12;
 }
 
-/* Refusals 6 and 8 want a sealed frame: page 0 without a header, and a count of 1,025 on page 1. */
+/* Refusals 6 and 8 want a committed frame: page 0 without a header, and a count of 1,025 on page 1. */
 static uint32_t opened_over(const disk *good, uint32_t page, uint32_t count) {
     disk d = copy_of(good);
     host h = new_host();
@@ -351,9 +351,9 @@ void test_opening(void) {
     CHECK(opened_over(&d, 1, 1024) == LATEENBAEL_OK);
     CHECK(lateenbael_open_clean(AREAS(&h), LATEENBAEL_MAIN_AREA + 1, 32, 0, 1, 1).refusal == LATEENBAEL_REFUSED_AREA);
     CHECK(lateenbael_open_clean(AREAS(&h), main_len, 32, 1, 1, 1).refusal == LATEENBAEL_REFUSED_READ_ONLY);
-    CHECK(took(&h, lateenbael_open_with_mode(AREAS(&h), main_len, 0, 1, 0, 1)) == LATEENBAEL_OK);
+    CHECK(keep_store(&h, lateenbael_open_with_mode(AREAS(&h), main_len, 0, 1, 0, 1)) == LATEENBAEL_OK);
     CHECK(h.store.opening == LATEENBAEL_OPENED_NO_LOG && reads_as(&h, 6, 6));
-    CHECK(took(&h, lateenbael_open_clean(AREAS(&h), main_len, 0, 0, 0, 0x77)) == LATEENBAEL_OK);
+    CHECK(keep_store(&h, lateenbael_open_clean(AREAS(&h), main_len, 0, 0, 0, 0x77)) == LATEENBAEL_OK);
     CHECK(h.store.opening == LATEENBAEL_OPENED_CLEAN && h.log[16] == 0x77 && h.store.wal.len == 32);
     free_host(&h);
     free_disk(&d);
@@ -362,8 +362,8 @@ void test_opening(void) {
 void test_store(void) {
     creating();
     busy();
-    cutting();
-    phantoms();
+    power_cuts();
+    uncommitted_frames();
     batches();
     in_one_call();
     clocks_and_staging();

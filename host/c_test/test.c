@@ -54,14 +54,14 @@ host new_host(void) {
 }
 
 void free_host(host *h) {
-    CHECK(guards_stand(h));
+    CHECK(guards_intact(h));
     free_area(h->table);
     free_area(h->log);
     free_area(h->main);
     free_area(h->staging);
 }
 
-bool guards_stand(const host *h) {
+bool guards_intact(const host *h) {
     return guarded(h->table, LATEENBAEL_PAGES * sizeof(uint32_t)) && guarded(h->log, LATEENBAEL_LOG_AREA) &&
            guarded(h->main, LATEENBAEL_MAIN_AREA) && guarded(h->staging, LATEENBAEL_STAGING_AREA);
 }
@@ -91,7 +91,7 @@ static void set_len(uint8_t *file, size_t *len, size_t to) {
     *len = to;
 }
 
-void carry(disk *d, const host *h, const lateenbael_step_answered *step, size_t most) {
+void write_step(disk *d, const host *h, const lateenbael_step_answered *step, size_t most) {
     bool in_log = step->area == LATEENBAEL_AREA_LOG;
     uint8_t *file = in_log ? d->log : d->main;
     size_t *file_len = in_log ? &d->log_len : &d->main_len;
@@ -107,18 +107,18 @@ void carry(disk *d, const host *h, const lateenbael_step_answered *step, size_t 
     d->flushes += step->flush;
 }
 
-uint32_t took(host *h, lateenbael_answered a) {
+uint32_t keep_store(host *h, lateenbael_answered a) {
     h->store = a.store;
     return a.refusal;
 }
 
-uint32_t open_files(host *h, const disk *d, enum how how) {
+uint32_t open_files(host *h, const disk *d, enum open_mode mode) {
     memcpy(h->main, d->main, d->main_len);
     memcpy(h->log, d->log, d->log_len);
-    if (how == CLEAN) {
-        return took(h, lateenbael_open_clean(AREAS(h), d->main_len, d->log_len, 0, 1, 7));
+    if (mode == CLEAN) {
+        return keep_store(h, lateenbael_open_clean(AREAS(h), d->main_len, d->log_len, 0, 1, 7));
     }
-    return took(h, lateenbael_open_with_mode(AREAS(h), d->main_len, d->log_len, how == READ_ONLY, 1, 7));
+    return keep_store(h, lateenbael_open_with_mode(AREAS(h), d->main_len, d->log_len, mode == READ_ONLY, 1, 7));
 }
 
 static bool all_are(const uint8_t *bytes, uint8_t byte) {
@@ -163,7 +163,7 @@ uint32_t stage(host *h, uint32_t page, uint8_t byte) {
     CHECK(done.refusal == whole.refusal && memcmp(&staged, &whole.store.staged, sizeof staged) == 0);
     CHECK(memcmp(area, h->staging, LATEENBAEL_STAGING_AREA) == 0);
     free(area);
-    return took(h, whole);
+    return keep_store(h, whole);
 }
 
 /* Runs a part and says how many checks it made. */

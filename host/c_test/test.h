@@ -28,7 +28,7 @@ typedef struct {
 host new_host(void);
 void free_host(host *h);
 /* Whether no byte outside of the areas was written. */
-bool guards_stand(const host *h);
+bool guards_intact(const host *h);
 
 /* The areas as calls take them. */
 #define AREAS(h)                                                                                                                           \
@@ -48,18 +48,18 @@ disk new_disk(void);
 void free_disk(disk *d);
 disk copy_of(const disk *d);
 
-/* Carries a named store to the files; only its first bytes, as many as `most`. */
-void carry(disk *d, const host *h, const lateenbael_step_answered *step, size_t most);
+/* Does a step's write on the files; only its first bytes, as many as `most`. */
+void write_step(disk *d, const host *h, const lateenbael_step_answered *step, size_t most);
 /* Reads the files into the areas and opens them. */
-enum how { PLAIN, CLEAN, READ_ONLY };
-uint32_t open_files(host *h, const disk *d, enum how how);
+enum open_mode { PLAIN, CLEAN, READ_ONLY };
+uint32_t open_files(host *h, const disk *d, enum open_mode mode);
 /* Where a page stands, by the whole store and by what a reading takes of it, which must agree. */
 lateenbael_page_answer found_in(const host *h, const lateenbael_store *store, uint32_t page);
 /* Whether a page reads as 4,096 equal bytes. */
 bool reads_as(const host *h, uint32_t page, uint8_t byte);
 
-/* Keeps the store that a call gives back, and tells the refusal. */
-uint32_t took(host *h, lateenbael_answered a);
+/* Keeps the store that a call gives back; answers the refusal. */
+uint32_t keep_store(host *h, lateenbael_answered a);
 uint32_t stage(host *h, uint32_t page, uint8_t byte);
 
 void test_layout(void);

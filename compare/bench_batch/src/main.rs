@@ -1,20 +1,17 @@
 //! Times `MvccCommitBatch::decode` and `encode` on three bodies, and with
 //! the feature `port` the port's functions on the same ones.
 
-mod bodies;
-#[cfg(feature = "port")]
-mod builder;
 #[cfg(feature = "port")]
 mod port;
 mod rust;
 mod side;
-mod timing;
 
+use bench::bodies;
+use bench::timing::{self, Timed, timed};
 use engine::mvcc::MvccCommitBatch;
 use engine::sql::pager::page::PAGE_SIZE;
 
 use side::Side;
-use timing::{Timed, timed};
 
 /// The Rust first: the others' ratios are to its times.
 fn sides() -> Vec<Side> {

@@ -1,9 +1,9 @@
 //! The port's side: the calls of its static library. A slice goes over as its
 //! address and its length.
 
+use bench::builder::build;
 use lateenbael_sys as sys;
 
-use crate::builder::build;
 use crate::side::Side;
 
 pub const SIDE: Side = Side {

@@ -30,13 +30,13 @@ pub fn empty_log() -> Vec<u8> {
 }
 
 /// A log that begins with these pages and goes on from the first again, each
-/// `seal_each`-th frame being page 0 and a seal.
-pub fn log(pages: u32, frames: u32, seal_each: u32) -> Vec<u8> {
+/// `commit_each`-th frame being page 0 and a commit frame.
+pub fn log(pages: u32, frames: u32, commit_each: u32) -> Vec<u8> {
     let path = Path::from("log");
     let mut wal = Wal::create(&path).expect("a file in memory");
     let mut number = 0;
     for frame in 1..=frames {
-        if frame % seal_each == 0 {
+        if frame % commit_each == 0 {
             wal.append_frame(0, &header_page(), Some(PAGE_COUNT))
         } else {
             number += 1;
@@ -60,7 +60,7 @@ fn header_page() -> Page {
 /// Any bytes.
 fn page(page_num: u32, version: u32) -> Page {
     let seed = u64::from(version) << 44 | u64::from(page_num) << 32;
-    std::array::from_fn(|at| world::mix(seed | at as u64) as u8)
+    std::array::from_fn(|at| splitmix::mix(seed | at as u64) as u8)
 }
 
 /// Where a page that is written differs from the one before it.

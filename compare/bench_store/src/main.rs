@@ -1,9 +1,6 @@
 //! Times the pager's calls, the Rust's and the port's, in memory and in files
 //! on a file system in memory. `bench_store [ROUNDS] [GROUP]...`
 
-#[path = "../../bench_batch/src/bodies.rs"]
-mod bodies;
-mod builder;
 mod files;
 mod port;
 mod rows;

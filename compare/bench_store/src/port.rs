@@ -4,11 +4,12 @@
 use std::fs;
 use std::path::{Path, PathBuf};
 
+use bench::builder;
 use engine::mvcc::MvccCommitBatch;
+use engine::sql::pager::page::PAGE_SIZE;
 use lateenbael::sys::DbHeader;
 use lateenbael::{Engine, Mode, Store, wal_path_for};
 
-use crate::builder;
 use crate::files::{FORMAT_VERSION, PAGE_COUNT, SCHEMA_ROOT_PAGE};
 use crate::side::{Page, Side};
 
@@ -19,7 +20,7 @@ pub const HEADER: DbHeader = DbHeader {
     freelist_head: 0,
 };
 
-/// The log's salt behind a fold in memory.
+/// The log's salt behind a checkpoint in memory.
 const SALT: u32 = 0x5a17;
 
 pub struct InMemory {
@@ -81,7 +82,9 @@ macro_rules! called_alike {
         }
 
         fn append_built(&mut self, batch: &Self::Batch) {
-            self.append(&builder::build(batch));
+            let mut body = [0; PAGE_SIZE];
+            builder::build(batch, &mut body);
+            self.append(&body);
         }
     };
 }
@@ -110,7 +113,7 @@ impl Side for InMemory {
         self.engine.commit(HEADER, SALT).expect("it has a place")
     }
 
-    fn fold(&mut self) -> usize {
+    fn checkpoint(&mut self) -> usize {
         self.engine.checkpoint(SALT).expect("nothing is part done")
     }
 
@@ -171,9 +174,9 @@ impl Side for InFiles {
         self.called_mut().commit(HEADER).expect("it has a place")
     }
 
-    fn fold(&mut self) -> usize {
-        let folded = self.called_mut().checkpoint();
-        folded.expect("files take every store")
+    fn checkpoint(&mut self) -> usize {
+        let written = self.called_mut().checkpoint();
+        written.expect("files take every store")
     }
 
     fn log_file(&self) -> Vec<u8> {

@@ -1,8 +1,8 @@
 //! The groups of rows, and what they share.
 
 mod batch;
+mod checkpoint;
 mod commit;
-mod fold;
 mod opening;
 mod own;
 mod read;
@@ -33,7 +33,7 @@ pub const GROUPS: [(&str, [&str; 4], Group); 7] = [
     ("stage", BOTH, stage::rows),
     ("commit", BOTH, commit::rows),
     ("own", OWN, own::rows),
-    ("fold", BOTH, fold::rows),
+    ("fold", BOTH, checkpoint::rows),
     ("batch", BOTH, batch::rows),
 ];
 

@@ -71,7 +71,7 @@ macro_rules! pager_of {
                 self.pager().commit(header).expect("files take every store")
             }
 
-            fn fold(&mut self) -> usize {
+            fn checkpoint(&mut self) -> usize {
                 self.pager().checkpoint().expect("files take every store")
             }
 

@@ -20,7 +20,7 @@ pub trait Side {
     fn clear(&mut self);
     /// Commits what is staged, with the header of `files`.
     fn commit(&mut self) -> usize;
-    fn fold(&mut self) -> usize;
+    fn checkpoint(&mut self) -> usize;
     /// Appends the batch of a body; it is decoded on the way.
     fn append(&mut self, body: &Page);
     /// A body's batch as a caller has it before it is built.

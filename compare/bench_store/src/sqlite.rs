@@ -1,7 +1,7 @@
 //! SQLite in WAL mode on the same page writes: a table of 500 rows, each with
 //! a blob that has a page of the file to itself. One connection owns the
-//! files, a commit flushes the log once (`synchronous=FULL`), and nothing is
-//! folded but when it is asked for.
+//! files, a commit flushes the log once (`synchronous=FULL`), and there is
+//! no checkpoint but when it is asked for.
 
 use std::ffi::{CString, c_char, c_int, c_void};
 use std::path::Path;
@@ -57,7 +57,7 @@ unsafe extern "C" {
 const SETTINGS: &str = "PRAGMA page_size=4096; PRAGMA locking_mode=EXCLUSIVE; \
     PRAGMA journal_mode=WAL; PRAGMA synchronous=FULL; PRAGMA wal_autocheckpoint=0; \
     CREATE TABLE pages(id INTEGER PRIMARY KEY, body BLOB); \
-    CREATE TABLE folds(count INTEGER); INSERT INTO folds VALUES(0)";
+    CREATE TABLE checkpoints(count INTEGER); INSERT INTO checkpoints VALUES(0)";
 
 // Every `unsafe` below hands over what this connection made, and blobs that
 // outlive the step that reads them.
@@ -97,7 +97,7 @@ impl Sqlite {
         }
         self.run("COMMIT");
         unsafe { sqlite3_finalize(insert) };
-        self.fold();
+        self.checkpoint_and_commit();
     }
 
     fn run(&self, sql: &str) {
@@ -147,9 +147,9 @@ impl Sqlite {
 
     /// The same, and a first commit of one page, which flushes the log's
     /// header too: those behind it flush once.
-    pub fn fold(&mut self) {
+    pub fn checkpoint_and_commit(&mut self) {
         self.checkpoint();
-        self.run("UPDATE folds SET count = count + 1");
+        self.run("UPDATE checkpoints SET count = count + 1");
     }
 
     /// The row last written has the page's bytes.

@@ -3,6 +3,8 @@
 use std::hint::black_box;
 use std::time::{Duration, Instant};
 
+use bench::timing::median;
+
 /// Takes one sample: nanoseconds per call.
 pub type Sampler<'a> = Box<dyn FnMut() -> f64 + 'a>;
 
@@ -17,11 +19,6 @@ pub fn in_turns(rounds: usize, mut samplers: Vec<Sampler>) -> Vec<f64> {
     samples.into_iter().map(median).collect()
 }
 
-fn median(mut samples: Vec<f64>) -> f64 {
-    samples.sort_by(f64::total_cmp);
-    samples[samples.len() / 2]
-}
-
 /// How long it takes.
 pub fn clock<T>(call: impl FnOnce() -> T) -> Duration {
     let start = Instant::now();
@@ -34,14 +31,4 @@ pub fn clock<T>(call: impl FnOnce() -> T) -> Duration {
 /// Nanoseconds of one of so many calls.
 pub fn each(time: Duration, calls: usize) -> f64 {
     time.as_nanos() as f64 / calls as f64
-}
-
-#[cfg(test)]
-mod tests {
-    use super::*;
-
-    #[test]
-    fn the_median_is_in_the_middle() {
-        assert_eq!(median(vec![9.0, 1.0, 100.0]), 9.0);
-    }
 }

@@ -7,12 +7,11 @@ mod pages;
 mod port;
 mod rust;
 mod side;
-#[path = "../../bench_batch/src/timing.rs"]
-mod timing;
+
+use bench::timing::{self, timed};
 
 use pages::{FRAME_SIZE, HEADING_SIZE, PAGE_SIZE};
 use side::Side;
-use timing::timed;
 
 /// Slowest first: the last one's ratios are to the others' times.
 fn sides() -> Vec<Side> {

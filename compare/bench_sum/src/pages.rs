@@ -1,5 +1,7 @@
 //! The frames that are summed.
 
+use splitmix::Random;
+
 pub const PAGE_SIZE: usize = 4_096;
 pub const FRAME_SIZE: usize = 16 + PAGE_SIZE;
 /// What a frame's checksum covers of its first 16 bytes.
@@ -10,9 +12,9 @@ const FRAMES: usize = 64;
 
 /// Frames of each kind, all their bytes alike: a page is their first bytes.
 pub fn all() -> [(&'static str, Vec<[u8; FRAME_SIZE]>); 6] {
-    let mut random = Random(88_172_645_463_325_252);
+    let mut random = Random::new(88_172_645_463_325_252);
     let mut of = |byte: fn(usize, u8) -> u8| {
-        let mut frame = || std::array::from_fn(|at| byte(at, random.byte()));
+        let mut frame = || std::array::from_fn(|at| byte(at, random.u8()));
         (0..FRAMES).map(|_| frame()).collect()
     };
     [
@@ -30,16 +32,4 @@ pub fn all() -> [(&'static str, Vec<[u8; FRAME_SIZE]>); 6] {
             of(|at, _| if at < 25 && at % 8 == 0 { 0xff } else { 0 }),
         ),
     ]
-}
-
-/// Xorshift.
-struct Random(u64);
-
-impl Random {
-    fn byte(&mut self) -> u8 {
-        self.0 ^= self.0 << 13;
-        self.0 ^= self.0 >> 7;
-        self.0 ^= self.0 << 17;
-        (self.0 >> 32) as u8
-    }
 }

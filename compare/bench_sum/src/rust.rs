@@ -6,15 +6,15 @@ use crate::side::Side;
 
 pub const SIDE: Side = Side {
     name: "Rust",
-    sum: |bytes| carried(0, bytes),
+    sum: |bytes| sum_over(0, bytes),
     frame: |frame| {
-        let sum = carried(0, &frame[..HEADING_SIZE]);
-        carried(sum, &frame[FRAME_SIZE - PAGE_SIZE..])
+        let sum = sum_over(0, &frame[..HEADING_SIZE]);
+        sum_over(sum, &frame[FRAME_SIZE - PAGE_SIZE..])
     },
 };
 
 #[inline(never)]
-fn carried(start: u32, bytes: &[u8]) -> u32 {
+fn sum_over(start: u32, bytes: &[u8]) -> u32 {
     let mut sum = start;
     for &b in bytes {
         sum = sum.rotate_left(1).wrapping_add(b as u32);

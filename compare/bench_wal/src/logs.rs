@@ -9,7 +9,7 @@ use stand_in::world;
 
 pub const FRAMES: u32 = 1_024;
 
-/// The commit count of every seal.
+/// The commit count of every commit frame.
 pub const COUNT: u32 = 500;
 
 pub fn all() -> [(&'static str, Vec<u8>); 2] {
@@ -42,7 +42,7 @@ fn log(is_batch: fn(u32) -> bool) -> Vec<u8> {
 fn page(index: u32) -> [u8; PAGE_SIZE] {
     let mut page = [0; PAGE_SIZE];
     for (at, byte) in page.iter_mut().enumerate() {
-        *byte = world::mix(u64::from(index) << 32 | at as u64) as u8;
+        *byte = splitmix::mix(u64::from(index) << 32 | at as u64) as u8;
     }
     page
 }
@@ -74,7 +74,7 @@ mod tests {
     use super::*;
 
     #[test]
-    fn they_are_full_and_sealed() {
+    fn they_are_full_and_committed() {
         for (_, log) in all() {
             assert_eq!(log.len(), 4_210_720);
             let path = Path::from("log");

@@ -5,15 +5,13 @@ mod logs;
 #[cfg(feature = "port")]
 mod port;
 mod rust;
-#[path = "../../bench_batch/src/timing.rs"]
-mod timing;
 
+use bench::timing::{self, Timed, timed};
 use stand_in::path::Path;
 use stand_in::world;
-use timing::{Timed, timed};
 
 /// A function that is timed, with its name.
-type Named<'a> = (&'static str, Timed<'a>);
+type TimedCall<'a> = (&'static str, Timed<'a>);
 
 fn main() {
     for (name, log) in logs::all() {
@@ -24,7 +22,7 @@ fn main() {
 }
 
 /// What the Rust does with a log: the ratios are to these times.
-fn rusts<'a>(log: &'a [u8], file: &'a rust::File) -> Vec<Named<'a>> {
+fn rusts<'a>(log: &'a [u8], file: &'a rust::File) -> Vec<TimedCall<'a>> {
     let path = Path::from("log");
     world::write_file(&path, log);
     vec![
@@ -40,7 +38,7 @@ fn rusts<'a>(log: &'a [u8], file: &'a rust::File) -> Vec<Named<'a>> {
 /// What the port does with it, where the log lies, and with all of it read
 /// from the file before.
 #[cfg(feature = "port")]
-fn ports<'a>(log: &'a [u8], file: &'a rust::File) -> Vec<Named<'a>> {
+fn ports<'a>(log: &'a [u8], file: &'a rust::File) -> Vec<TimedCall<'a>> {
     let mut area = vec![0; log.len()];
     let from_file = move || {
         file.read(&mut area);
@@ -53,7 +51,7 @@ fn ports<'a>(log: &'a [u8], file: &'a rust::File) -> Vec<Named<'a>> {
 }
 
 #[cfg(not(feature = "port"))]
-fn ports<'a>(_: &[u8], _: &rust::File) -> Vec<Named<'a>> {
+fn ports<'a>(_: &[u8], _: &rust::File) -> Vec<TimedCall<'a>> {
     Vec::new()
 }
 
@@ -67,7 +65,7 @@ fn checked(mut call: impl FnMut() -> u64) -> impl FnMut() -> u64 {
 }
 
 /// The times; of the port's also the ratios to each of the Rust's.
-fn print<'a>(mut rusts: Vec<Named<'a>>, mut ports: Vec<Named<'a>>) {
+fn print<'a>(mut rusts: Vec<TimedCall<'a>>, mut ports: Vec<TimedCall<'a>>) {
     let count = rusts.len();
     let all = rusts.iter_mut().chain(&mut ports);
     let medians = timing::medians(all.map(|(_, timed)| timed));

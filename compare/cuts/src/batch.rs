@@ -1,6 +1,6 @@
 //! A batch by document 01: `MVCC0001`, commit time, records; read, written, and drawn at random.
 use crate::judge::Number;
-use crate::random::Random;
+use splitmix::Random;
 
 pub const BODY: usize = 4096;
 const HEAD: usize = 18;
@@ -196,7 +196,7 @@ fn draw_value(random: &mut Random) -> Value {
         1 => Value::Integer(random.u64() as i64),
         2 => Value::Real(random.pick(&[0, 1 << 63, 0x7ff8_0000_0000_0001, random.clone().u64()])),
         3 => Value::Text(draw_text(random).repeat(random.below(4))),
-        4 => Value::Bool(random.once_in(2)),
+        4 => Value::Bool(random.one_in(2)),
         _ => Value::Vector((0..random.below(5)).map(|_| random.u32()).collect()),
     }
 }

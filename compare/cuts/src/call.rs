@@ -1,11 +1,11 @@
 //! A call of the history, with all its arguments, and how it is printed.
-use crate::book::{Header, PAGE, Page};
-use crate::random::Random;
+use crate::model::{Header, PAGE, Page};
+use splitmix::Random;
 use std::fmt;
 
 /// An area that a call is lent one entry too short.
 #[derive(Clone, Copy, Debug, PartialEq, Eq)]
-pub enum Lent {
+pub enum AreaName {
     Table,
     Log,
     Main,
@@ -26,7 +26,7 @@ pub enum Fault {
     MainByte(usize, u32),
     LogByte(usize, u32),
     MainBelowCount,
-    /// A sealed page 0 in the log that is no header, or has so many pages.
+    /// A committed page 0 in the log that is no header, or has so many pages.
     PageZeroBad,
     PageZeroCount(u32),
 }
@@ -41,17 +41,17 @@ pub enum Call {
     Clock(u64),
     Append(Vec<u8>),
     BeginCommit(Header, u32),
-    BeginFold(u32),
+    BeginCheckpoint(u32),
     Step,
     Commit(Header, u32),
-    Fold(u32),
+    Checkpoint(u32),
     /// A clean opening where the areas stand.
     Open,
     /// An opening that is refused, in vain read-only or not.
     BadOpen(Fault, bool),
     /// A call with an area too short.
-    Short(Lent, Box<Call>),
-    /// The call's stores cut: so many whole, so many bytes of the next; then a clean opening in
+    Short(AreaName, Box<Call>),
+    /// The call's writes cut: so many whole, so many bytes of the next; then a clean opening in
     /// other areas. Of `Step`: of all the steps that are left.
     Cut(Box<Call>, Place),
 }
@@ -59,7 +59,7 @@ pub enum Call {
 /// Where a call is cut, and what follows.
 #[derive(Clone, Copy, Debug, PartialEq, Eq)]
 pub struct Place {
-    pub store: usize,
+    pub whole_writes: usize,
     pub bytes: usize,
     /// Seed of what lies in the fresh areas.
     pub stale: u64,
@@ -87,10 +87,10 @@ impl Call {
             Call::Clock(..) => "clock",
             Call::Append(..) => "batch",
             Call::BeginCommit(..) => "begin commit",
-            Call::BeginFold(..) => "begin fold",
+            Call::BeginCheckpoint(..) => "begin fold",
             Call::Step => "step",
             Call::Commit(..) => "commit",
-            Call::Fold(..) => "fold",
+            Call::Checkpoint(..) => "fold",
             Call::Open => "open",
             Call::BadOpen(..) => "bad opening",
             Call::Short(..) => "short area",
@@ -117,12 +117,15 @@ impl fmt::Display for Header {
 impl fmt::Display for Place {
     fn fmt(&self, f: &mut fmt::Formatter<'_>) -> fmt::Result {
         let Place {
-            store,
+            whole_writes,
             bytes,
             stale,
             again,
         } = self;
-        write!(f, "after {store} stores and {bytes} bytes, stale {stale}")?;
+        write!(
+            f,
+            "after {whole_writes} stores and {bytes} bytes, stale {stale}"
+        )?;
         match again {
             None => Ok(()),
             Some(true) => write!(f, ", opening cut behind its length"),
@@ -150,9 +153,9 @@ impl fmt::Display for Call {
             Call::BeginCommit(header, salt) | Call::Commit(header, salt) => {
                 write!(f, " {header} salt {salt:08x}")
             }
-            Call::BeginFold(salt) | Call::Fold(salt) => write!(f, " salt {salt:08x}"),
+            Call::BeginCheckpoint(salt) | Call::Checkpoint(salt) => write!(f, " salt {salt:08x}"),
             Call::BadOpen(fault, read_only) => write!(f, " {fault:?} read-only {read_only}"),
-            Call::Short(lent, call) => write!(f, " {lent:?}: {call}"),
+            Call::Short(area, call) => write!(f, " {area:?}: {call}"),
             Call::Cut(call, place) => write!(f, " [{call}] {place}"),
             _ => Ok(()),
         }

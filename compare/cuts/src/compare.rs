@@ -1,7 +1,7 @@
-//! An open store against the book.
+//! An open store against the model.
 use crate::batch;
+use crate::expected::Expected;
 use crate::judge::{Answer, Refused};
-use crate::law::Law;
 use crate::port;
 use lateenbael::Engine;
 
@@ -24,7 +24,7 @@ fn shown(answer: &Result<Answer, Refused>) -> String {
         Err((14, page)) => format!("refused 14 {page}"),
         Err((number, _)) => format!("refused {number}"),
         Ok(Answer::Page(page)) => first_bytes(page.as_deref()),
-        Ok(Answer::Told(header, clock, read_only)) => {
+        Ok(Answer::Status(header, clock, read_only)) => {
             format!("{header}, clock {clock}, read-only {read_only}")
         }
         Ok(answer) => format!("{answer:?}"),
@@ -43,18 +43,18 @@ pub fn compare_answers(found: &Result<Answer, Refused>, wanted: &Result<Answer, 
 }
 
 /// Header and clock, and that the store can be written.
-pub fn compare_header(engine: &Engine, law: &Law) -> Check {
-    let wanted = Answer::Told(law.book.header, law.clock, false);
+pub fn compare_header(engine: &Engine, expected: &Expected) -> Check {
+    let wanted = Answer::Status(expected.model.header, expected.clock, false);
     compare_answers(&port::query(engine), &Ok(wanted))
 }
 
 /// Every page's reading from 1 to 1,023.
-pub fn compare_pages(engine: &Engine, law: &Law) -> Check {
+pub fn compare_pages(engine: &Engine, expected: &Expected) -> Check {
     for page in 1..1024 {
         let found = engine
             .read_page(page)
             .map_err(|refusal| format!("page {page}: {refusal}"))?;
-        let wanted = law.book.read(page).map(|bytes| &bytes[..]);
+        let wanted = expected.model.read(page).map(|bytes| &bytes[..]);
         let what = || {
             format!(
                 "page {page} reads {}, by the book {}",
@@ -68,9 +68,9 @@ pub fn compare_pages(engine: &Engine, law: &Law) -> Check {
 }
 
 /// The recovered batches, in order, each as `encode` writes it.
-pub fn compare_batches(engine: &Engine, law: &Law) -> Check {
+pub fn compare_batches(engine: &Engine, expected: &Expected) -> Check {
     let mut index = 0;
-    let mut wanted = law.book.sealed.iter();
+    let mut wanted = expected.model.committed.iter();
     loop {
         let found = engine
             .recovered(index)

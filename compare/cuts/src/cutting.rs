@@ -1,48 +1,48 @@
-//! Cuts of a world's next call: its stores are done in the port's areas, then carried to the
-//! files up to the cut; the files are opened in other areas and compared with the book.
+//! Cuts of a world's next call: its writes are done in the port's areas, then in the
+//! files up to the cut; the files are opened in other areas and compared with the model.
 use crate::call::{Call, Place};
 use crate::compare::{Check, compare_batches, compare_header, compare_pages, ensure};
-use crate::files::{Done, Files};
+use crate::expected::Expected;
+use crate::files::{DoneWrite, MemoryFiles};
 use crate::judge::Answer;
-use crate::law::Law;
 use crate::places::places;
-use crate::random::Random;
-use crate::store::FRAME;
 use crate::world::World;
+use crate::writes::FRAME;
 use crate::wrong::Wrong;
 use lateenbael::Area;
+use splitmix::Random;
 
 /// A cut from which the history may go on, and the world's state at it.
-struct Kept {
-    files: Files,
-    law: Law,
-    sealed: Vec<u8>,
+struct CutState {
+    files: MemoryFiles,
+    expected: Expected,
+    committed: Vec<u8>,
     place: Place,
 }
 
 impl World {
-    /// Begins the call (which isn't refused) and does all its stores in the port's areas, but
-    /// neither in the files nor in the book.
-    fn rehearse(&mut self, call: &Call) -> Result<Vec<Done>, String> {
-        let Ok(plan) = self.law.judge(call) else {
+    /// Begins the call (which isn't refused) and does all its writes in the port's areas, but
+    /// neither in the files nor in the model.
+    fn dry_run(&mut self, call: &Call) -> Result<Vec<DoneWrite>, String> {
+        let Ok(plan) = self.expected.judge(call) else {
             return Err("a refused call has no stores".into());
         };
         let begin = match call {
             Call::Commit(header, salt) => Call::BeginCommit(*header, *salt),
-            Call::Fold(salt) => Call::BeginFold(*salt),
+            Call::Checkpoint(salt) => Call::BeginCheckpoint(*salt),
             _ => call.clone(),
         };
         if !matches!(call, Call::Step | Call::Open) {
-            let wanted = self.law.judge(&begin).map(|plan| plan.answer);
+            let wanted = self.expected.judge(&begin).map(|plan| plan.answer);
             self.ask(&begin, &wanted)?;
         }
         self.start(call, plan);
-        let stores = self.law.todo.len();
+        let writes = self.expected.todo.len();
         let mut done = Vec::new();
-        for i in 0..stores {
-            if matches!(call, Call::Commit(..) | Call::Fold(_) | Call::Step) {
-                let last = (i + 1 == stores).then_some(self.law.number);
-                let wanted = Answer::Stored(self.law.todo[i].named, last);
+        for i in 0..writes {
+            if matches!(call, Call::Commit(..) | Call::Checkpoint(_) | Call::Step) {
+                let last = (i + 1 == writes).then_some(self.expected.number);
+                let wanted = Answer::Stored(self.expected.todo[i].write, last);
                 self.ask(&Call::Step, &Ok(wanted))?;
             }
             done.push(self.in_areas(i));
@@ -50,91 +50,91 @@ impl World {
         Ok(self.reordered(done))
     }
 
-    /// The stores in their order, or in a wrong one.
-    fn reordered(&mut self, done: Vec<Done>) -> Vec<Done> {
-        let wrong = self.law.wrong;
-        let todo = std::mem::take(&mut self.law.todo);
+    /// The writes in their order, or in a wrong one.
+    fn reordered(&mut self, done: Vec<DoneWrite>) -> Vec<DoneWrite> {
+        let wrong = self.expected.wrong;
+        let todo = std::mem::take(&mut self.expected.todo);
         let mut both: Vec<_> = todo.into_iter().zip(done).collect();
-        both.sort_by_key(|(store, _)| wrong.rank(&store.kind));
+        both.sort_by_key(|(planned, _)| wrong.rank(&planned.kind));
         let (todo, done): (Vec<_>, Vec<_>) = both.into_iter().unzip();
-        self.law.todo = todo.into();
+        self.expected.todo = todo.into();
         done
     }
 
     /// A cut at one place, after which the history goes on from what the opening found.
     pub(crate) fn cut_at(&mut self, call: &Call, place: &Place) -> Check {
-        if self.law.judge(call).is_err() {
+        if self.expected.judge(call).is_err() {
             return self.one_call(call);
         }
-        let stores = self.rehearse(call)?;
-        for done in stores.iter().take(place.store) {
-            self.store_whole(done);
+        let writes = self.dry_run(call)?;
+        for done in writes.iter().take(place.whole_writes) {
+            self.write_whole(done);
         }
-        let done = stores.get(place.store);
-        // a list of calls that was shrunk may have another, shorter store there
-        let most = done.map_or(0, |done| done.named.len.saturating_sub(1));
+        let done = writes.get(place.whole_writes);
+        // a list of calls that was shrunk may have another, shorter write there
+        let most = done.map_or(0, |done| done.write.len.saturating_sub(1));
         let bytes = place.bytes.min(most);
-        self.go_on_from(done, &Place { bytes, ..*place })
+        self.continue_from(done, &Place { bytes, ..*place })
     }
 
-    /// Opens the files cut in the next store and goes on with what was opened.
-    fn go_on_from(&mut self, done: Option<&Done>, place: &Place) -> Check {
+    /// Opens the files cut in the next write and goes on with what was opened.
+    fn continue_from(&mut self, done: Option<&DoneWrite>, place: &Place) -> Check {
         self.lend_probe(place.stale);
-        let law = self.law.opened_after(place.bytes);
-        self.open_cut(done, place, &law)?;
-        self.law = law;
+        let expected = self.expected.opened_after(place.bytes);
+        self.open_cut(done, place, &expected)?;
+        self.expected = expected;
         if let Some(done) = done {
-            self.files.cut(done, place.bytes, self.law.wrong);
+            self.files.cut(done, place.bytes, self.expected.wrong);
         }
-        self.files.log.truncate(self.law.disk.log_len());
+        self.files.log.truncate(self.expected.disk.log_len());
         std::mem::swap(&mut self.live, &mut self.probe);
-        self.tally.gone_on += 1;
+        self.tally.continued += 1;
         Ok(())
     }
 
-    /// Every store of the call cut after every byte of interest, at most so many cuts, each opened
+    /// Every write of the call cut after every byte of interest, at most so many cuts, each opened
     /// and compared. Then the history goes on, from one of the cuts or from the call's end.
     pub fn cut_everywhere(&mut self, call: &Call, random: &mut Random, most: usize) -> Check {
-        if self.law.judge(call).is_err() {
+        if self.expected.judge(call).is_err() {
             return self.call(call);
         }
         self.tally.call(call);
         self.history.push(call.clone());
-        let stores = self.rehearse(call)?;
-        let goes_on = random.once_in(2).then(|| random.below(stores.len() + 1));
+        let writes = self.dry_run(call)?;
+        let continues_at = random.one_in(2).then(|| random.below(writes.len() + 1));
         let end = self.tally.cuts + most;
         let mut kept = None;
-        for (k, done) in stores.iter().map(Some).chain([None]).enumerate() {
-            let bytes = done.map_or(vec![0], |done| places(&done.named, stores.len(), random));
+        for (k, done) in writes.iter().map(Some).chain([None]).enumerate() {
+            let bytes = done.map_or(vec![0], |done| places(&done.write, writes.len(), random));
             let stale = random.u64();
             let place = |bytes| Place {
-                store: k,
+                whole_writes: k,
                 bytes,
                 stale,
                 again: None,
             };
-            if goes_on == Some(k) {
+            if continues_at == Some(k) {
                 kept = Some(self.keep(place(random.pick(&bytes))));
             }
             self.lend_probe(stale);
             let cut = bytes
                 .iter()
                 .try_for_each(|bytes| self.cut_once(done, place(*bytes), random, end));
-            cut.map_err(|(place, what)| self.noted(call, place, what))?;
+            cut.map_err(|(place, what)| self.record_cut(call, place, what))?;
             if let Some(done) = done {
-                self.store_whole(done);
+                self.write_whole(done);
             }
         }
         match kept {
             None => self.end_whole(call),
-            Some(kept) => self.go_back(call, &stores, kept),
+            Some(kept) => self.return_to(call, &writes, kept),
         }
     }
 
     /// One cut, unless so many are done already.
     fn cut_once(
         &mut self,
-        done: Option<&Done>,
+        done: Option<&DoneWrite>,
         mut place: Place,
         random: &mut Random,
         end: usize,
@@ -144,52 +144,52 @@ impl World {
             return Ok(());
         }
         let kind = self
-            .law
+            .expected
             .todo
             .front()
-            .map_or("the end", |store| store.kind.name());
+            .map_or("the end", |planned| planned.kind.name());
         self.tally
-            .cut(kind, done.map(|done| &done.named), place.bytes);
+            .cut(kind, done.map(|done| &done.write), place.bytes);
         self.tally
-            .seen(self.files.log.len(), self.law.book.header.page_count);
-        place.again = (left > 1 && random.once_in(8)).then(|| random.once_in(2));
+            .seen(self.files.log.len(), self.expected.model.header.page_count);
+        place.again = (left > 1 && random.one_in(8)).then(|| random.one_in(2));
         place
             .again
             .into_iter()
             .for_each(|stored| self.tally.opening_cut(stored));
-        let law = self.law.opened_after(place.bytes);
-        self.open_cut(done, &place, &law)
+        let expected = self.expected.opened_after(place.bytes);
+        self.open_cut(done, &place, &expected)
             .map_err(|what| (place, what))
     }
 
-    fn keep(&self, place: Place) -> Kept {
-        Kept {
+    fn keep(&self, place: Place) -> CutState {
+        CutState {
             files: self.files.clone(),
-            law: self.law.clone(),
-            sealed: self.sealed.clone(),
+            expected: self.expected.clone(),
+            committed: self.committed.clone(),
             place,
         }
     }
 
     /// The last call of the history was cut there.
-    fn noted(&mut self, call: &Call, place: Place, what: String) -> String {
+    fn record_cut(&mut self, call: &Call, place: Place, what: String) -> String {
         self.history.pop();
         self.history.push(Call::Cut(Box::new(call.clone()), place));
         what
     }
 
     /// Back to a cut: the call was cut there after all.
-    fn go_back(&mut self, call: &Call, stores: &[Done], kept: Kept) -> Check {
+    fn return_to(&mut self, call: &Call, writes: &[DoneWrite], kept: CutState) -> Check {
         let place = kept.place;
         self.files = kept.files;
-        self.law = kept.law;
-        self.sealed = kept.sealed;
-        self.noted(call, place, String::new());
-        self.go_on_from(stores.get(place.store), &place)?;
+        self.expected = kept.expected;
+        self.committed = kept.committed;
+        self.record_cut(call, place, String::new());
+        self.continue_from(writes.get(place.whole_writes), &place)?;
         self.compare_live()
     }
 
-    /// All stores are whole and no cut comes: the port's store is the one after the call.
+    /// All writes are whole and no cut comes: the port's store is the one after the call.
     fn end_whole(&mut self, call: &Call) -> Check {
         if matches!(call, Call::Open) {
             self.ask(call, &Ok(Answer::Nothing))?;
@@ -227,51 +227,51 @@ impl World {
         random.fill(&mut self.probe.staging[at..][..FRAME]);
     }
 
-    /// Cuts the store, opens the files in the probe's areas, compares with the law of the opened
-    /// store, and takes the cut back. The areas hold the files as they are, but for an earlier cut
-    /// of the same store after fewer bytes.
-    fn open_cut(&mut self, done: Option<&Done>, place: &Place, law: &Law) -> Check {
+    /// Cuts the write, opens the files in the probe's areas, compares with the expected state of
+    /// the opened store, and takes the cut back. The areas hold the files as they are, but for an
+    /// earlier cut of the same write after fewer bytes.
+    fn open_cut(&mut self, done: Option<&DoneWrite>, place: &Place, expected: &Expected) -> Check {
         let Some(done) = done else {
-            return self.compare_opening(law, place);
+            return self.compare_opening(expected, place);
         };
-        let undo = self.files.cut(done, place.bytes, law.wrong);
-        let file = self.files.file(done.named.area);
-        let reach = done.named.at + done.named.len;
+        let undo = self.files.cut(done, place.bytes, expected.wrong);
+        let file = self.files.file(done.write.area);
+        let reach = done.write.at + done.write.len;
         let changed = undo.from.min(file.len())..file.len().min(reach);
-        let area = match done.named.area {
+        let area = match done.write.area {
             Area::Log => &mut self.probe.log,
             Area::Main => &mut self.probe.main,
         };
         area[changed.clone()].copy_from_slice(&file[changed]);
-        let found = self.compare_opening(law, place);
+        let found = self.compare_opening(expected, place);
         self.files.undo(undo);
         found
     }
 
-    fn compare_opening(&mut self, law: &Law, place: &Place) -> Check {
-        self.compare_sealed()?;
-        self.open_probe(self.files.log.len(), law)?;
+    fn compare_opening(&mut self, expected: &Expected, place: &Place) -> Check {
+        self.compare_committed()?;
+        self.open_probe(self.files.log.len(), expected)?;
         if let Some(stored) = place.again {
             let len = if stored {
-                law.disk.commit_point()
+                expected.disk.commit_point()
             } else {
                 self.files.log.len()
             };
-            self.open_probe(len, law)?;
+            self.open_probe(len, expected)?;
         }
-        compare_header(&self.probe, law)?;
-        compare_pages(&self.probe, law)?;
-        compare_batches(&self.probe, law)
+        compare_header(&self.probe, expected)?;
+        compare_pages(&self.probe, expected)?;
+        compare_batches(&self.probe, expected)
     }
 
     /// A clean opening; "no such opening is ever refused".
-    fn open_probe(&mut self, log_len: usize, law: &Law) -> Check {
-        let clean = law.wrong != Wrong::PlainOpening;
+    fn open_probe(&mut self, log_len: usize, expected: &Expected) -> Check {
+        let clean = expected.wrong != Wrong::PlainOpening;
         let opened = self
             .probe
             .reopen(clean, self.files.main.len(), Some(log_len), false, 1);
         opened.map_err(|refusal| format!("the opening after the cut is {refusal}"))?;
-        let (found, wanted) = (self.probe.log_file().len(), law.disk.commit_point());
+        let (found, wanted) = (self.probe.log_file().len(), expected.disk.commit_point());
         let what =
             || format!("the opening leaves a log of {found} bytes, the commit point is {wanted}");
         ensure(found == wanted || !clean, what)

@@ -1,32 +1,32 @@
-//! The two files, kept as two byte vectors, and a store cut inside.
-use crate::store::LOG_HEADER;
+//! The two files, kept as two byte vectors, and a write cut inside.
+use crate::writes::LOG_HEADER;
 use crate::wrong::Wrong;
-use lateenbael::{Area, Named};
+use lateenbael::{Area, Write};
 
-/// A store as it was done: named, with the bytes that it stores (none for a length).
+/// A write as it was done, with its bytes (none for a length).
 #[derive(Clone, Debug)]
-pub struct Done {
-    pub named: Named,
+pub struct DoneWrite {
+    pub write: Write,
     pub bytes: Vec<u8>,
 }
 
-impl Done {
-    /// The bytes that a store named stands in, taken from the areas.
-    pub fn from_areas(named: Named, log: &[u8], main: &[u8]) -> Done {
-        let area = if named.area == Area::Log { log } else { main };
-        let bytes = area[named.at..][..named.len].to_vec();
-        Done { named, bytes }
+impl DoneWrite {
+    /// A write with its bytes, taken from the areas.
+    pub fn from_areas(write: Write, log: &[u8], main: &[u8]) -> DoneWrite {
+        let area = if write.area == Area::Log { log } else { main };
+        let bytes = area[write.at..][..write.len].to_vec();
+        DoneWrite { write, bytes }
     }
 }
 
 #[derive(Clone, Default)]
-pub struct Files {
+pub struct MemoryFiles {
     pub main: Vec<u8>,
     pub log: Vec<u8>,
 }
 
-/// What a cut store changed: from `from` on the file had these bytes, to its end or to where the
-/// store ends.
+/// What a cut write changed: from `from` on the file had these bytes, to its end or to where the
+/// write ends.
 pub struct Undo {
     area: Area,
     len: usize,
@@ -34,7 +34,7 @@ pub struct Undo {
     old: Vec<u8>,
 }
 
-impl Files {
+impl MemoryFiles {
     pub fn file(&self, area: Area) -> &Vec<u8> {
         match area {
             Area::Log => &self.log,
@@ -49,18 +49,18 @@ impl Files {
         }
     }
 
-    /// A whole store.
-    pub fn store(&mut self, done: &Done) {
+    /// A whole write.
+    pub fn write(&mut self, done: &DoneWrite) {
         self.put(done, done.bytes.len().max(1));
     }
 
-    /// The store's first bytes. A length happens if there is one at all. "A byte stored past a
+    /// The write's first bytes. A length happens if there is one at all. "A byte stored past a
     /// file's end lengthens it."
-    fn put(&mut self, done: &Done, bytes: usize) {
-        let Named { area, at, .. } = done.named;
+    fn put(&mut self, done: &DoneWrite, bytes: usize) {
+        let Write { area, at, .. } = done.write;
         let file = self.file_mut(area);
         if bytes == 0 {
-        } else if done.named.is_length() {
+        } else if done.write.is_length() {
             file.resize(at, 0);
         } else {
             let end = at + bytes;
@@ -71,29 +71,29 @@ impl Files {
 
     /// "The one cut has its first bytes new and the rest old, but a length, like a file's first 32
     /// bytes, is wholly old or new."
-    pub fn cut(&mut self, done: &Done, bytes: usize, wrong: Wrong) -> Undo {
-        let named = done.named;
-        let whole_first = LOG_HEADER.saturating_sub(named.at);
-        let torn = !named.is_length() && bytes < whole_first && wrong != Wrong::TornHeader;
+    pub fn cut(&mut self, done: &DoneWrite, bytes: usize, wrong: Wrong) -> Undo {
+        let write = done.write;
+        let whole_first = LOG_HEADER.saturating_sub(write.at);
+        let torn = !write.is_length() && bytes < whole_first && wrong != Wrong::TornHeader;
         let bytes = if torn { 0 } else { bytes };
-        let file = self.file(named.area);
+        let file = self.file(write.area);
         let len = file.len();
-        let from = named.at.min(len);
-        let to = if named.is_length() {
+        let from = write.at.min(len);
+        let to = if write.is_length() {
             len
         } else {
-            len.min(named.at + bytes)
+            len.min(write.at + bytes)
         };
         let undo = Undo {
-            area: named.area,
+            area: write.area,
             len,
             from,
             old: file[from..to.max(from)].to_vec(),
         };
         self.put(done, bytes);
-        if wrong == Wrong::LengthFirst && bytes > 0 && !named.is_length() {
-            let file = self.file_mut(named.area);
-            file.resize(file.len().max(named.at + named.len), 0);
+        if wrong == Wrong::LengthFirst && bytes > 0 && !write.is_length() {
+            let file = self.file_mut(write.area);
+            file.resize(file.len().max(write.at + write.len), 0);
         }
         undo
     }
@@ -109,21 +109,21 @@ impl Files {
 mod tests {
     use super::*;
 
-    fn done(area: Area, at: usize, bytes: &[u8]) -> Done {
-        let named = Named {
+    fn done(area: Area, at: usize, bytes: &[u8]) -> DoneWrite {
+        let write = Write {
             area,
             at,
             len: bytes.len(),
             flush: false,
         };
-        Done {
-            named,
+        DoneWrite {
+            write,
             bytes: bytes.to_vec(),
         }
     }
 
     /// The files after a cut, which must be the same as before once it is undone.
-    fn cut(done: &Done, bytes: usize) -> Files {
+    fn cut(done: &DoneWrite, bytes: usize) -> MemoryFiles {
         let mut files = start();
         let undo = files.cut(done, bytes, Wrong::Not);
         let after = files.clone();
@@ -132,8 +132,8 @@ mod tests {
         after
     }
 
-    fn start() -> Files {
-        Files {
+    fn start() -> MemoryFiles {
+        MemoryFiles {
             main: vec![1; 40],
             log: vec![2; 34],
         }

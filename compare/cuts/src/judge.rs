@@ -1,11 +1,11 @@
-//! What document 01 says of a call: whether it is refused, what it answers, and the stores it
+//! What document 01 says of a call: whether it is refused, what it answers, and the writes it
 //! gives the call, in order. From the document alone.
 use crate::batch;
-use crate::book::{Header, PAGE, Page};
 use crate::call::{Call, Fault};
-use crate::law::Law;
-use crate::store::{FRAME, Kind, Store, fold_stores, store};
-use lateenbael::{Area, Named};
+use crate::expected::Expected;
+use crate::model::{Header, PAGE, Page};
+use crate::writes::{FRAME, PlannedWrite, WriteKind, checkpoint_writes, planned_write};
+use lateenbael::{Area, Write};
 use std::collections::BTreeMap;
 use std::rc::Rc;
 
@@ -21,7 +21,7 @@ const STAGED: usize = 64;
 /// "Log area 4,210,720 bytes (1,024 frames)".
 pub const LOG_FRAMES: usize = 1024;
 /// "At 100 frames or more it then folds."
-pub const FOLD_AT: usize = 100;
+pub const AUTO_CHECKPOINT_THRESHOLD_FRAMES: usize = 100;
 
 /// What a call that isn't refused answers.
 #[derive(Clone, Debug, PartialEq, Eq)]
@@ -29,25 +29,25 @@ pub enum Answer {
     Nothing,
     Number(usize),
     Begun(bool),
-    Stored(Named, Option<usize>),
+    Stored(Write, Option<usize>),
     Idle,
     Page(Option<Page>),
     /// Header, clock, whether read-only.
-    Told(Header, u64, bool),
+    Status(Header, u64, bool),
 }
 
-/// The answer, and the stores that the call does or begins.
+/// The answer, and the writes that the call does or begins.
 pub struct Plan {
     pub answer: Answer,
-    pub stores: Vec<Store>,
-    /// What a commit or fold answers at its end.
+    pub writes: Vec<PlannedWrite>,
+    /// What a commit or checkpoint answers at its end.
     pub number: usize,
 }
 
-fn plan(answer: Answer, stores: Vec<Store>, number: usize) -> Plan {
+fn plan(answer: Answer, writes: Vec<PlannedWrite>, number: usize) -> Plan {
     Plan {
         answer,
-        stores,
+        writes,
         number,
     }
 }
@@ -61,7 +61,7 @@ fn lowest(conditions: &[(bool, Number)]) -> Result<(), Refused> {
         .map_or(Ok(()), |number| Err((number, 0)))
 }
 
-impl Law {
+impl Expected {
     pub fn judge(&self, call: &Call) -> Result<Plan, Refused> {
         match call {
             Call::Append(body) => self.judge_append(body),
@@ -70,14 +70,14 @@ impl Law {
                 answer: Answer::Begun(true),
                 ..self.judge_commit(header)?
             }),
-            Call::Fold(_) => self.judge_fold(),
-            Call::BeginFold(_) => self.judge_fold().map(|plan| Plan {
-                answer: Answer::Begun(!plan.stores.is_empty()),
+            Call::Checkpoint(_) => self.judge_checkpoint(),
+            Call::BeginCheckpoint(_) => self.judge_checkpoint().map(|plan| Plan {
+                answer: Answer::Begun(!plan.writes.is_empty()),
                 ..plan
             }),
             Call::Open => {
                 let at = self.disk.commit_point();
-                let length = store(Kind::OpeningLength, Area::Log, at, 0, true);
+                let length = planned_write(WriteKind::OpeningLength, Area::Log, at, 0, true);
                 Ok(plan(Answer::Nothing, vec![length], 0))
             }
             Call::BadOpen(fault, read_only) => Err((judge_opening(*fault, *read_only), 0)),
@@ -89,13 +89,13 @@ impl Law {
         }
     }
 
-    /// A call that has no stores of its own.
+    /// A call that has no writes of its own.
     fn judge_plain(&self, call: &Call) -> Result<Answer, Refused> {
         let busy = (self.busy(), 9);
         match call {
             Call::Step => return Ok(self.step()),
             Call::Stage(page, _, len) => {
-                let staged = &self.book.staged;
+                let staged = &self.model.staged;
                 let others = staged.len() - usize::from(staged.contains_key(page));
                 lowest(&[
                     (*len != PAGE, 1),
@@ -108,7 +108,7 @@ impl Law {
         }
         Ok(match call {
             Call::Read(page) => Answer::Page(self.read(*page).cloned()),
-            Call::Query => Answer::Told(self.book.header, self.clock, false),
+            Call::Query => Answer::Status(self.model.header, self.clock, false),
             _ => Answer::Nothing,
         })
     }
@@ -119,7 +119,7 @@ impl Law {
         let last = (self.todo.len() == 1).then_some(self.number);
         self.todo
             .front()
-            .map_or(Answer::Idle, |store| Answer::Stored(store.named, last))
+            .map_or(Answer::Idle, |planned| Answer::Stored(planned.write, last))
     }
 
     /// "A batch is appended as `encode` writes it, unsealed and with no flush; a body lent for it
@@ -134,14 +134,14 @@ impl Law {
             (!room, 15),
         ])?;
         let batch = batch::decode(body).map_err(|number| (number, 0))?;
-        let frame = store(
-            Kind::BatchFrame(Rc::new(batch)),
+        let frame = planned_write(
+            WriteKind::BatchFrame(Rc::new(batch)),
             Area::Log,
             self.disk.log_len(),
             FRAME,
             false,
         );
-        Ok(plan(Answer::Stored(frame.named, None), vec![frame], 0))
+        Ok(plan(Answer::Stored(frame.write, None), vec![frame], 0))
     }
 
     fn judge_commit(&self, header: &Header) -> Result<Plan, Refused> {
@@ -149,8 +149,8 @@ impl Law {
         let new_header = count == 0 || count > PAGES || !(4..=6).contains(&header.version);
         lowest(&[(self.busy(), 9), (new_header, 13)])?;
         // "14: a page, 1 or higher, from old count to below new count isn't staged"
-        let mut joining = self.book.header.page_count.max(1)..count;
-        if let Some(page) = joining.find(|page| !self.book.staged.contains_key(page)) {
+        let mut joining = self.model.header.page_count.max(1)..count;
+        if let Some(page) = joining.find(|page| !self.model.staged.contains_key(page)) {
             return Err((14, page as usize));
         }
         let differing = self.differing();
@@ -159,53 +159,53 @@ impl Law {
             self.disk.log_len() + FRAME * (differing.len() + 1) > LOG_AREA,
             15,
         )])?;
-        let stores = self.commit_stores(&differing, count);
+        let writes = self.commit_writes(&differing, count);
         Ok(plan(
             Answer::Number(differing.len()),
-            stores,
+            writes,
             differing.len(),
         ))
     }
 
     /// "Commit: [differing pages], then page 0 as seal, flush". "At 100 frames or more it then
     /// folds." "The fold that a commit brings on belongs to the commit's stores."
-    fn commit_stores(&self, differing: &BTreeMap<u32, Page>, count: u32) -> Vec<Store> {
-        let seal = differing.len();
+    fn commit_writes(&self, differing: &BTreeMap<u32, Page>, count: u32) -> Vec<PlannedWrite> {
+        let last = differing.len();
         let frame = |i: usize| {
-            let kind = if i == seal {
-                Kind::Seal
+            let kind = if i == last {
+                WriteKind::CommitFrame
             } else {
-                Kind::PageFrame
+                WriteKind::PageFrame
             };
-            store(
+            planned_write(
                 kind,
                 Area::Log,
                 self.disk.log_len() + FRAME * i,
                 FRAME,
-                i == seal,
+                i == last,
             )
         };
-        let mut stores: Vec<Store> = (0..=seal).map(frame).collect();
-        if self.disk.frames + stores.len() >= FOLD_AT {
+        let mut writes: Vec<PlannedWrite> = (0..=last).map(frame).collect();
+        if self.disk.frames + writes.len() >= AUTO_CHECKPOINT_THRESHOLD_FRAMES {
             let mut pages = self.disk.log_pages.clone();
             pages.extend(differing.clone());
-            stores.extend(fold_stores(&pages, count));
+            writes.extend(checkpoint_writes(&pages, count));
         }
-        stores
+        writes
     }
 
     /// "Fold: with 0 frames and no log pages, 0 and no store." "It answers the pages written."
-    fn judge_fold(&self) -> Result<Plan, Refused> {
+    fn judge_checkpoint(&self) -> Result<Plan, Refused> {
         lowest(&[(self.busy(), 9)])?;
         if self.disk.frames == 0 && self.disk.log_pages.is_empty() {
             return Ok(plan(Answer::Number(0), Vec::new(), 0));
         }
-        let stores = fold_stores(&self.disk.log_pages, self.book.header.page_count);
-        let number = stores
+        let writes = checkpoint_writes(&self.disk.log_pages, self.model.header.page_count);
+        let number = writes
             .iter()
-            .filter(|store| matches!(store.kind, Kind::MainPage(_)))
+            .filter(|planned| matches!(planned.kind, WriteKind::MainPage(_)))
             .count();
-        Ok(plan(Answer::Number(number), stores, number))
+        Ok(plan(Answer::Number(number), writes, number))
     }
 }
 

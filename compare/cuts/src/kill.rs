@@ -1,16 +1,16 @@
 //! The real one: a child process commits numbered pages to two real files and acknowledges each
 //! commit; it is killed (SIGKILL) at a random moment, and what lies in the files is opened cleanly
-//! and compared with the book of the acknowledged commits, or of those and the one under way.
+//! and compared with the model of the acknowledged commits, or of those and the one under way.
 use crate::batch;
-use crate::book::{Header, PAGE};
 use crate::call::{Call, page_bytes};
 use crate::compare::{Check, compare_batches, compare_header, compare_pages};
-use crate::law::Law;
+use crate::expected::Expected;
+use crate::model::{Header, PAGE};
 use crate::port::{from_port, to_port};
-use crate::random::Random;
-use crate::store::{FRAME, LOG_HEADER};
+use crate::writes::{FRAME, LOG_HEADER};
 use crate::wrong::Wrong;
 use lateenbael::{Area, Disk, Engine, Error, Files, Mode, Store, salts_of_the_clock, wal_path_for};
+use splitmix::Random;
 use std::io::{self, Read, Write};
 use std::os::unix::process::ExitStatusExt;
 use std::path::{Path, PathBuf};
@@ -30,13 +30,13 @@ fn page_count(seed: u64, number: u32) -> u32 {
     }
 }
 
-/// The calls of the commit with that number, always the same ones: now and then a fold, batches,
-/// the pages that join, some others, and the commit, whose freelist head is the number.
+/// The calls of the commit with that number, always the same ones: now and then a checkpoint,
+/// batches, the pages that join, some others, and the commit, whose freelist head is the number.
 fn calls(seed: u64, number: u32) -> Vec<Call> {
     let random = &mut Random::new(seed.wrapping_mul(31).wrapping_add(number.into()));
     let mut calls = Vec::new();
-    if random.once_in(25) {
-        calls.push(Call::Fold(0));
+    if random.one_in(25) {
+        calls.push(Call::Checkpoint(0));
     }
     for _ in 0..random.below(3) {
         calls.push(Call::Append(batch::encode_short(&batch::draw(random))));
@@ -62,7 +62,7 @@ fn calls(seed: u64, number: u32) -> Vec<Call> {
     calls
 }
 
-/// Real files whose stores are written in pieces, so that a kill can fall inside one. A file's
+/// Real files that are written in pieces, so that a kill can fall inside one. A file's
 /// first 32 bytes are one piece.
 struct Pieces {
     files: Files,
@@ -124,7 +124,7 @@ pub fn child(path: &Path, seed: u64, longest: usize) -> Result<(), Error> {
             match call {
                 Call::Stage(page, seed, len) => store.stage_page(page, &page_bytes(seed, len))?,
                 Call::Append(body) => store.append_mvcc_batch(&body)?,
-                Call::Fold(_) => store.checkpoint().map(drop)?,
+                Call::Checkpoint(_) => store.checkpoint().map(drop)?,
                 Call::Commit(header, _) => store.commit(to_port(&header)).map(drop)?,
                 _ => (),
             }
@@ -139,10 +139,10 @@ pub fn child(path: &Path, seed: u64, longest: usize) -> Result<(), Error> {
 pub struct Found {
     kills: usize,
     acknowledged: u32,
-    sealed: usize,
-    unsealed: usize,
-    unsealed_tails: usize,
-    torn_tails: usize,
+    committed: usize,
+    uncommitted: usize,
+    uncommitted_logs: usize,
+    torn_logs: usize,
     emptied: usize,
 }
 
@@ -150,24 +150,24 @@ impl fmt::Display for Found {
     fn fmt(&self, f: &mut fmt::Formatter<'_>) -> fmt::Result {
         let Found {
             acknowledged,
-            sealed,
-            unsealed,
+            committed,
+            uncommitted,
             ..
         } = self;
         writeln!(f, "{acknowledged} commits acknowledged")?;
         writeln!(
             f,
-            "commit under way found sealed {sealed} times, not sealed {unsealed} times"
+            "commit under way found sealed {committed} times, not sealed {uncommitted} times"
         )?;
         write!(
             f,
             "logs with frames behind the commit point {}, ",
-            self.unsealed_tails
+            self.uncommitted_logs
         )?;
         writeln!(
             f,
             "with a torn tail {}, emptied by a fold {}",
-            self.torn_tails, self.emptied
+            self.torn_logs, self.emptied
         )?;
         write!(f, "{} kills, 0 differences", self.kills)
     }
@@ -178,24 +178,24 @@ struct Killing {
     path: PathBuf,
     seed: u64,
     engine: Engine,
-    law: Law,
+    expected: Expected,
     random: Random,
     found: Found,
 }
 
 /// Kills the child so many times, with the same files in the folder.
 pub fn run(exe: PathBuf, folder: &Path, count: usize) -> Result<Found, String> {
-    let told = |error: &dyn fmt::Display| format!("{}: {error}", folder.display());
-    fs::create_dir_all(folder).map_err(|error| told(&error))?;
+    let in_folder = |error: &dyn fmt::Display| format!("{}: {error}", folder.display());
+    fs::create_dir_all(folder).map_err(|error| in_folder(&error))?;
     let path = folder.join("db.sqlrite");
-    Store::create_over(&path).map_err(|error| told(&error))?;
+    Store::create_over(&path).map_err(|error| in_folder(&error))?;
     let seed = now();
     let mut killing = Killing {
         exe,
         path,
         seed,
         engine: Engine::new(),
-        law: Law::created(Wrong::Not),
+        expected: Expected::created(Wrong::Not),
         random: Random::new(seed),
         found: Found::default(),
     };
@@ -218,7 +218,7 @@ impl Killing {
         };
         let opened = self.engine.open_clean(&main, Some(&log), false, 1);
         opened.map_err(|refusal| format!("the opening is {refusal}"))?;
-        self.law = self.matching(last, &main)?;
+        self.expected = self.matching(last, &main)?;
         self.count(last, log.len());
         Ok(())
     }
@@ -240,47 +240,47 @@ impl Killing {
             self.random.below(LONGEST_MICROSECONDS) as u64,
         ));
         child.kill()?;
-        let mut told = String::new();
+        let mut output = String::new();
         child
             .stdout
             .take()
-            .map(|mut out| out.read_to_string(&mut told))
+            .map(|mut out| out.read_to_string(&mut output))
             .transpose()?;
         let status = child.wait()?;
         if status.signal() != Some(SIGKILL) {
             return Err(io::Error::other(format!("ended by itself, {status}")));
         }
-        let whole_lines = told.rsplit_once('\n').map_or("", |(lines, _)| lines);
+        let whole_lines = output.rsplit_once('\n').map_or("", |(lines, _)| lines);
         let last = whole_lines.lines().last().map(str::parse);
-        last.unwrap_or(Ok(self.law.book.header.freelist_head))
+        last.unwrap_or(Ok(self.expected.model.header.freelist_head))
             .map_err(io::Error::other)
     }
 
-    /// The law as it is when all commits up to the acknowledged one are done and some stores of
+    /// The expected state when all commits up to the acknowledged one are done and some writes of
     /// the next one's calls, for the first number of them that agrees with what was opened.
-    fn matching(&self, last: u32, main: &[u8]) -> Result<Law, String> {
-        let mut law = self.law.clone();
-        for number in law.book.header.freelist_head + 1..=last {
+    fn matching(&self, last: u32, main: &[u8]) -> Result<Expected, String> {
+        let mut expected = self.expected.clone();
+        for number in expected.model.header.freelist_head + 1..=last {
             for call in calls(self.seed, number) {
-                start(&mut law, &call)?;
-                while law.busy() {
-                    law.whole();
+                start(&mut expected, &call)?;
+                while expected.busy() {
+                    expected.whole();
                 }
             }
         }
         let mut reason = String::new();
         for call in calls(self.seed, last + 1) {
-            start(&mut law, &call)?;
+            start(&mut expected, &call)?;
             loop {
-                let opened = law.opened_after(0);
+                let opened = expected.opened_after(0);
                 match self.agrees(&opened, main) {
                     Ok(()) => return Ok(opened),
                     Err(what) => reason = what,
                 }
-                if !law.busy() {
+                if !expected.busy() {
                     break;
                 }
-                law.whole();
+                expected.whole();
             }
         }
         let header = from_port(&self.engine.store().current_header);
@@ -289,37 +289,37 @@ impl Killing {
         ))
     }
 
-    fn agrees(&self, law: &Law, main: &[u8]) -> Check {
-        compare_header(&self.engine, law)?;
-        if self.engine.log_file().len() != law.disk.commit_point() {
+    fn agrees(&self, expected: &Expected, main: &[u8]) -> Check {
+        compare_header(&self.engine, expected)?;
+        if self.engine.log_file().len() != expected.disk.commit_point() {
             return Err("another log length".into());
         }
-        if main[20..24] != law.disk.main_count.to_le_bytes() {
+        if main[20..24] != expected.disk.main_count.to_le_bytes() {
             return Err("another page count in the main file".into());
         }
-        compare_pages(&self.engine, law)?;
-        compare_batches(&self.engine, law)
+        compare_pages(&self.engine, expected)?;
+        compare_batches(&self.engine, expected)
     }
 
     fn count(&mut self, last: u32, log_len: usize) {
         let found = &mut self.found;
         found.kills += 1;
         found.acknowledged = last;
-        match self.law.book.header.freelist_head > last {
-            true => found.sealed += 1,
-            false => found.unsealed += 1,
+        match self.expected.model.header.freelist_head > last {
+            true => found.committed += 1,
+            false => found.uncommitted += 1,
         }
-        let tail = log_len - self.law.disk.commit_point();
-        found.unsealed_tails += usize::from(tail >= FRAME);
-        found.torn_tails += usize::from(!tail.is_multiple_of(FRAME));
+        let behind = log_len - self.expected.disk.commit_point();
+        found.uncommitted_logs += usize::from(behind >= FRAME);
+        found.torn_logs += usize::from(!behind.is_multiple_of(FRAME));
         found.emptied += usize::from(log_len == LOG_HEADER);
     }
 }
 
-fn start(law: &mut Law, call: &Call) -> Check {
-    let plan = law
+fn start(expected: &mut Expected, call: &Call) -> Check {
+    let plan = expected
         .judge(call)
         .map_err(|(number, _)| format!("{call} would be refused {number}"))?;
-    law.start(call, plan);
+    expected.start(call, plan);
     Ok(())
 }

@@ -1,8 +1,8 @@
-//! `cuts SEED COUNT [--wrong NAME]`: so many cuts from a seed, compared with the plain book.
+//! `cuts SEED COUNT [--wrong NAME]`: so many cuts from a seed, compared with the model.
 //! `cuts kill DIR COUNT`: a process that commits to files in the folder, killed so many times.
-use plain_book::kill;
-use plain_book::run::{Difference, run, shrink};
-use plain_book::wrong::{ALL, Wrong};
+use cuts::kill;
+use cuts::run::{Difference, run, shrink};
+use cuts::wrong::{ALL, Wrong};
 use std::path::Path;
 use std::process::ExitCode;
 
@@ -13,7 +13,7 @@ fn main() -> ExitCode {
         ["kill", folder, count] => kills(folder, count),
         [kill::CHILD, path, seed, longest] => child(path, seed, longest),
         [seed, count] => cuts(seed, count, Some(Wrong::Not)),
-        [seed, count, "--wrong", name] => cuts(seed, count, Wrong::named(name)),
+        [seed, count, "--wrong", name] => cuts(seed, count, Wrong::from_name(name)),
         _ => usage(),
     }
 }

@@ -1,27 +1,27 @@
-//! After which bytes a store is cut.
-use crate::random::Random;
-use crate::store::LOG_HEADER;
-use lateenbael::Named;
+//! After which bytes a write is cut.
+use crate::writes::LOG_HEADER;
+use lateenbael::Write;
+use splitmix::Random;
 
 /// Each byte up to here, and each of the last ones.
 const FRONT: usize = 48;
 const BACK: usize = 16;
-/// Above so many stores of one call, those in its middle are cut at fewer places.
+/// Above so many writes of one call, those in its middle are cut at fewer places.
 const MANY: usize = 24;
 
 /// The numbers of bytes after which to cut, ascending: 0 to 48, the last 16, some between. A
 /// length is cut before it. The first 32 bytes of a file are whole or not at all.
-pub fn places(named: &Named, stores: usize, random: &mut Random) -> Vec<usize> {
-    if named.is_length() {
+pub fn places(write: &Write, writes: usize, random: &mut Random) -> Vec<usize> {
+    if write.is_length() {
         return vec![0];
     }
-    let len = named.len;
-    let mut places: Vec<usize> = if named.at < LOG_HEADER {
+    let len = write.len;
+    let mut places: Vec<usize> = if write.at < LOG_HEADER {
         [0, 1, LOG_HEADER - 1]
             .into_iter()
             .chain(LOG_HEADER..=FRONT)
             .collect()
-    } else if stores > MANY && !random.once_in(8) {
+    } else if writes > MANY && !random.one_in(8) {
         vec![0, 1, 16, len - 1]
     } else {
         (0..=FRONT).chain(len - BACK..len).collect()
@@ -38,8 +38,8 @@ mod tests {
     use super::*;
     use lateenbael::Area;
 
-    fn named(at: usize, len: usize) -> Named {
-        Named {
+    fn write(at: usize, len: usize) -> Write {
+        Write {
             area: Area::Log,
             at,
             len,
@@ -50,18 +50,18 @@ mod tests {
     #[test]
     fn every_byte_of_interest() {
         let random = &mut Random::new(1);
-        let frame = places(&named(32, 4112), 2, random);
+        let frame = places(&write(32, 4112), 2, random);
         assert!(
             (0..=48)
                 .chain(4096..4112)
                 .all(|bytes| frame.contains(&bytes))
         );
         assert!(frame.iter().any(|bytes| (49..4096).contains(bytes)));
-        assert_eq!(places(&named(32, 0), 2, random), [0]);
-        let header = places(&named(0, 4096), 2, random);
+        assert_eq!(places(&write(32, 0), 2, random), [0]);
+        let header = places(&write(0, 4096), 2, random);
         assert!((32..=48).all(|bytes| header.contains(&bytes)));
         assert!(
-            places(&named(0, 32), 2, random)
+            places(&write(0, 32), 2, random)
                 .iter()
                 .all(|bytes| *bytes < 32)
         );

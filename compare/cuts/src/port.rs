@@ -1,9 +1,9 @@
 //! One call, given to the port through its C interface.
-use crate::book::{Header, PAGE};
-use crate::call::{Call, Fault, Lent, page_bytes};
+use crate::call::{AreaName, Call, Fault, page_bytes};
+use crate::expected::encode_header;
 use crate::judge::{Answer, Refused};
-use crate::law::encode_header;
-use crate::store::{FRAME, LOG_HEADER};
+use crate::model::{Header, PAGE};
+use crate::writes::{FRAME, LOG_HEADER};
 use lateenbael::sys::{DbHeader, LOG_AREA, MAIN_AREA};
 use lateenbael::{Engine, Refusal, Step};
 
@@ -53,7 +53,7 @@ pub fn run(engine: &mut Engine, call: &Call) -> Result<Answer, Refused> {
         Call::Clock(value) => engine.observe_clock_high_water(*value).map(nothing),
         Call::Append(body) => engine
             .append_mvcc_batch(body)
-            .map(|named| Answer::Stored(named, None)),
+            .map(|write| Answer::Stored(write, None)),
         Call::BeginCommit(header, salt) => {
             let begun = engine.begin_commit(to_port(header), *salt);
             return begun.map(|()| Answer::Begun(true)).map_err(refused_commit);
@@ -62,12 +62,12 @@ pub fn run(engine: &mut Engine, call: &Call) -> Result<Answer, Refused> {
             let number = engine.commit(to_port(header), *salt);
             return number.map(Answer::Number).map_err(refused_commit);
         }
-        Call::BeginFold(salt) => engine.begin_checkpoint(*salt).map(Answer::Begun),
-        Call::Fold(salt) => engine.checkpoint(*salt).map(Answer::Number),
+        Call::BeginCheckpoint(salt) => engine.begin_checkpoint(*salt).map(Answer::Begun),
+        Call::Checkpoint(salt) => engine.checkpoint(*salt).map(Answer::Number),
         Call::Step => step(engine),
         Call::Open => reopen(engine, None, None, false).map(nothing),
         Call::BadOpen(fault, read_only) => bad_open(engine, *fault, *read_only).map(nothing),
-        Call::Short(lent, call) => return short(engine, *lent, call),
+        Call::Short(area, call) => return short(engine, *area, call),
         Call::Cut(..) => unreachable!("a cut is made by the one who carries the stores"),
     }
     .map_err(refused)
@@ -77,7 +77,7 @@ pub fn run(engine: &mut Engine, call: &Call) -> Result<Answer, Refused> {
 pub fn query(engine: &Engine) -> Result<Answer, Refused> {
     let header = from_port(&engine.header().map_err(refused)?);
     let clock = engine.clock_high_water().map_err(refused)?;
-    Ok(Answer::Told(
+    Ok(Answer::Status(
         header,
         clock,
         engine.is_read_only().map_err(refused)?,
@@ -87,8 +87,8 @@ pub fn query(engine: &Engine) -> Result<Answer, Refused> {
 fn step(engine: &mut Engine) -> Result<Answer, Refusal> {
     Ok(match engine.next_step()? {
         Step::Idle => Answer::Idle,
-        Step::Stored(named) => Answer::Stored(named, None),
-        Step::Last(named, answer) => Answer::Stored(named, Some(answer)),
+        Step::Stored(write) => Answer::Stored(write, None),
+        Step::Last(write, answer) => Answer::Stored(write, Some(answer)),
     })
 }
 
@@ -136,8 +136,8 @@ fn bad_open(engine: &mut Engine, fault: Fault, read_only: bool) -> Result<(), Re
     }
 }
 
-/// Behind the log's length stands a good frame of page 0 that seals, and the opening is told that
-/// it belongs to the file.
+/// Behind the log's length stands a good commit frame of page 0, and the opening is given
+/// a length that includes it.
 fn open_with_page_zero(engine: &mut Engine, body: &[u8], read_only: bool) -> Result<(), Refusal> {
     let len = engine.store().wal.len;
     let mut heading = [0u32.to_le_bytes(), 2u32.to_le_bytes()].concat();
@@ -151,35 +151,35 @@ fn open_with_page_zero(engine: &mut Engine, body: &[u8], read_only: bool) -> Res
     reopen(engine, None, Some(len + FRAME), read_only)
 }
 
-fn short(engine: &mut Engine, lent: Lent, call: &Call) -> Result<Answer, Refused> {
+fn short(engine: &mut Engine, area: AreaName, call: &Call) -> Result<Answer, Refused> {
     fn without_last<T: Clone + Default>(area: &mut Box<[T]>) -> Box<[T]> {
         let less = vec![T::default(); area.len() - 1];
         std::mem::replace(area, less.into())
     }
-    let answer = match lent {
-        Lent::Table => {
+    let answer = match area {
+        AreaName::Table => {
             let whole = without_last(&mut engine.table);
-            engine.judge();
+            engine.check_readable();
             let answer = run(engine, call);
             engine.table = whole;
             answer
         }
         _ => {
-            let whole = without_last(lent_bytes(engine, lent));
-            engine.judge();
+            let whole = without_last(area_bytes(engine, area));
+            engine.check_readable();
             let answer = run(engine, call);
-            *lent_bytes(engine, lent) = whole;
+            *area_bytes(engine, area) = whole;
             answer
         }
     };
-    engine.judge();
+    engine.check_readable();
     answer
 }
 
-fn lent_bytes(engine: &mut Engine, lent: Lent) -> &mut Box<[u8]> {
-    match lent {
-        Lent::Log => &mut engine.log,
-        Lent::Main => &mut engine.main,
-        Lent::Table | Lent::Staging => &mut engine.staging,
+fn area_bytes(engine: &mut Engine, area: AreaName) -> &mut Box<[u8]> {
+    match area {
+        AreaName::Log => &mut engine.log,
+        AreaName::Main => &mut engine.main,
+        AreaName::Table | AreaName::Staging => &mut engine.staging,
     }
 }

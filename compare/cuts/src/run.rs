@@ -20,7 +20,7 @@ pub fn run(seed: u64, count: usize, wrong: Wrong) -> Result<Tally, Box<Differenc
     let mut world = World::new(wrong);
     let mut drawer = Drawer::new(seed);
     while world.tally.cuts < count {
-        let next = drawer.next(&world.law);
+        let next = drawer.next(&world.expected);
         let left = count - world.tally.cuts;
         let found = match next {
             Next::Call(call) => world.call(&call),

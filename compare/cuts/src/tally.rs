@@ -1,7 +1,7 @@
 //! What was done, counted and printed.
 use crate::call::Call;
-use crate::judge::{FOLD_AT, LOG_FRAMES};
-use lateenbael::Named;
+use crate::judge::{AUTO_CHECKPOINT_THRESHOLD_FRAMES, LOG_FRAMES};
+use lateenbael::Write;
 use std::collections::BTreeMap;
 use std::fmt;
 
@@ -10,25 +10,26 @@ pub struct Tally {
     pub cuts: usize,
     pub histories: usize,
     /// Cuts from which a history went on.
-    pub gone_on: usize,
+    pub continued: usize,
     pub longest_log: usize,
     pub most_pages: u32,
     cut_places: BTreeMap<(&'static str, &'static str), usize>,
     calls: BTreeMap<&'static str, usize>,
     refusals: BTreeMap<u32, usize>,
-    /// Commits by the number of frames they bring the log to, near that of a fold or of a full log.
+    /// Commits by the number of frames they bring the log to, near that of a checkpoint or of a
+    /// full log.
     frames: BTreeMap<usize, usize>,
 }
 
-/// Where in a store the cut falls, for counting.
-fn part(named: Option<&Named>, bytes: usize) -> &'static str {
-    match named {
+/// Where in a write the cut falls, for counting.
+fn part(write: Option<&Write>, bytes: usize) -> &'static str {
+    match write {
         None => "all stores whole",
-        Some(named) if named.is_length() => "length old",
+        Some(write) if write.is_length() => "length old",
         _ if bytes == 0 => "before it",
         _ if bytes < 16 => "bytes 1 to 15",
         _ if bytes <= 48 => "bytes 16 to 48",
-        Some(named) if bytes + 16 >= named.len => "last 16 bytes",
+        Some(write) if bytes + 16 >= write.len => "last 16 bytes",
         _ => "inside",
     }
 }
@@ -42,11 +43,11 @@ impl Tally {
         *self.refusals.entry(number).or_default() += 1;
     }
 
-    pub fn cut(&mut self, kind: &'static str, named: Option<&Named>, bytes: usize) {
+    pub fn cut(&mut self, kind: &'static str, write: Option<&Write>, bytes: usize) {
         self.cuts += 1;
         *self
             .cut_places
-            .entry((kind, part(named, bytes)))
+            .entry((kind, part(write, bytes)))
             .or_default() += 1;
     }
 
@@ -62,7 +63,8 @@ impl Tally {
 
     /// A commit brings the log to so many frames.
     pub fn commit(&mut self, frames: usize) {
-        if frames.abs_diff(FOLD_AT) < 3 || frames.abs_diff(LOG_FRAMES) < 3 {
+        if frames.abs_diff(AUTO_CHECKPOINT_THRESHOLD_FRAMES) < 3 || frames.abs_diff(LOG_FRAMES) < 3
+        {
             *self.frames.entry(frames).or_default() += 1;
         }
     }
@@ -101,14 +103,14 @@ impl fmt::Display for Tally {
             .try_for_each(|(frames, count)| write!(f, " {frames}: {count},"))?;
         let Tally {
             histories,
-            gone_on,
+            continued,
             longest_log,
             most_pages,
             ..
         } = self;
         write!(
             f,
-            "\n{histories} histories, {gone_on} times gone on from a cut, "
+            "\n{histories} histories, {continued} times gone on from a cut, "
         )?;
         writeln!(
             f,

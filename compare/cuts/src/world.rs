@@ -1,25 +1,25 @@
-//! The port, the two files, and beside them the document's law with its book. A call is given to
-//! the port and judged by the law. (`cutting.rs` cuts.)
+//! The port, the two files, and beside them the state that the document expects, with its model. A
+//! call is given to the port and judged by that state. (`cutting.rs` cuts.)
 use crate::call::Call;
 use crate::compare::{Check, compare_answers, compare_header, compare_pages, ensure};
-use crate::files::{Done, Files};
+use crate::expected::Expected;
+use crate::files::{DoneWrite, MemoryFiles};
 use crate::judge::{Answer, Plan, Refused};
-use crate::law::Law;
 use crate::port;
-use crate::random::Random;
-use crate::store::{Kind, LOG_HEADER, Store};
 use crate::tally::Tally;
+use crate::writes::{LOG_HEADER, PlannedWrite, WriteKind};
 use crate::wrong::Wrong;
 use lateenbael::Engine;
+use splitmix::Random;
 
 pub struct World {
     pub(crate) live: Engine,
     /// Where a cut is opened.
     pub(crate) probe: Engine,
-    pub(crate) files: Files,
-    pub law: Law,
+    pub(crate) files: MemoryFiles,
+    pub expected: Expected,
     /// "Sealed log bytes: from 32 to the last whole seal's end, until a fold's log length 32."
-    pub(crate) sealed: Vec<u8>,
+    pub(crate) committed: Vec<u8>,
     /// All calls since the creation.
     pub history: Vec<Call>,
     pub tally: Tally,
@@ -35,11 +35,11 @@ fn spoiled_engine(seed: u64) -> Engine {
     engine
 }
 
-/// How many of the stores to do a call does itself.
-fn stores_in(call: &Call, todo: usize) -> usize {
+/// How many of the writes to do a call does itself.
+fn writes_in(call: &Call, todo: usize) -> usize {
     match call {
         Call::Step => todo.min(1),
-        Call::Append(_) | Call::Commit(..) | Call::Fold(_) | Call::Open => todo,
+        Call::Append(_) | Call::Commit(..) | Call::Checkpoint(_) | Call::Open => todo,
         _ => 0,
     }
 }
@@ -49,9 +49,9 @@ impl World {
         let mut world = World {
             live: spoiled_engine(1),
             probe: spoiled_engine(2),
-            files: Files::default(),
-            law: Law::created(wrong),
-            sealed: Vec::new(),
+            files: MemoryFiles::default(),
+            expected: Expected::created(wrong),
+            committed: Vec::new(),
             history: Vec::new(),
             tally: Tally::default(),
         };
@@ -67,8 +67,8 @@ impl World {
             .expect("creation refuses wrong areas only");
         self.files.main = self.live.main_file().to_vec();
         self.files.log = self.live.log_file().to_vec();
-        self.law = Law::created(self.law.wrong);
-        self.sealed.clear();
+        self.expected = Expected::created(self.expected.wrong);
+        self.committed.clear();
         self.history.clear();
         self.tally.histories += 1;
     }
@@ -90,75 +90,81 @@ impl World {
     }
 
     pub(crate) fn one_call(&mut self, call: &Call) -> Check {
-        let plan = match self.law.judge(call) {
+        let plan = match self.expected.judge(call) {
             Err(refused) => {
                 self.ask(call, &Err(refused))?;
                 self.tally.refused(refused.0);
-                self.law.refused(call);
+                self.expected.refused(call);
                 return Ok(());
             }
             Ok(plan) => plan,
         };
         self.ask(call, &Ok(plan.answer.clone()))?;
         self.start(call, plan);
-        for _ in 0..stores_in(call, self.law.todo.len()) {
+        for _ in 0..writes_in(call, self.expected.todo.len()) {
             let done = self.in_areas(0);
-            self.store_whole(&done);
+            self.write_whole(&done);
         }
         Ok(())
     }
 
     pub(crate) fn start(&mut self, call: &Call, plan: Plan) {
         if matches!(call, Call::Commit(..) | Call::BeginCommit(..)) {
-            let frame = |store: &&Store| matches!(store.kind, Kind::PageFrame | Kind::Seal);
-            let added = plan.stores.iter().filter(frame).count();
-            self.tally.commit(self.law.disk.frames + added);
+            let frame = |planned: &&PlannedWrite| {
+                matches!(planned.kind, WriteKind::PageFrame | WriteKind::CommitFrame)
+            };
+            let added = plan.writes.iter().filter(frame).count();
+            self.tally.commit(self.expected.disk.frames + added);
         }
-        self.law.start(call, plan);
+        self.expected.start(call, plan);
     }
 
-    /// One of the stores to do, as it stands in the port's areas.
-    pub(crate) fn in_areas(&self, store: usize) -> Done {
-        Done::from_areas(self.law.todo[store].named, &self.live.log, &self.live.main)
+    /// One of the writes to do, as it stands in the port's areas.
+    pub(crate) fn in_areas(&self, index: usize) -> DoneWrite {
+        DoneWrite::from_areas(
+            self.expected.todo[index].write,
+            &self.live.log,
+            &self.live.main,
+        )
     }
 
-    /// The next store is whole, in the files and for the book.
-    pub(crate) fn store_whole(&mut self, done: &Done) {
-        let kind = self.law.todo[0].kind.clone();
-        self.files.store(done);
-        self.law.whole();
+    /// The next write is whole, in the files and for the model.
+    pub(crate) fn write_whole(&mut self, done: &DoneWrite) {
+        let kind = self.expected.todo[0].kind.clone();
+        self.files.write(done);
+        self.expected.whole();
         match kind {
-            Kind::Seal => {
-                let new = &self.files.log[LOG_HEADER + self.sealed.len()..];
-                self.sealed.extend_from_slice(new);
+            WriteKind::CommitFrame => {
+                let new = &self.files.log[LOG_HEADER + self.committed.len()..];
+                self.committed.extend_from_slice(new);
             }
-            Kind::LogLength => self.sealed.clear(),
+            WriteKind::LogLength => self.committed.clear(),
             _ => (),
         }
     }
 
-    /// The open store against book and files.
+    /// The open store against model and files.
     pub(crate) fn compare_live(&mut self) -> Check {
         let differs = |file| format!("the {file}'s bytes aren't those stored");
         ensure(self.live.log_file() == self.files.log, || differs("log"))?;
         ensure(self.live.main_file() == self.files.main, || {
             differs("main file")
         })?;
-        self.compare_sealed()?;
-        if self.law.busy() {
+        self.compare_committed()?;
+        if self.expected.busy() {
             return Ok(());
         }
-        compare_header(&self.live, &self.law)?;
+        compare_header(&self.live, &self.expected)?;
         let many = matches!(self.history.last(), Some(Call::Append(_) | Call::Stage(..)));
         if many && !self.history.len().is_multiple_of(8) {
             return Ok(());
         }
-        compare_pages(&self.live, &self.law)
+        compare_pages(&self.live, &self.expected)
     }
 
-    pub(crate) fn compare_sealed(&self) -> Check {
+    pub(crate) fn compare_committed(&self) -> Check {
         let frames = self.files.log.get(LOG_HEADER..).unwrap_or(&[]);
-        ensure(frames.starts_with(&self.sealed), || {
+        ensure(frames.starts_with(&self.committed), || {
             "sealed log bytes are changed".into()
         })
     }

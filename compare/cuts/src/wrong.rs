@@ -1,8 +1,8 @@
-//! Wrong books, wrong orders of stores and a wrong opening, each of which the comparison must
+//! Wrong models, wrong orders of writes and a wrong opening, each of which the comparison must
 //! find: `cuts SEED COUNT --wrong NAME`.
-use crate::book::{Book, Entry};
 use crate::call::Call;
-use crate::store::Kind;
+use crate::model::{Entry, Model};
+use crate::writes::WriteKind;
 
 #[derive(Clone, Copy, Debug, PartialEq, Eq)]
 pub enum Wrong {
@@ -14,25 +14,25 @@ pub enum Wrong {
     HeaderLate,
     /// The log's length is stored before the main pages.
     LogFirst,
-    /// The seal is stored before the pages.
-    SealFirst,
+    /// The commit frame is written before the pages.
+    CommitFrameFirst,
     /// A file's first 32 bytes are cut anywhere.
     TornHeader,
     /// A frame lengthens the log at once, and is then filled from its front.
     LengthFirst,
-    /// The book takes a refused commit for a good one.
+    /// The model takes a refused commit for a good one.
     RefusedEnters,
-    /// The book drops no batches at a fold.
+    /// The model drops no batches at a checkpoint.
     BatchesStay,
-    /// The book keeps batches waiting over an opening.
+    /// The model keeps batches waiting over an opening.
     WaitingStays,
-    /// The book keeps the staging over an opening.
+    /// The model keeps the staging over an opening.
     StagingStays,
-    /// The book enters a commit at its beginning.
-    EarlySeal,
-    /// The book takes no batch.
+    /// The model enters a commit at its beginning.
+    EarlyCommit,
+    /// The model takes no batch.
     BatchesNever,
-    /// The book keeps pages at or above the new count.
+    /// The model keeps pages at or above the new count.
     PagesStay,
 }
 
@@ -40,73 +40,76 @@ pub const ALL: [(&str, Wrong); 13] = [
     ("plain-opening", Wrong::PlainOpening),
     ("header-late", Wrong::HeaderLate),
     ("log-first", Wrong::LogFirst),
-    ("seal-first", Wrong::SealFirst),
+    ("seal-first", Wrong::CommitFrameFirst),
     ("torn-header", Wrong::TornHeader),
     ("length-first", Wrong::LengthFirst),
     ("refused-enters", Wrong::RefusedEnters),
     ("batches-stay", Wrong::BatchesStay),
     ("waiting-stays", Wrong::WaitingStays),
     ("staging-stays", Wrong::StagingStays),
-    ("early-seal", Wrong::EarlySeal),
+    ("early-seal", Wrong::EarlyCommit),
     ("batches-never", Wrong::BatchesNever),
     ("pages-stay", Wrong::PagesStay),
 ];
 
 impl Wrong {
-    pub fn named(name: &str) -> Option<Wrong> {
+    pub fn from_name(name: &str) -> Option<Wrong> {
         ALL.iter()
             .find(|(known, _)| *known == name)
             .map(|(_, wrong)| *wrong)
     }
 
-    /// Tells the book what it is to be told, or something wrong.
-    pub fn enter(self, book: &mut Book, entry: Entry) {
+    /// Gives the model what it is to be given, or something wrong.
+    pub fn enter(self, model: &mut Model, entry: Entry) {
         match (self, &entry) {
-            (Wrong::BatchesStay, Entry::FoldLogLength)
+            (Wrong::BatchesStay, Entry::CheckpointLogLength)
             | (Wrong::BatchesNever, Entry::BatchFrame(_)) => (),
             (Wrong::WaitingStays, Entry::CleanOpening) => {
-                let waiting = std::mem::take(&mut book.waiting);
-                book.enter(entry);
-                book.waiting = waiting;
+                let waiting = std::mem::take(&mut model.waiting);
+                model.enter(entry);
+                model.waiting = waiting;
             }
             (Wrong::StagingStays, Entry::CleanOpening) => {
-                let staged = std::mem::take(&mut book.staged);
-                book.enter(entry);
-                book.staged = staged;
+                let staged = std::mem::take(&mut model.staged);
+                model.enter(entry);
+                model.staged = staged;
             }
-            (Wrong::PagesStay, Entry::Seal) => {
-                let pages = book.pages.clone();
-                book.enter(entry);
-                book.pages = pages
+            (Wrong::PagesStay, Entry::CommitFrame) => {
+                let pages = model.pages.clone();
+                model.enter(entry);
+                model.pages = pages
                     .into_iter()
-                    .chain(std::mem::take(&mut book.pages))
+                    .chain(std::mem::take(&mut model.pages))
                     .collect();
             }
-            (Wrong::EarlySeal, Entry::Commit(_)) => {
-                book.enter(entry);
-                book.enter(Entry::Seal);
+            (Wrong::EarlyCommit, Entry::Commit(_)) => {
+                model.enter(entry);
+                model.enter(Entry::CommitFrame);
             }
-            _ => book.enter(entry),
+            _ => model.enter(entry),
         }
     }
 
-    /// What a refused call does to the book.
-    pub fn refused(self, call: &Call, book: &mut Book) {
+    /// What a refused call does to the model.
+    pub fn refused(self, call: &Call, model: &mut Model) {
         if let (Wrong::RefusedEnters, Call::Commit(header, _)) = (self, call) {
-            book.enter(Entry::Commit(*header));
-            book.enter(Entry::Seal);
+            model.enter(Entry::Commit(*header));
+            model.enter(Entry::CommitFrame);
         }
     }
 
-    /// The place of a store of that kind among others in the order that is carried to the files:
+    /// The place of a write of that kind among others in the order in which they reach the files:
     /// lower ones first, equal ones as they came.
-    pub fn rank(self, kind: &Kind) -> u32 {
+    pub fn rank(self, kind: &WriteKind) -> u32 {
         match (self, kind) {
-            (Wrong::HeaderLate, Kind::MainHeader) => 1,
-            (Wrong::LogFirst, Kind::MainPage(_) | Kind::MainHeader | Kind::MainLength) => 1,
-            (Wrong::SealFirst, Kind::Seal) => 0,
-            (Wrong::SealFirst, Kind::PageFrame) => 1,
-            (Wrong::SealFirst, _) => 2,
+            (Wrong::HeaderLate, WriteKind::MainHeader) => 1,
+            (
+                Wrong::LogFirst,
+                WriteKind::MainPage(_) | WriteKind::MainHeader | WriteKind::MainLength,
+            ) => 1,
+            (Wrong::CommitFrameFirst, WriteKind::CommitFrame) => 0,
+            (Wrong::CommitFrameFirst, WriteKind::PageFrame) => 1,
+            (Wrong::CommitFrameFirst, _) => 2,
             _ => 0,
         }
     }

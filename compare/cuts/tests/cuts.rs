@@ -1,6 +1,6 @@
-//! A short run of cuts, and that each wrong book, order of stores and opening is found.
-use plain_book::run::run;
-use plain_book::wrong::{ALL, Wrong};
+//! A short run of cuts, and that each wrong model, order of writes and opening is found.
+use cuts::run::run;
+use cuts::wrong::{ALL, Wrong};
 
 #[test]
 fn no_cut_is_different() {

@@ -3,7 +3,7 @@
 use lateenbael::Engine;
 
 const OLD: [u8; 4096] = [1; 4096];
-const TAIL: [u8; 4096] = [2; 4096];
+const UNCOMMITTED: [u8; 4096] = [2; 4096];
 
 /// The files opened in other areas.
 fn reopened(engine: &Engine, clean: bool) -> Engine {
@@ -27,20 +27,20 @@ fn page_five(clean: bool) -> Vec<u8> {
         engine.stage_page(page, &OLD).unwrap();
     }
     engine.commit(header, 1).unwrap();
-    engine.stage_page(5, &TAIL).unwrap();
+    engine.stage_page(5, &UNCOMMITTED).unwrap();
     engine.begin_commit(header, 1).unwrap();
     engine.next_step().unwrap();
     let mut engine = reopened(&engine, clean);
     assert_eq!(engine.read_page(5).unwrap(), Some(&OLD[..]));
-    engine.stage_page(3, &TAIL).unwrap();
+    engine.stage_page(3, &UNCOMMITTED).unwrap();
     engine.commit(header, 1).unwrap();
     let engine = reopened(&engine, clean);
-    assert_eq!(engine.read_page(3).unwrap(), Some(&TAIL[..]));
+    assert_eq!(engine.read_page(3).unwrap(), Some(&UNCOMMITTED[..]));
     engine.read_page(5).unwrap().unwrap().to_vec()
 }
 
 #[test]
-fn only_plain_openings_show_the_old_tail() {
-    assert_eq!(page_five(false), TAIL);
+fn only_plain_openings_show_old_uncommitted_frames() {
+    assert_eq!(page_five(false), UNCOMMITTED);
     assert_eq!(page_five(true), OLD);
 }

@@ -2,7 +2,9 @@
 
 use std::ops::Range;
 
-use crate::random::Random;
+use splitmix::Random;
+
+use crate::edges;
 
 /// What stands before and behind an area.
 pub trait Guard: Copy + Default + PartialEq {
@@ -27,7 +29,7 @@ pub struct Area<T> {
 }
 
 /// A slice as it goes over.
-pub struct Lent<P> {
+pub struct SliceArg<P> {
     pub at: P,
     pub len: usize,
     /// Whether it has the area's own length.
@@ -49,17 +51,17 @@ impl<T: Guard> Area<T> {
     /// The area's address with its own length or, now and then, another: a
     /// smaller one, one into the guard, or one that no memory has. A call
     /// must refuse these before it reads or writes.
-    pub fn lend(&mut self, random: &mut Random) -> Lent<*mut T> {
+    pub fn lend(&mut self, random: &mut Random) -> SliceArg<*mut T> {
         let own = self.copy.len();
         let len = match random.below(200) {
             0 => random.below(own + 1),
             1 => own - 1,
             2 => own + 1,
-            3 => random.number() as usize,
+            3 => edges::number(random) as usize,
             4 => 0,
             _ => own,
         };
-        Lent {
+        SliceArg {
             len,
             right: len == own,
             ..self.lend_own()
@@ -67,8 +69,8 @@ impl<T: Guard> Area<T> {
     }
 
     /// The area with its own length.
-    pub fn lend_own(&mut self) -> Lent<*mut T> {
-        Lent {
+    pub fn lend_own(&mut self) -> SliceArg<*mut T> {
+        SliceArg {
             at: self.block[self.guard..].as_mut_ptr(),
             len: self.copy.len(),
             right: true,
@@ -85,7 +87,7 @@ impl<T: Guard> Area<T> {
         self.copy[at..][..values.len()].copy_from_slice(values);
     }
 
-    pub fn guards_hold(&self) -> bool {
+    pub fn guards_intact(&self) -> bool {
         let (front, rest) = self.block.split_at(self.guard);
         let behind = &rest[self.copy.len()..];
         front.iter().chain(behind).all(|value| *value == T::GUARD)

@@ -5,6 +5,7 @@ use sys::{Building, PAGE_SIZE, TextPlace};
 
 use crate::area::Area;
 use crate::closed::NO_BUILDING;
+use crate::edges;
 use crate::forge;
 use crate::world::{Call, World, Writes};
 
@@ -37,12 +38,12 @@ pub fn any_body(world: &mut World) -> Area<u8> {
     };
     bytes.resize(len, 0);
     match world.random.below(5) {
-        0 => world.random.fill(&mut bytes),
+        0 => edges::overwrite(&mut world.random, &mut bytes),
         1 if len > 0 => {
             let at = world.random.below(len.min(200));
-            bytes[at] = world.random.next() as u8;
+            bytes[at] = world.random.u8();
         }
-        2 if len > 18 => world.random.fill(&mut bytes[16..]),
+        2 if len > 18 => edges::overwrite(&mut world.random, &mut bytes[16..]),
         _ => {}
     }
     world.slice(&bytes)
@@ -51,7 +52,7 @@ pub fn any_body(world: &mut World) -> Area<u8> {
 /// A cursor into a body: mostly where something begins.
 fn cursor(world: &mut World) -> usize {
     match world.random.below(6) {
-        0 => world.random.number() as usize,
+        0 => edges::number(&mut world.random) as usize,
         1 => world.random.below(200),
         2 => 18,
         _ => world.random.pick(&world.begins),
@@ -75,11 +76,11 @@ fn value_inside(world: &mut World, export: &str, value: &sys::Value, body: &Area
 
 fn decode(world: &mut World, export: &'static str) {
     let mut body = any_body(world);
-    let lent = body.lend_own();
-    let answer = unsafe { sys::lateenbael_mvcc_decode(lent.at, lent.len) };
+    let arg = body.lend_own();
+    let answer = unsafe { sys::lateenbael_mvcc_decode(arg.at, arg.len) };
     world.end(export, answer.refusal, true, &Writes::default());
     if answer.refusal == 0 {
-        world.inside(export, answer.end, 0, lent.len);
+        world.inside(export, answer.end, 0, arg.len);
     }
     world.unaltered(export, &body);
 }
@@ -87,11 +88,11 @@ fn decode(world: &mut World, export: &'static str) {
 fn decode_record(world: &mut World, export: &'static str) {
     let mut body = any_body(world);
     let at = cursor(world);
-    let lent = body.lend_own();
-    let answer = unsafe { sys::lateenbael_mvcc_decode_record(lent.at, lent.len, at) };
+    let arg = body.lend_own();
+    let answer = unsafe { sys::lateenbael_mvcc_decode_record(arg.at, arg.len, at) };
     world.end(export, answer.refusal, true, &Writes::default());
     if answer.refusal == 0 {
-        world.inside(export, answer.next, 0, lent.len);
+        world.inside(export, answer.next, 0, arg.len);
         text_inside(world, export, answer.table, &body);
     }
     world.unaltered(export, &body);
@@ -100,11 +101,11 @@ fn decode_record(world: &mut World, export: &'static str) {
 fn decode_column(world: &mut World, export: &'static str) {
     let mut body = any_body(world);
     let at = cursor(world);
-    let lent = body.lend_own();
-    let answer = unsafe { sys::lateenbael_mvcc_decode_column(lent.at, lent.len, at) };
+    let arg = body.lend_own();
+    let answer = unsafe { sys::lateenbael_mvcc_decode_column(arg.at, arg.len, at) };
     world.end(export, answer.refusal, true, &Writes::default());
     if answer.refusal == 0 {
-        world.inside(export, answer.next, 0, lent.len);
+        world.inside(export, answer.next, 0, arg.len);
         text_inside(world, export, answer.name, &body);
         value_inside(world, export, &answer.value, &body);
     }
@@ -114,11 +115,11 @@ fn decode_column(world: &mut World, export: &'static str) {
 fn decode_value(world: &mut World, export: &'static str) {
     let mut body = any_body(world);
     let at = cursor(world);
-    let lent = body.lend_own();
-    let answer = unsafe { sys::lateenbael_mvcc_decode_value(lent.at, lent.len, at) };
+    let arg = body.lend_own();
+    let answer = unsafe { sys::lateenbael_mvcc_decode_value(arg.at, arg.len, at) };
     world.end(export, answer.refusal, true, &Writes::default());
     if answer.refusal == 0 {
-        world.inside(export, answer.next, 0, lent.len);
+        world.inside(export, answer.next, 0, arg.len);
         value_inside(world, export, &answer.value, &body);
     }
     world.unaltered(export, &body);
@@ -127,8 +128,8 @@ fn decode_value(world: &mut World, export: &'static str) {
 fn vector_bits(world: &mut World, export: &'static str) {
     let mut body = any_body(world);
     let (first, count, index) = (cursor(world), cursor(world), cursor(world));
-    let lent = body.lend_own();
-    unsafe { sys::lateenbael_mvcc_vector_bits(lent.at, lent.len, first, count, index) };
+    let arg = body.lend_own();
+    unsafe { sys::lateenbael_mvcc_vector_bits(arg.at, arg.len, first, count, index) };
     world.end(export, 0, true, &Writes::default());
     world.unaltered(export, &body);
 }
@@ -136,9 +137,9 @@ fn vector_bits(world: &mut World, export: &'static str) {
 fn canonicalize(world: &mut World, export: &'static str) {
     let mut body = any_body(world);
     let mut out = world.slice(&[0x55; PAGE_SIZE]);
-    let lent = body.lend_own();
+    let arg = body.lend_own();
     let to = out.lend(&mut world.random);
-    let refusal = unsafe { sys::lateenbael_mvcc_canonicalize(lent.at, lent.len, to.at, to.len) };
+    let refusal = unsafe { sys::lateenbael_mvcc_canonicalize(arg.at, arg.len, to.at, to.len) };
     world.end(export, refusal, to.right, &Writes::default());
     if refusal == 0 {
         out.adopt(&out.all());
@@ -153,9 +154,9 @@ fn build(
     export: &'static str,
     call: impl FnOnce(&mut World, *mut u8, usize) -> Building,
 ) {
-    let lent = world.body.lend(&mut world.random);
-    let building = call(world, lent.at, lent.len);
-    world.end(export, building.refusal, lent.right, &Writes::default());
+    let arg = world.body.lend(&mut world.random);
+    let building = call(world, arg.at, arg.len);
+    world.end(export, building.refusal, arg.right, &Writes::default());
     if building.refusal == 0 {
         world.body.adopt(&world.body.all());
         world.building = building;
@@ -179,7 +180,7 @@ fn build(
 
 fn start(world: &mut World, export: &'static str) {
     build(world, export, |world, at, len| {
-        let commit_ts = world.random.number();
+        let commit_ts = edges::number(&mut world.random);
         unsafe { sys::lateenbael_mvcc_start(at, len, commit_ts) }
     });
 }
@@ -194,7 +195,7 @@ fn text(world: &mut World) -> Area<u8> {
     };
     let mut bytes = vec![b'a'; len];
     if world.random.percent(20) {
-        world.random.fill(&mut bytes);
+        edges::overwrite(&mut world.random, &mut bytes);
     }
     world.slice(&bytes)
 }
@@ -207,28 +208,28 @@ fn add(
 ) {
     let mut name = text(world);
     let building = forge::building(&mut world.random, world.building);
-    let lent = name.lend_own();
+    let arg = name.lend_own();
     // The record or column, and a column's value.
     let begin = building.at as usize;
     let k = world.random.below(world.begins.len() / 2) * 2;
     world.begins[k] = begin;
-    world.begins[k + 1] = begin.saturating_add(2 + lent.len);
+    world.begins[k + 1] = begin.saturating_add(2 + arg.len);
     build(world, export, |world, at, len| {
-        call(world, at, len, building, lent.at, lent.len)
+        call(world, at, len, building, arg.at, arg.len)
     });
     world.unaltered(export, &name);
 }
 
 fn add_tombstone(world: &mut World, export: &'static str) {
     add(world, export, |world, at, len, building, name, name_len| {
-        let rowid = world.random.number() as i64;
+        let rowid = edges::number(&mut world.random) as i64;
         unsafe { sys::lateenbael_mvcc_add_tombstone(at, len, building, name, name_len, rowid) }
     });
 }
 
 fn begin_present(world: &mut World, export: &'static str) {
     add(world, export, |world, at, len, building, name, name_len| {
-        let rowid = world.random.number() as i64;
+        let rowid = edges::number(&mut world.random) as i64;
         unsafe { sys::lateenbael_mvcc_begin_present(at, len, building, name, name_len, rowid) }
     });
 }
@@ -245,33 +246,33 @@ fn add_null(world: &mut World, export: &'static str) {
 
 fn add_integer(world: &mut World, export: &'static str) {
     add(world, export, |world, at, len, building, name, name_len| {
-        let value = world.random.number() as i64;
+        let value = edges::number(&mut world.random) as i64;
         unsafe { sys::lateenbael_mvcc_add_integer(at, len, building, name, name_len, value) }
     });
 }
 
 fn add_real_bits(world: &mut World, export: &'static str) {
     add(world, export, |world, at, len, building, name, name_len| {
-        let bits = world.random.number();
+        let bits = edges::number(&mut world.random);
         unsafe { sys::lateenbael_mvcc_add_real_bits(at, len, building, name, name_len, bits) }
     });
 }
 
 fn add_bool(world: &mut World, export: &'static str) {
     add(world, export, |world, at, len, building, name, name_len| {
-        let value = world.random.number() as u32;
+        let value = edges::number(&mut world.random) as u32;
         unsafe { sys::lateenbael_mvcc_add_bool(at, len, building, name, name_len, value) }
     });
 }
 
 fn add_text(world: &mut World, export: &'static str) {
     let mut value = text(world);
-    let lent = value.lend_own();
+    let arg = value.lend_own();
     add(
         world,
         export,
         |_, at, len, building, name, name_len| unsafe {
-            sys::lateenbael_mvcc_add_text(at, len, building, name, name_len, lent.at, lent.len)
+            sys::lateenbael_mvcc_add_text(at, len, building, name, name_len, arg.at, arg.len)
         },
     );
     world.unaltered(export, &value);
@@ -279,12 +280,12 @@ fn add_text(world: &mut World, export: &'static str) {
 
 fn add_vector(world: &mut World, export: &'static str) {
     let mut value = text(world);
-    let lent = value.lend_own();
+    let arg = value.lend_own();
     add(
         world,
         export,
         |_, at, len, building, name, name_len| unsafe {
-            sys::lateenbael_mvcc_add_vector(at, len, building, name, name_len, lent.at, lent.len)
+            sys::lateenbael_mvcc_add_vector(at, len, building, name, name_len, arg.at, arg.len)
         },
     );
     world.unaltered(export, &value);

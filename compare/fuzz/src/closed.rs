@@ -31,7 +31,7 @@ pub const NO_WAL: Wal = Wal {
     good_end: 0,
     last_commit_offset: 0,
     frame_count: 0,
-    sealed: 0,
+    committed: 0,
     last_commit_page_count: 0,
 };
 
@@ -75,12 +75,12 @@ pub const NO_BUILDING: Building = Building {
 
 /// The store that any numbers stand for: a kind of job that there is not is
 /// none, one of opening has no log, and numbers that tell nothing are 0.
-pub fn meant(store: Store) -> Store {
+pub fn normalized(store: Store) -> Store {
     let Store { mut wal, job, .. } = store;
-    if wal.sealed == 0 {
+    if wal.committed == 0 {
         wal.last_commit_page_count = 0;
     }
-    wal.sealed = wal.sealed.min(1);
+    wal.committed = wal.committed.min(1);
     let job = match job.kind {
         1 => job,
         2 => Job {

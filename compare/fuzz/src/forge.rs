@@ -1,8 +1,9 @@
 //! Structs with wrong numbers in them.
 
 use lateenbael_sys::{Building, DbHeader, STAGED_PAGES, Store, Wal, WalHeader};
+use splitmix::Random;
 
-use crate::random::Random;
+use crate::edges;
 
 /// A header to commit: mostly one that can be.
 pub fn db_header(random: &mut Random, like: DbHeader) -> DbHeader {
@@ -13,7 +14,7 @@ pub fn db_header(random: &mut Random, like: DbHeader) -> DbHeader {
         _ => {}
     }
     header.format_version = 4 + random.below(3) as u16;
-    header.schema_root_page = random.next() as u32;
+    header.schema_root_page = random.u32();
     if random.percent(10) {
         alter_db_header(random, &mut header);
     }
@@ -21,7 +22,7 @@ pub fn db_header(random: &mut Random, like: DbHeader) -> DbHeader {
 }
 
 fn alter_db_header(random: &mut Random, header: &mut DbHeader) {
-    let number = random.number();
+    let number = edges::number(random);
     match random.below(4) {
         0 => header.page_count = number as u32,
         1 => header.schema_root_page = number as u32,
@@ -37,7 +38,7 @@ pub fn wal_header(random: &mut Random, like: WalHeader) -> WalHeader {
 }
 
 fn alter_wal_header(random: &mut Random, header: &mut WalHeader) {
-    let number = random.number();
+    let number = edges::number(random);
     match random.below(4) {
         0 => header.version = number as u32,
         1 => header.salt = number as u32,
@@ -48,21 +49,21 @@ fn alter_wal_header(random: &mut Random, header: &mut WalHeader) {
 
 /// One field of an open log gets another number.
 pub fn alter_wal(random: &mut Random, wal: &mut Wal) {
-    let number = random.number();
+    let number = edges::number(random);
     match random.below(7) {
         0 => alter_wal_header(random, &mut wal.header),
         1 => wal.len = number as usize,
         2 => wal.good_end = number as usize,
         3 => wal.last_commit_offset = number as usize,
         4 => wal.frame_count = number as usize,
-        5 => wal.sealed = number as u32,
+        5 => wal.committed = number as u32,
         _ => wal.last_commit_page_count = number as u32,
     }
 }
 
 /// One field of a store gets another number.
 pub fn alter_store(random: &mut Random, store: &mut Store) {
-    let number = random.number();
+    let number = edges::number(random);
     match random.below(16) {
         0 => alter_db_header(random, &mut store.current_header),
         1..=4 => alter_wal(random, &mut store.wal),
@@ -93,7 +94,7 @@ pub fn alterations(random: &mut Random) -> usize {
 pub fn building(random: &mut Random, like: Building) -> Building {
     let mut building = like;
     for _ in 0..alterations(random).min(10) {
-        let number = random.number();
+        let number = edges::number(random);
         match random.below(5) {
             0 => building.refusal = number as u32,
             1 => building.at = number as u32,

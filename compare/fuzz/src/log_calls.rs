@@ -7,6 +7,7 @@ use sys::{FRAME_SIZE, LISTING_SIZE, LOG_AREA, PAGE_SIZE, WalAnswer};
 
 use crate::batch_calls::any_body;
 use crate::closed::NO_WAL;
+use crate::edges;
 use crate::forge;
 use crate::store_calls::{WAL_HEADER_SIZE, frames};
 use crate::world::{Call, World, Writes};
@@ -50,7 +51,7 @@ fn take(world: &mut World, export: &str, answer: &WalAnswer) {
 fn create(world: &mut World, export: &'static str) {
     let writes = of_log(0..WAL_HEADER_SIZE);
     world.begin(export, &writes);
-    let salt = world.random.next() as u32;
+    let salt = world.random.u32();
     let log = world.log.lend(&mut world.random);
     let answer = unsafe { sys::lateenbael_wal_create(log.at, log.len, salt) };
     world.end(export, answer.refusal, log.right, &writes);
@@ -62,7 +63,7 @@ fn create(world: &mut World, export: &'static str) {
 fn file(world: &mut World) -> (*const u8, usize) {
     let len = match world.random.below(10) {
         0 => world.random.below(LOG_AREA + 1),
-        1 => world.random.number() as usize,
+        1 => edges::number(&mut world.random) as usize,
         2 => world.random.below(70) * 61,
         3 => LOG_AREA + world.random.below(world.guard + 1),
         4..=6 => world.wal.len,
@@ -82,18 +83,18 @@ fn open(world: &mut World, export: &'static str) {
 fn append_frame(world: &mut World, export: &'static str) {
     let wal = world.any_wal();
     let mut bytes = vec![0; PAGE_SIZE];
-    world.random.fill(&mut bytes);
+    edges::overwrite(&mut world.random, &mut bytes);
     let mut content = world.slice(&bytes);
-    let page_num = world.random.number() as u32;
-    let count = world.random.number() as u32;
+    let page_num = edges::number(&mut world.random) as u32;
+    let count = edges::number(&mut world.random) as u32;
     let writes = of_log(frames(wal.len, 1));
     world.begin(export, &writes);
     let log = world.log.lend(&mut world.random);
-    let lent = content.lend(&mut world.random);
+    let arg = content.lend(&mut world.random);
     let answer = unsafe {
-        sys::lateenbael_wal_append_frame(log.at, log.len, wal, page_num, lent.at, lent.len, count)
+        sys::lateenbael_wal_append_frame(log.at, log.len, wal, page_num, arg.at, arg.len, count)
     };
-    world.end(export, answer.refusal, log.right && lent.right, &writes);
+    world.end(export, answer.refusal, log.right && arg.right, &writes);
     world.unaltered(export, &content);
     take(world, export, &answer);
 }
@@ -104,9 +105,9 @@ fn append_mvcc_batch(world: &mut World, export: &'static str) {
     let writes = of_log(frames(wal.len, 1));
     world.begin(export, &writes);
     let log = world.log.lend(&mut world.random);
-    let lent = body.lend_own();
+    let arg = body.lend_own();
     let answer =
-        unsafe { sys::lateenbael_wal_append_mvcc_batch(log.at, log.len, wal, lent.at, lent.len) };
+        unsafe { sys::lateenbael_wal_append_mvcc_batch(log.at, log.len, wal, arg.at, arg.len) };
     world.end(export, answer.refusal, log.right, &writes);
     world.unaltered(export, &body);
     take(world, export, &answer);
@@ -116,7 +117,7 @@ fn truncate(world: &mut World, export: &'static str) {
     let wal = world.any_wal();
     let writes = of_log(0..WAL_HEADER_SIZE);
     world.begin(export, &writes);
-    let salt = world.random.next() as u32;
+    let salt = world.random.u32();
     let log = world.log.lend(&mut world.random);
     let answer = unsafe { sys::lateenbael_wal_truncate(log.at, log.len, wal, salt) };
     world.end(export, answer.refusal, log.right, &writes);
@@ -125,7 +126,7 @@ fn truncate(world: &mut World, export: &'static str) {
 
 fn set_clock_high_water(world: &mut World, export: &'static str) {
     let wal = world.any_wal();
-    let value = world.random.number();
+    let value = edges::number(&mut world.random);
     let answer = unsafe { sys::lateenbael_wal_set_clock_high_water(wal, value) };
     world.end(export, answer.refusal, true, &Writes::default());
     take(world, export, &answer);
@@ -144,7 +145,7 @@ fn frame_at(world: &mut World, export: &'static str) {
 fn index(world: &mut World) -> usize {
     match world.random.percent(60) {
         true => world.random.below(100),
-        false => world.random.number() as usize,
+        false => edges::number(&mut world.random) as usize,
     }
 }
 
@@ -153,7 +154,7 @@ fn find_page(world: &mut World, export: &'static str) {
     let wal = world.any_wal();
     let page_num = match world.random.percent(60) {
         true => world.random.below(50) as u32,
-        false => world.random.number() as u32,
+        false => edges::number(&mut world.random) as u32,
     };
     let answer = unsafe { sys::lateenbael_wal_find_page(at, len, wal, page_num) };
     world.end(export, answer.refusal, true, &Writes::default());
@@ -181,8 +182,8 @@ fn list_log(world: &mut World, export: &'static str) {
         _ => LISTING_SIZE + world.random.below(10),
     };
     let mut out = world.slice(&vec![0x33; size]);
-    let lent = out.lend_own();
-    let answer = unsafe { sys::lateenbael_list_log(at, len, lent.at, lent.len) };
+    let arg = out.lend_own();
+    let answer = unsafe { sys::lateenbael_list_log(at, len, arg.at, arg.len) };
     world.end(export, answer.refusal, true, &Writes::default());
     if answer.refusal == 0 {
         world.inside(export, 0, answer.len, size);
@@ -210,8 +211,8 @@ fn encode_header(world: &mut World, export: &'static str) {
     let header = forge::db_header(&mut world.random, world.store.current_header);
     let size = buffer_len(world);
     let mut buf = world.slice(&vec![0x44; size]);
-    let lent = buf.lend_own();
-    let refusal = unsafe { sys::lateenbael_encode_header(header, lent.at, lent.len) };
+    let arg = buf.lend_own();
+    let refusal = unsafe { sys::lateenbael_encode_header(header, arg.at, arg.len) };
     world.end(export, refusal, true, &Writes::default());
     if refusal == 0 {
         buf.adopt(&buf.all());
@@ -232,11 +233,11 @@ fn decode_header(world: &mut World, export: &'static str) {
     let mut bytes = world.main.bytes()[..len].to_vec();
     if world.random.percent(50) && len > 40 {
         let at = world.random.below(40);
-        bytes[at] = world.random.next() as u8;
+        bytes[at] = world.random.u8();
     }
     let mut buf = world.slice(&bytes);
-    let lent = buf.lend_own();
-    let answer = unsafe { sys::lateenbael_decode_header(lent.at, lent.len) };
+    let arg = buf.lend_own();
+    let answer = unsafe { sys::lateenbael_decode_header(arg.at, arg.len) };
     world.end(export, answer.refusal, true, &Writes::default());
     world.unaltered(export, &buf);
 }

@@ -6,9 +6,9 @@
 mod area;
 mod batch_calls;
 mod closed;
+mod edges;
 mod forge;
 mod log_calls;
-mod random;
 mod store_calls;
 mod tally;
 mod world;
@@ -19,7 +19,7 @@ use std::process::ExitCode;
 use world::{Call, World};
 
 /// So many bytes or numbers stand before and behind each area.
-const GUARD: usize = 256;
+const GUARD_LEN: usize = 256;
 
 /// Their places among the store's calls.
 const NEXT_STEP: usize = 14;
@@ -33,7 +33,7 @@ fn main() -> ExitCode {
         eprintln!("fuzz SEED COUNT [exact]");
         return ExitCode::from(2);
     };
-    let world = run(seed, count as usize, if exact { 0 } else { GUARD });
+    let world = run(seed, count as usize, if exact { 0 } else { GUARD_LEN });
     world.tally.print();
     println!("{} calls, {} faults", world.tally.calls, world.tally.faults);
     ExitCode::from(u8::from(world.tally.faults > 0))
@@ -73,7 +73,7 @@ mod tests {
 
     #[test]
     fn no_call_does_harm() {
-        for guard in [0, GUARD] {
+        for guard in [0, GUARD_LEN] {
             let world = run(7, 20_000, guard);
             assert_eq!(world.tally.faults, 0);
             assert_eq!(world.tally.exports(), 50);
@@ -81,7 +81,7 @@ mod tests {
     }
 
     #[test]
-    fn calls_are_where_they_are_said_to_be() {
+    fn every_call_stands_at_its_index() {
         assert_eq!(store_calls::CALLS[NEXT_STEP].0, "next_step");
         assert_eq!(store_calls::CALLS[COMMIT].0, "commit");
     }

@@ -5,6 +5,7 @@ use std::ops::Range;
 use lateenbael_sys as sys;
 use sys::{FRAME_SIZE, LOG_AREA, MAIN_AREA, PAGE_SIZE, PageAnswer, STAGING_AREA, Store};
 
+use crate::edges;
 use crate::forge;
 use crate::world::{Call, World, Writes};
 
@@ -69,7 +70,7 @@ fn create(world: &mut World, export: &'static str) {
         staging: false,
     };
     world.begin(export, &writes);
-    let salt = world.random.next() as u32;
+    let salt = world.random.u32();
     let (answered, right) = over_areas!(world, sys::lateenbael_create, [], [salt]);
     world.end(export, answered.refusal, right, &writes);
     world.take_opened(export, &answered);
@@ -103,11 +104,11 @@ fn opening(world: &mut World, export: &'static str, call: Opening) {
     spoil(world);
     let exists = u32::from(!world.random.percent(10));
     let main_len = match world.random.percent(15) {
-        true => world.random.number() as usize,
+        true => edges::number(&mut world.random) as usize,
         false => world.store.storage.len,
     };
     let log_len = match world.random.below(8) {
-        0 => world.random.number() as usize,
+        0 => edges::number(&mut world.random) as usize,
         1..=3 => world.wal.len,
         _ => world.store.wal.len,
     };
@@ -121,7 +122,7 @@ fn opening(world: &mut World, export: &'static str, call: Opening) {
         ..Writes::default()
     };
     world.begin(export, &writes);
-    let salt = world.random.next() as u32;
+    let salt = world.random.u32();
     let (answered, right) = over_areas!(world, call, [], [main_len, log_len, mode, exists, salt]);
     world.end(export, answered.refusal, right, &writes);
     world.take_opened(export, &answered);
@@ -135,7 +136,7 @@ fn spoil(world: &mut World) {
     }
     let frame = WAL_HEADER_SIZE + FRAME_SIZE * world.random.below(70);
     let near = world.random.below(40);
-    let byte = world.random.next() as u8;
+    let byte = world.random.u8();
     match world.random.below(4) {
         0 => world.main.put(near, &[byte]),
         1 => world.log.put(near, &[byte]),
@@ -167,7 +168,7 @@ fn clock_high_water(world: &mut World, export: &'static str) {
 
 fn observe_clock_high_water(world: &mut World, export: &'static str) {
     let given = world.any_store();
-    let value = world.random.number();
+    let value = edges::number(&mut world.random);
     let answered = unsafe { sys::lateenbael_observe_clock_high_water(given.0, value) };
     world.end(export, answered.refusal, true, &Writes::default());
     world.take(export, given, &answered);
@@ -191,7 +192,7 @@ fn may_read(world: &mut World, export: &'static str) {
     world.end(export, refusal, right, &Writes::default());
 }
 
-/// Behind the end that is told no page is found.
+/// Behind the end that is answered no page is found.
 fn read_end(world: &mut World, export: &'static str) {
     let (store, _) = world.any_store();
     let (count, staged) = (
@@ -244,7 +245,7 @@ fn place_page(world: &mut World, export: &'static str) {
     page_inside(world, export, answer);
 }
 
-/// A page that is told lies inside its area, whatever the table holds.
+/// A page that is found lies inside its area, whatever the table holds.
 fn page_inside(world: &mut World, export: &'static str, answer: PageAnswer) {
     let size = match answer.area {
         0 => return,
@@ -258,7 +259,7 @@ fn page_inside(world: &mut World, export: &'static str, answer: PageAnswer) {
 
 fn page_num(world: &mut World) -> u32 {
     match world.random.below(4) {
-        0 => world.random.number() as u32,
+        0 => edges::number(&mut world.random) as u32,
         1 => world.random.below(1_030) as u32,
         _ => world.random.below(40) as u32,
     }
@@ -268,7 +269,7 @@ fn recovered_mvcc_commits(world: &mut World, export: &'static str) {
     let (store, _) = world.any_store();
     let index = match world.random.percent(50) {
         true => world.random.below(20),
-        false => world.random.number() as usize,
+        false => edges::number(&mut world.random) as usize,
     };
     let log = world.log.lend(&mut world.random);
     let place = unsafe { sys::lateenbael_recovered_mvcc_commits(store, log.at, log.len, index) };
@@ -287,7 +288,7 @@ fn stage_in(world: &mut World, export: &'static str) {
         false => page_num(world),
     };
     let mut bytes = vec![0; PAGE_SIZE];
-    world.random.fill(&mut bytes);
+    edges::overwrite(&mut world.random, &mut bytes);
     let mut page = world.slice(&bytes);
     let mut staged = Box::new(store.staged.pages);
     let writes = Writes {
@@ -296,7 +297,7 @@ fn stage_in(world: &mut World, export: &'static str) {
     };
     world.begin(export, &writes);
     let staging = world.staging.lend(&mut world.random);
-    let lent = page.lend(&mut world.random);
+    let arg = page.lend(&mut world.random);
     let done = unsafe {
         sys::lateenbael_stage_in(
             store.job.kind,
@@ -305,11 +306,11 @@ fn stage_in(world: &mut World, export: &'static str) {
             &mut staged,
             staging.at,
             staging.len,
-            lent.at,
-            lent.len,
+            arg.at,
+            arg.len,
         )
     };
-    world.end(export, done.refusal, staging.right && lent.right, &writes);
+    world.end(export, done.refusal, staging.right && arg.right, &writes);
     world.unaltered(export, &page);
     if done.refusal != 0 {
         assert_eq!(
@@ -324,7 +325,7 @@ fn stage_page(world: &mut World, export: &'static str) {
     let given = world.any_store();
     let page_num = page_num(world);
     let mut bytes = vec![0; PAGE_SIZE];
-    world.random.fill(&mut bytes);
+    edges::overwrite(&mut world.random, &mut bytes);
     let mut page = world.slice(&bytes);
     let writes = Writes {
         staging: true,
@@ -332,18 +333,11 @@ fn stage_page(world: &mut World, export: &'static str) {
     };
     world.begin(export, &writes);
     let staging = world.staging.lend(&mut world.random);
-    let lent = page.lend(&mut world.random);
+    let arg = page.lend(&mut world.random);
     let answered = unsafe {
-        sys::lateenbael_stage_page(
-            given.0,
-            staging.at,
-            staging.len,
-            page_num,
-            lent.at,
-            lent.len,
-        )
+        sys::lateenbael_stage_page(given.0, staging.at, staging.len, page_num, arg.at, arg.len)
     };
-    let right = staging.right && lent.right;
+    let right = staging.right && arg.right;
     world.end(export, answered.refusal, right, &writes);
     world.unaltered(export, &page);
     world.take(export, given, &answered);
@@ -371,9 +365,9 @@ fn append_mvcc_batch(world: &mut World, export: &'static str) {
     };
     world.begin(export, &writes);
     let log = world.log.lend(&mut world.random);
-    let lent = body.lend_own();
+    let arg = body.lend_own();
     let answered =
-        unsafe { sys::lateenbael_append_mvcc_batch(given.0, log.at, log.len, lent.at, lent.len) };
+        unsafe { sys::lateenbael_append_mvcc_batch(given.0, log.at, log.len, arg.at, arg.len) };
     world.end(export, answered.refusal, log.right, &writes);
     world.unaltered(export, &body);
     world.take(export, given, &answered);
@@ -382,7 +376,7 @@ fn append_mvcc_batch(world: &mut World, export: &'static str) {
 fn begin_commit(world: &mut World, export: &'static str) {
     let given = world.any_store();
     let header = forge::db_header(&mut world.random, given.0.current_header);
-    let salt = world.random.next() as u32;
+    let salt = world.random.u32();
     let call = sys::lateenbael_begin_commit;
     let (answered, right) = over_areas!(world, call, [given.0], [header, salt]);
     world.end(export, answered.refusal, right, &Writes::default());
@@ -391,7 +385,7 @@ fn begin_commit(world: &mut World, export: &'static str) {
 
 fn begin_checkpoint(world: &mut World, export: &'static str) {
     let given = world.any_store();
-    let salt = world.random.next() as u32;
+    let salt = world.random.u32();
     let call = sys::lateenbael_begin_checkpoint;
     let (answered, right) = over_areas!(world, call, [given.0], [salt]);
     world.end(export, answered.refusal, right, &Writes::default());
@@ -434,20 +428,21 @@ fn next_step(world: &mut World, export: &'static str) {
     }
 }
 
-/// A commit adds at most 65 frames, and folds only if that makes 100.
+/// A commit adds at most 65 frames, and a checkpoint follows only if that makes
+/// 100.
 fn commit(world: &mut World, export: &'static str) {
     let given = world.any_store();
     let header = forge::db_header(&mut world.random, given.0.current_header);
-    let salt = world.random.next() as u32;
+    let salt = world.random.u32();
     let mut log = vec![frames(given.0.wal.len, 65)];
-    let folds = given.0.wal.frame_count > 34;
-    if folds {
+    let checkpoints = given.0.wal.frame_count > 34;
+    if checkpoints {
         log.push(LOG_HEADER);
     }
     let writes = Writes {
         table: true,
         log,
-        main: folds.then_some(0..MAIN_AREA),
+        main: checkpoints.then_some(0..MAIN_AREA),
         staging: false,
     };
     world.begin(export, &writes);
@@ -458,7 +453,7 @@ fn commit(world: &mut World, export: &'static str) {
 
 fn checkpoint(world: &mut World, export: &'static str) {
     let given = world.any_store();
-    let salt = world.random.next() as u32;
+    let salt = world.random.u32();
     let writes = Writes {
         table: true,
         log: vec![LOG_HEADER],

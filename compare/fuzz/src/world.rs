@@ -4,12 +4,13 @@
 use std::ops::Range;
 
 use lateenbael_sys as sys;
+use splitmix::Random;
 use sys::{Answered, Building, Store, Wal};
 
-use crate::area::{Area, Lent};
-use crate::closed::{CLOSED, NO_BUILDING, NO_WAL, meant};
+use crate::area::{Area, SliceArg};
+use crate::closed::{CLOSED, NO_BUILDING, NO_WAL, normalized};
+use crate::edges;
 use crate::forge;
-use crate::random::Random;
 use crate::tally::Tally;
 
 /// After so many calls, and at the end, the areas are compared whole: a byte
@@ -70,7 +71,7 @@ impl World {
         if self.random.percent(3) {
             let pages = self.random.pick(&[4, 40, sys::PAGES]);
             let at = self.random.below(pages);
-            let entry = self.random.number() as u32;
+            let entry = edges::number(&mut self.random) as u32;
             self.table.put(at, &[entry]);
         }
         let mut store = self.store;
@@ -116,7 +117,7 @@ impl World {
             self.tally
                 .fault(export, "a wrong length was not refused with 1");
         }
-        if !self.guards_hold() {
+        if !self.guards_intact() {
             self.tally.fault(export, "a byte outside was altered");
             std::process::exit(1);
         }
@@ -146,9 +147,9 @@ impl World {
         }
     }
 
-    fn guards_hold(&self) -> bool {
+    fn guards_intact(&self) -> bool {
         let bytes = [&self.log, &self.main, &self.staging, &self.body];
-        self.table.guards_hold() && bytes.iter().all(|area| area.guards_hold())
+        self.table.guards_intact() && bytes.iter().all(|area| area.guards_intact())
     }
 
     fn parts_hold(&self, writes: &Writes) -> bool {
@@ -177,7 +178,7 @@ impl World {
     pub fn take(&mut self, export: &str, given: (Store, bool), answered: &Answered) {
         let (store, forged) = given;
         if answered.refusal != 0 {
-            if answered.store != meant(store) {
+            if answered.store != normalized(store) {
                 self.tally.fault(export, "refused with another store");
             }
         } else if !forged || self.random.percent(30) {
@@ -195,8 +196,8 @@ impl World {
         }
     }
 
-    /// The same of a commit or fold in one call: it ends, whatever the store,
-    /// with nothing part done.
+    /// The same of a commit or checkpoint in one call: it ends, whatever the
+    /// store, with nothing part done.
     pub fn take_ended(&mut self, export: &str, given: (Store, bool), answered: &Answered) {
         if answered.refusal == 0 && answered.store.job.kind != 0 {
             self.tally.fault(export, "answered while part done");
@@ -206,7 +207,7 @@ impl World {
 
     /// What a call may only read, or was refused, is as it was.
     pub fn unaltered(&mut self, export: &str, slice: &Area<u8>) {
-        if !slice.guards_hold() || !slice.holds(&slice.all()) {
+        if !slice.guards_intact() || !slice.holds(&slice.all()) {
             self.tally
                 .fault(export, "a slice or what is around it was altered");
         }
@@ -226,7 +227,12 @@ fn is_outside(at: usize, len: usize, size: usize) -> bool {
 }
 
 /// All four areas, each with a length.
-pub type Four = (Lent<*mut u32>, Lent<*mut u8>, Lent<*mut u8>, Lent<*mut u8>);
+pub type Four = (
+    SliceArg<*mut u32>,
+    SliceArg<*mut u8>,
+    SliceArg<*mut u8>,
+    SliceArg<*mut u8>,
+);
 
 impl World {
     pub fn lend(&mut self) -> (Four, bool) {

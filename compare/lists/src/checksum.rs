@@ -6,16 +6,16 @@
 use std::collections::HashMap;
 
 use engine::sql::pager::page::PAGE_SIZE;
+use splitmix::Random;
 
 use crate::cases::Cases;
-use crate::frame::{self, Drawn, Heading};
+use crate::frame::{self, Heading, SeededFrame};
 use crate::list::List;
-use crate::random::Random;
 
 pub fn list() -> List {
     List {
         name: "checksum_replay",
-        longest: Drawn::LENGTH,
+        longest: SeededFrame::LENGTH,
         room: 120_000,
         cases: cases(),
         preamble: Vec::new(),
@@ -24,7 +24,7 @@ pub fn list() -> List {
 }
 
 fn answer(case: &[u8]) -> String {
-    let checksum = frame::number(&Drawn::from_bytes(case).stored(), Heading::LENGTH);
+    let checksum = frame::number(&SeededFrame::from_bytes(case).stored(), Heading::LENGTH);
     format!("{checksum:08x}")
 }
 
@@ -43,11 +43,11 @@ fn cases() -> Vec<Vec<u8>> {
 fn zero_bodies(cases: &mut Cases) {
     for (page, commit_count) in [(0, 0), (1, 0), (1, 2)] {
         let heading = Heading::new(page, commit_count, 0);
-        cases.add(Drawn::new(heading, 0, 0).to_bytes());
+        cases.add(SeededFrame::new(heading, 0, 0).to_bytes());
     }
     for at in 0..12 {
         for byte in [0x01, 0x80, 0xff] {
-            let mut case = Drawn::default().to_bytes();
+            let mut case = SeededFrame::default().to_bytes();
             case[at] = byte;
             cases.add(case);
         }
@@ -63,7 +63,7 @@ fn even_bodies(cases: &mut Cases) {
         Heading::new(u32::MAX, u32::MAX, u32::MAX),
     ] {
         for seed in [0, 1, 0x7f, 0x80, 0xa5, 0xfe, 0xff, 256, u32::MAX] {
-            cases.add(Drawn::new(heading, 0, seed).to_bytes());
+            cases.add(SeededFrame::new(heading, 0, seed).to_bytes());
         }
     }
 }
@@ -78,7 +78,7 @@ fn single_bytes(cases: &mut Cases) {
         for value in [1, 2, 0x80, 0xff, 0x155] {
             for salt in [0, 0x8000_0001] {
                 let seed = place + value * PAGE_SIZE as u32;
-                cases.add(Drawn::new(Heading::new(0, 0, salt), 4, seed).to_bytes());
+                cases.add(SeededFrame::new(Heading::new(0, 0, salt), 4, seed).to_bytes());
             }
         }
     }
@@ -89,7 +89,7 @@ fn texts(cases: &mut Cases) {
     for length in [0, 1, 2, 4_094, 4_095, 4_096] {
         for round in [1, 1_000] {
             let seed = round * (PAGE_SIZE as u32 + 1) + length;
-            cases.add(Drawn::new(Heading::new(1, 0, 0), 5, seed).to_bytes());
+            cases.add(SeededFrame::new(Heading::new(1, 0, 0), 5, seed).to_bytes());
         }
     }
 }
@@ -100,7 +100,7 @@ fn at_random(cases: &mut Cases) {
         let page = random.u32() >> random.below(32);
         let commit_count = [0, random.u32() >> random.below(32)][round % 2];
         let heading = Heading::new(page, commit_count, random.u32());
-        cases.add(Drawn::new(heading, (round % 6) as u8, random.u32()).to_bytes());
+        cases.add(SeededFrame::new(heading, (round % 6) as u8, random.u32()).to_bytes());
     }
 }
 
@@ -121,7 +121,7 @@ fn runs_of_ones(cases: &mut Cases) {
                 (2, random.u32()),
                 (3, random.u32()),
             ] {
-                cases.add(Drawn::new(heading, kind, seed).to_bytes());
+                cases.add(SeededFrame::new(heading, kind, seed).to_bytes());
             }
         }
     }
@@ -143,12 +143,12 @@ fn heading_of(sum: u32) -> Option<Heading> {
 /// Document 01's rule, in numbers without a width.
 #[cfg(test)]
 pub fn by_document(heading: &[u8], body: &[u8]) -> u64 {
-    carried(carried(0, heading), body)
+    sum_over(sum_over(0, heading), body)
 }
 
 /// The sum carried from a start over bytes, by the same rule.
 #[cfg(test)]
-pub fn carried(start: u64, bytes: &[u8]) -> u64 {
+pub fn sum_over(start: u64, bytes: &[u8]) -> u64 {
     bytes
         .iter()
         .fold(start, |sum, byte| step(sum, *byte) % (1 << 32))
@@ -164,7 +164,7 @@ fn step(sum: u64, byte: u8) -> u64 {
 /// can: blocks whose rotated sum and weight carry out of the 32 bits or do
 /// not, and among the first such with a step that wraps, and without.
 #[cfg(test)]
-pub fn assert_blocks_met(sums: &[(u64, Vec<u8>)]) {
+pub fn assert_blocks_reached(sums: &[(u64, Vec<u8>)]) {
     for size in [8, 16] {
         let blocks = sums
             .iter()
@@ -204,7 +204,7 @@ mod tests {
     #[test]
     fn the_document_says_the_same() {
         for case in cases() {
-            let body = Drawn::from_bytes(&case).body();
+            let body = SeededFrame::from_bytes(&case).body();
             let sum = by_document(&case[..Heading::LENGTH], &body);
             assert_eq!(answer(&case), format!("{sum:08x}"));
         }
@@ -214,7 +214,7 @@ mod tests {
     fn the_headings_have_their_sums() {
         for sum in [0, 1, 0x7f00, 0xff00, 0xffff, 0x7ffff, 0xfe000, 255 * 4_095] {
             let heading = heading_of(sum).unwrap();
-            assert_eq!(carried(0, &heading.to_bytes()), u64::from(sum));
+            assert_eq!(sum_over(0, &heading.to_bytes()), u64::from(sum));
         }
         assert!(heading_of(255 * 4_095 + 1).is_none());
     }
@@ -224,11 +224,11 @@ mod tests {
         let sums: Vec<_> = cases()
             .iter()
             .map(|case| {
-                let heading = carried(0, &case[..Heading::LENGTH]);
-                (heading, Drawn::from_bytes(case).body().to_vec())
+                let heading = sum_over(0, &case[..Heading::LENGTH]);
+                (heading, SeededFrame::from_bytes(case).body().to_vec())
             })
             .collect();
-        assert_blocks_met(&sums);
+        assert_blocks_reached(&sums);
     }
 
     #[test]

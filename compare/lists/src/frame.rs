@@ -36,14 +36,14 @@ impl Heading {
 
     /// `compute_checksum` is private to wal.rs, so the frame is really
     /// appended to a log with that salt, alone in an empty world (commit
-    /// count 0: not a seal), and read out of it.
+    /// count 0: no commit frame), and read out of it.
     pub fn stored(self, body: &[u8; PAGE_SIZE]) -> Vec<u8> {
         let path = Path::from("log");
         world::reset();
         world::queue_salt(self.salt);
-        let seal = (self.commit_count != 0).then_some(self.commit_count);
+        let commit_count = (self.commit_count != 0).then_some(self.commit_count);
         Wal::create(&path)
-            .and_then(|mut wal| wal.append_frame(self.page, body, seal))
+            .and_then(|mut wal| wal.append_frame(self.page, body, commit_count))
             .expect("the stand-in's files take every store");
         let log = world::read_file(&path).expect("the log was created");
         let frame = log[WAL_HEADER_SIZE..].to_vec();
@@ -56,13 +56,13 @@ impl Heading {
 /// A frame with a drawn body, in 17 bytes: page, commit count and salt (4
 /// each, little endian), the body's kind (1) and its seed (4).
 #[derive(Clone, Copy, Default)]
-pub struct Drawn {
+pub struct SeededFrame {
     pub heading: Heading,
     pub kind: u8,
     pub seed: u32,
 }
 
-impl Drawn {
+impl SeededFrame {
     pub const LENGTH: usize = Heading::LENGTH + 5;
 
     pub fn new(heading: Heading, kind: u8, seed: u32) -> Self {
@@ -121,7 +121,7 @@ mod tests {
 
     #[test]
     fn bodies() {
-        let body = |kind, seed| Drawn::new(Heading::default(), kind, seed).body();
+        let body = |kind, seed| SeededFrame::new(Heading::default(), kind, seed).body();
         // 1,013,904,223 is 3C6EF35F, and the next number 47502932.
         assert_eq!(body(1, 0)[..2], [0x3c, 0x47]);
         assert_eq!(body(3, 0)[..2], [0, 0]);

@@ -5,11 +5,11 @@
 //! prefix, cut to the length, and then the fill byte up to the length.
 
 use engine::sql::pager::header::{DbHeader, MAGIC, decode_header, encode_header};
+use splitmix::Random;
 
 use crate::cases::Cases;
 use crate::hex;
 use crate::list::List;
-use crate::random::Random;
 use crate::refusal;
 
 pub fn list() -> List {

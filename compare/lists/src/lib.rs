@@ -12,7 +12,6 @@ pub mod list;
 pub mod log;
 #[cfg(feature = "port")]
 pub mod port;
-pub mod random;
 pub mod refusal;
 mod sum;
 mod utf8;

@@ -4,11 +4,11 @@
 //! A case is a start and a part of a drawn body, in 13 bytes.
 
 use engine::sql::pager::page::PAGE_SIZE;
+use splitmix::Random;
 
 use crate::cases::Cases;
-use crate::frame::{self, Drawn, Heading};
+use crate::frame::{self, Heading, SeededFrame};
 use crate::list::List;
-use crate::random::Random;
 
 /// The longest part that every kind of body is cut to in turn.
 const LONGEST: u16 = 600;
@@ -60,7 +60,7 @@ impl Part {
     }
 
     fn bytes(self) -> Vec<u8> {
-        let body = Drawn::new(Heading::default(), self.kind, self.seed).body();
+        let body = SeededFrame::new(Heading::default(), self.kind, self.seed).body();
         let place = usize::from(self.place);
         body[place..place + usize::from(self.length)].to_vec()
     }
@@ -155,13 +155,13 @@ fn run(ones: u32, place: u32) -> u32 {
 #[cfg(test)]
 mod tests {
     use super::*;
-    use crate::checksum::{assert_blocks_met, carried};
+    use crate::checksum::{assert_blocks_reached, sum_over};
 
     #[test]
     fn the_document_says_the_same() {
         for case in cases() {
             let part = Part::from_bytes(&case);
-            let sum = carried(part.start.into(), &part.bytes());
+            let sum = sum_over(part.start.into(), &part.bytes());
             assert_eq!(answer(&case), format!("{sum:08x}"));
         }
     }
@@ -169,7 +169,7 @@ mod tests {
     #[test]
     fn leads() {
         for start in [0, 1, 0x1234_5678, 0xdead_beef, u32::MAX - 1, u32::MAX] {
-            assert_eq!(carried(0, &lead_to(start)), u64::from(start));
+            assert_eq!(sum_over(0, &lead_to(start)), u64::from(start));
         }
     }
 
@@ -197,6 +197,6 @@ mod tests {
             .map(|case| Part::from_bytes(case))
             .map(|part| (part.start.into(), part.bytes()))
             .collect();
-        assert_blocks_met(&sums);
+        assert_blocks_reached(&sums);
     }
 }

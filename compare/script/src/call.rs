@@ -20,7 +20,7 @@ pub enum Call {
     BatchRaw(Spec),
     Clock(u64),
     Commit(DbHeader),
-    Fold,
+    Checkpoint,
     Read(u32),
     Header,
     State,
@@ -78,7 +78,7 @@ fn of_words(words: &[&str]) -> Option<Call> {
         ["batch-raw", spec] => Call::BatchRaw(Spec::parse(spec)?),
         ["clock", value] => Call::Clock(value.parse().ok()?),
         ["commit", fields @ ..] => Call::Commit(spec::header(fields)?),
-        ["fold"] => Call::Fold,
+        ["fold"] => Call::Checkpoint,
         ["read", page] => Call::Read(page.parse().ok()?),
         ["header"] => Call::Header,
         ["state"] => Call::State,
@@ -103,7 +103,7 @@ fn edit(words: &[&str]) -> Option<Edit> {
         ["rm"] => Edit::Remove,
         [word, at, rest @ ..] => {
             let (act, area) = word.split_once('-')?;
-            let area = Area::named(area)?;
+            let area = Area::from_name(area)?;
             let at = at.parse().ok()?;
             match (act, rest) {
                 ("trunc", []) => Edit::Truncate(area, at),
@@ -148,7 +148,7 @@ impl Call {
             Self::BatchRaw(_) => "batch-raw",
             Self::Clock(_) => "clock",
             Self::Commit(_) => "commit",
-            Self::Fold => "fold",
+            Self::Checkpoint => "fold",
             Self::Read(_) => "read",
             Self::Header => "header",
             Self::State => "state",
@@ -249,7 +249,7 @@ mod tests {
     #[test]
     fn comments_and_mistakes() {
         assert_eq!(parse("  # nothing"), Ok(None));
-        assert_eq!(parse("fold # now"), Ok(Some(Call::Fold)));
+        assert_eq!(parse("fold # now"), Ok(Some(Call::Checkpoint)));
         for line in [
             "open",
             "fold 1",

@@ -1,4 +1,4 @@
-//! Edits of the files, beside every store. They are the same for both
+//! Edits of the files, beside every write of a side. They are the same for both
 //! sides.
 
 use crate::call::Edit;

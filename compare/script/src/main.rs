@@ -62,7 +62,7 @@ fn compare(seed: &str, count: &str) -> Result<(), String> {
             Ok(())
         }
         Err(difference) => {
-            print!("{}", difference.told());
+            print!("{}", difference.report());
             Err("a difference".to_string())
         }
     }

@@ -2,7 +2,7 @@
 
 use crate::call::Call;
 use crate::hash::{self, Fnv};
-use crate::side::{Act, Area, Cut, CutStore, Named, Recovered, Side};
+use crate::side::{Act, Area, Cut, CutWrite, Recovered, Side, Write};
 use crate::spec::fields;
 
 /// The pages that can be staged.
@@ -13,8 +13,8 @@ pub struct Outcome {
     pub result: String,
     /// Lines below the call.
     pub below: Vec<String>,
-    pub stores: Vec<Named>,
-    pub cut: Option<CutStore>,
+    pub writes: Vec<Write>,
+    pub cut: Option<CutWrite>,
 }
 
 impl Outcome {
@@ -89,22 +89,22 @@ impl<S: Side> Runner<S> {
 
     fn of_store(&mut self, call: &Call, cut: Option<Cut>) -> Outcome {
         match call {
-            Call::Create => self.stored(Act::Create, cut),
-            Call::Open(opening) => self.stored(Act::Open(*opening), cut),
-            Call::Batch(spec) => self.stored(Act::Batch(&spec.padded()), cut),
-            Call::BatchRaw(spec) => self.stored(Act::Batch(&spec.bytes()), cut),
-            Call::Commit(header) => self.stored(Act::Commit(*header), cut),
-            Call::Fold => self.stored(Act::Fold, cut),
+            Call::Create => self.performed(Act::Create, cut),
+            Call::Open(opening) => self.performed(Act::Open(*opening), cut),
+            Call::Batch(spec) => self.performed(Act::Batch(&spec.padded()), cut),
+            Call::BatchRaw(spec) => self.performed(Act::Batch(&spec.bytes()), cut),
+            Call::Commit(header) => self.performed(Act::Commit(*header), cut),
+            Call::Checkpoint => self.performed(Act::Checkpoint, cut),
             Call::Batches => batches(&self.side.recovered()),
             call => Outcome::new(self.in_memory(call)),
         }
     }
 
-    fn stored(&mut self, act: Act, cut: Option<Cut>) -> Outcome {
-        let stored = self.side.store(act, cut);
-        let result = match stored.answer {
+    fn performed(&mut self, act: Act, cut: Option<Cut>) -> Outcome {
+        let performed = self.side.perform(act, cut);
+        let result = match performed.answer {
             Err(refused) => refused.to_string(),
-            Ok(_) if stored.cut.is_some() => "cut".to_string(),
+            Ok(_) if performed.cut.is_some() => "cut".to_string(),
             Ok(answer) => match act {
                 Act::Create => "ok".to_string(),
                 Act::Open(_) => {
@@ -114,8 +114,8 @@ impl<S: Side> Runner<S> {
                         self.side.state()
                     )
                 }
-                Act::Batch(_) | Act::Fold => format!("ok {answer}"),
-                Act::Commit(_) if stored.stores.iter().any(Named::is_length) => {
+                Act::Batch(_) | Act::Checkpoint => format!("ok {answer}"),
+                Act::Commit(_) if performed.writes.iter().any(Write::is_length) => {
                     format!("ok {answer} folded")
                 }
                 Act::Commit(_) => format!("ok {answer} kept"),
@@ -124,12 +124,12 @@ impl<S: Side> Runner<S> {
         Outcome {
             result,
             below: Vec::new(),
-            stores: stored.stores,
-            cut: stored.cut,
+            writes: performed.writes,
+            cut: performed.cut,
         }
     }
 
-    /// A call that stores nothing.
+    /// A call that writes nothing.
     fn in_memory(&mut self, call: &Call) -> String {
         match call {
             Call::Stage(page, spec) => match self.side.stage(*page, &spec.padded()) {

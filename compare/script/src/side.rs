@@ -23,7 +23,7 @@ impl Area {
         }
     }
 
-    pub fn named(name: &str) -> Option<Self> {
+    pub fn from_name(name: &str) -> Option<Self> {
         [Self::Main, Self::Log]
             .into_iter()
             .find(|area| area.name() == name)
@@ -38,17 +38,17 @@ impl Area {
     }
 }
 
-/// A store as document 01 names it: `length` bytes from `first` on or, with
+/// A write (document 01's store): `length` bytes from `first` on or, with
 /// `length` 0, the new length `first`.
 #[derive(Debug, Clone, Copy, PartialEq, Eq)]
-pub struct Named {
+pub struct Write {
     pub area: Area,
     pub first: usize,
     pub length: usize,
     pub flush: bool,
 }
 
-impl Named {
+impl Write {
     pub fn is_length(&self) -> bool {
         self.length == 0
     }
@@ -58,7 +58,7 @@ impl Named {
     }
 }
 
-impl Display for Named {
+impl Display for Write {
     fn fmt(&self, f: &mut Formatter<'_>) -> fmt::Result {
         let flush = if self.flush { "flush" } else { "-" };
         let (kind, area) = (self.kind(), self.area.name());
@@ -66,24 +66,24 @@ impl Display for Named {
     }
 }
 
-/// The store that a cut fell on (no flush followed), and how much of it was
+/// The write that a cut fell on (no flush followed), and how much of it was
 /// stored; of a length 1 (new) or 0 (old).
 #[derive(Debug, Clone, Copy, PartialEq, Eq)]
-pub struct CutStore {
-    pub store: Named,
+pub struct CutWrite {
+    pub write: Write,
     pub bytes: usize,
     /// The file's length afterwards.
     pub file: usize,
 }
 
-impl Display for CutStore {
+impl Display for CutWrite {
     fn fmt(&self, f: &mut Formatter<'_>) -> fmt::Result {
-        let Self { store, bytes, file } = self;
-        let (kind, area) = (store.kind(), store.area.name());
+        let Self { write, bytes, file } = self;
+        let (kind, area) = (write.kind(), write.area.name());
         write!(
             f,
             "cut {kind} {area} {} bytes {bytes} file {file}",
-            store.first
+            write.first
         )
     }
 }
@@ -113,23 +113,23 @@ impl Display for Refused {
 
 pub type Answer<T> = Result<T, Refused>;
 
-/// A call that may store.
+/// A call that may write to the files.
 #[derive(Debug, Clone, Copy)]
 pub enum Act<'a> {
     Create,
     Open(Opening),
     Batch(&'a [u8]),
     Commit(DbHeader),
-    Fold,
+    Checkpoint,
 }
 
-/// Its answer (a batch's records, a commit's or fold's pages, else 0) and
-/// its stores: of one that was cut, the whole ones before.
+/// Its answer (a batch's records, a commit's or checkpoint's pages, else 0) and
+/// its writes: of one that was cut, the whole ones before.
 #[derive(Debug)]
-pub struct Stored {
+pub struct Performed {
     pub answer: Answer<usize>,
-    pub stores: Vec<Named>,
-    pub cut: Option<CutStore>,
+    pub writes: Vec<Write>,
+    pub cut: Option<CutWrite>,
 }
 
 /// The numbers of an open store.
@@ -183,7 +183,7 @@ pub trait Side {
     fn close(&mut self);
     /// Creation and openings find no store open. Once an act has been cut,
     /// nothing is asked of the store but to be closed.
-    fn store(&mut self, act: Act, cut: Option<Cut>) -> Stored;
+    fn perform(&mut self, act: Act, cut: Option<Cut>) -> Performed;
 
     fn stage(&mut self, page: u32, bytes: &[u8]) -> Answer<()>;
     fn clear(&mut self);

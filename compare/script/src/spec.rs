@@ -5,7 +5,7 @@ use std::fmt::{self, Display, Formatter};
 use engine::sql::pager::header::{DbHeader, encode_header};
 use engine::sql::pager::page::PAGE_SIZE;
 use lists::hex;
-use stand_in::world::mix;
+use splitmix::mix;
 
 #[derive(Debug, Clone, PartialEq, Eq)]
 pub enum Spec {

@@ -10,10 +10,10 @@ use crate::run::{Outcome, Runner};
 use crate::side::{Area, Side};
 
 /// The longest that a call is shown.
-const LONGEST: usize = 100;
+const LONGEST_CALL: usize = 100;
 
 /// All lines of a list. A line that is no call ends it.
-pub fn lines<S: Side>(list: &str, runner: &mut Runner<S>, stores: bool) -> Result<String, String> {
+pub fn lines<S: Side>(list: &str, runner: &mut Runner<S>, writes: bool) -> Result<String, String> {
     runner.reset();
     let mut lines = String::new();
     for (index, line) in list.lines().enumerate() {
@@ -22,15 +22,15 @@ pub fn lines<S: Side>(list: &str, runner: &mut Runner<S>, stores: bool) -> Resul
         let outcome = runner.call(&call);
         let shown = shown(line.split('#').next().unwrap_or_default().trim());
         let line = format!("{shown} => {} | {}", outcome.result, runner.files());
-        add(&mut lines, &line, &outcome, stores);
+        add(&mut lines, &line, &outcome, writes);
     }
     Ok(lines)
 }
 
-fn add(lines: &mut String, line: &str, outcome: &Outcome, stores: bool) {
+fn add(lines: &mut String, line: &str, outcome: &Outcome, writes: bool) {
     let mut below = outcome.below.clone();
-    if stores {
-        below.extend(outcome.stores.iter().map(ToString::to_string));
+    if writes {
+        below.extend(outcome.writes.iter().map(ToString::to_string));
         below.extend(outcome.cut.iter().map(ToString::to_string));
     }
     writeln!(lines, "{line}").expect("a string takes all");
@@ -41,10 +41,10 @@ fn add(lines: &mut String, line: &str, outcome: &Outcome, stores: bool) {
 
 fn shown(call: &str) -> String {
     match call.chars().count() {
-        0..=LONGEST => call.to_string(),
+        0..=LONGEST_CALL => call.to_string(),
         _ => call
             .chars()
-            .take(LONGEST - 3)
+            .take(LONGEST_CALL - 3)
             .chain("...".chars())
             .collect(),
     }

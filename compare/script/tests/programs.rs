@@ -1,6 +1,6 @@
 //! The proved programs as they are called: a standard input that can't be read
-//! is told from one that ends, a listing that can't be written is told too, and
-//! `batchlist` prints a body as the Rust has it.
+//! is told from one that ends, a listing that can't be written is reported too,
+//! and `batchlist` prints a body as the Rust has it.
 
 use std::fs::File;
 use std::io::Write;
@@ -27,14 +27,14 @@ fn path(name: &str) -> String {
 }
 
 /// What a program writes to standard output and to standard error.
-fn said(output: &Output) -> (&str, &str) {
+fn printed(output: &Output) -> (&str, &str) {
     let text = |bytes| str::from_utf8(bytes).expect("text");
     (text(&output.stdout), text(&output.stderr))
 }
 
 fn assert_not_read(name: &str, output: &Output) {
     let line = format!("{name}: reading standard input failed\n");
-    assert_eq!(said(output), ("", line.as_str()));
+    assert_eq!(printed(output), ("", line.as_str()));
 }
 
 #[test]
@@ -63,7 +63,7 @@ fn a_closed_input_is_not_read() {
 }
 
 #[test]
-fn a_listing_that_cant_be_written_is_told() {
+fn a_listing_that_cant_be_written_is_reported() {
     let full = File::options()
         .write(true)
         .open("/dev/full")
@@ -74,7 +74,7 @@ fn a_listing_that_cant_be_written_is_told() {
         .output()
         .expect("the program");
     let line = "loglist: writing standard output failed\n";
-    assert_eq!(said(&output), ("", line));
+    assert_eq!(printed(&output), ("", line));
 }
 
 #[test]
@@ -84,7 +84,7 @@ fn an_empty_input_has_ended() {
             .stdin(Stdio::null())
             .output()
             .expect("the program");
-        assert_eq!(said(&output), ("refused 2\n", ""), "{name}");
+        assert_eq!(printed(&output), ("refused 2\n", ""), "{name}");
     }
 }
 

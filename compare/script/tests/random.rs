@@ -50,6 +50,6 @@ fn no_difference() {
                 assert!(tally.of(name) > 0, "not reached: {name}\n{tally}");
             }
         }
-        Err(difference) => panic!("{}", difference.told()),
+        Err(difference) => panic!("{}", difference.report()),
     }
 }

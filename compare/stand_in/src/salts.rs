@@ -2,6 +2,8 @@
 
 use std::collections::VecDeque;
 
+use splitmix::mix;
+
 /// Queued salts come first, in order. The n-th draw of all (n from 1) that
 /// finds the queue empty is the low half of `mix(n)`: no call needs a salt,
 /// yet every run is the same.
@@ -30,15 +32,6 @@ impl Salts {
         self.draws += 1;
         salt
     }
-}
-
-/// SplitMix64's finishing steps: spreads near numbers far apart.
-pub fn mix(mut z: u64) -> u64 {
-    z ^= z >> 30;
-    z = z.wrapping_mul(0xbf58_476d_1ce4_e5b9);
-    z ^= z >> 27;
-    z = z.wrapping_mul(0x94d0_49bb_1331_11eb);
-    z ^ (z >> 31)
 }
 
 #[cfg(test)]

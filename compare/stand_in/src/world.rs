@@ -5,8 +5,9 @@ use std::cell::RefCell;
 use crate::disk::Disk;
 use crate::path::Path;
 
-pub use crate::salts::{Salts, mix};
+pub use crate::salts::Salts;
 pub use crate::stores::{Cut, CutStore, Store};
+pub use splitmix::mix;
 
 #[derive(Default)]
 struct World {

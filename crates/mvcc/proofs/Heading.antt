@@ -12,12 +12,14 @@ use Rattle.le.specs.Le.{wholeField, field}
 use Rattle.le.proofs.Fields.{field-whole}
 use Rattle.le.proofs.Compare.{no-test}
 use Rattle.refusal.specs.Refusal.{unless, first, accepts, numberOf, answered}
+use Rattle.refusal.proofs.Judged.{row-back}
 use Rattle.refusal.specs.declared.Refusal.{Refusal}
 use Rattle.refusal.specs.declared.Refusal.the-variants.{Short, Magic}
 use Rattle.mvcc.specs.Decode.{magic, batchOf}
 use Rattle.mvcc.specs.Seen.{headingRefusal, headingJudged, refusalIn, decodeRefusal, refusalOf, decodes}
 use Rattle.mvcc.specs.declared.BatchDecoded.{BatchDecoded}
 use Rattle.mvcc.specs.declared.BatchDecoded.the-variants as batch
+use Rattle.mvcc.specs.declared.HeadingJudged.{HeadingJudged}
 use Rattle.mvcc.specs.declared.HeadingJudged.the-variants as heading
 
 -- ---- the heading by its tests
@@ -34,6 +36,14 @@ module _ (s : List ℕ) where
   pub heading-fine : 18 ≤ length s → wholeField 8 0 s ≡ magic → heading.Fine ≡ headingJudged s
   unfolding headingRefusal
   heading-fine h m = rw (le-leb 18 (length s) h, eq-eqb (field 8 0 s) magic (sym (field-whole 8 0 s (omega arith)) ∙ m))
+
+-- the judgement that an answer tells
+abbrev pub headingRow : HeadingJudged → Option Refusal
+headingRow heading.Fine = none
+headingRow (heading.Refused r) = some r
+
+pub heading-told : (s : List ℕ) {x y : HeadingJudged} → x ≡ headingJudged s → x ≡ y → headingRefusal s ≡ headingRow y
+heading-told s e f = sym (ap headingRow (sym f ∙ e) ∙ row-back heading.Refused heading.Fine headingRow refl (λ r. refl) (headingRefusal s))
 
 -- ---- decoding refuses it first
 

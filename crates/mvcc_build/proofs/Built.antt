@@ -3,7 +3,7 @@
 use mathlib.Core.Path.{_≡_, refl, sym, ap, _∙_}
 use mathlib.Core.Bool.{Bool, true, false}
 use mathlib.Core.List.{List, [], _∷_, _++_}
-use Prim.Native.Nat.{ℕ, _+_, _-_, _*_, _^_, _≤_, _<_}
+use Prim.Native.Nat.{ℕ, _+_, _*_, _^_, _≤_, _<_}
 use native.Mathlib.Nat.{suc-mul}
 use native.Mathlib.Omega.{arith}
 use borrow.Author.Tests.{leb-true, eq-eqb, ne-eqb}
@@ -19,13 +19,14 @@ use Rattle.mvcc.specs.Batch.{Val, null, integer, real, text, bool, vector, Col,
 use Rattle.mvcc.specs.Seen.{decodes, commitTs, records}
 use Rattle.mvcc.proofs.Trip.{length-encodeText, length-words}
 use Rattle.mvcc.proofs.Canonical.{body-length, body-decodes, body-commitTs, body-records}
-use Rattle.mvcc_build.specs.Build.{addedNumber, started, startedBytes, judged, laid, recordIn, recordCount, tableOf, recordAdded, recordBytes, columnIn, columnTold, recounted, columnCount, texted, columnAdded, columnBytes}
+use Rattle.mvcc_build.specs.Build.{started, startedBytes, judged, laid, recordIn, recordCount, tableOf, recordAdded, recordBytes, columnIn, columnTold, recounted, columnCount, texted, columnAdded, columnBytes}
 use Rattle.mvcc_build.specs.Built.{lastFrom, builderOf, Built, endsPresent, withIn, withColumn, Held, HeldValue}
 use Rattle.mvcc_build.specs.declared.Last.{Last}
 use Rattle.mvcc_build.specs.declared.Last.the-variants.{Closed, Open}
 use Rattle.mvcc_build.specs.declared.BatchBuilder.{BatchBuilder}
 use Rattle.mvcc_build.specs.declared.Added.{Added}
-use Rattle.mvcc_build.specs.declared.Added.the-variants.{Done, Area, Truncated, Text, Fit, NoRecord}
+use Rattle.refusal.specs.declared.Refusal.the-variants.{Text, Fit, NoRecord}
+use Rattle.mvcc_build.specs.declared.Added.the-variants.{Done, Refused}
 use Rattle.mvcc_build.proofs.Grow.{never, length-snoc, batch-size, record-size, record-grown, last-snoc, length-with, column-size, column-grown, last-with, ends-open, ends-closed}
 
 -- ---- sizes: in 4,096 bytes no count passes its two bytes
@@ -136,25 +137,15 @@ start-built t body h k = record {
 
 -- ---- additions
 
-done-is : (w f : Bool) {x y : BatchBuilder} → pick w (pick f (Done x) Fit) Text ≡ Done y → ((w ≡ true) × (f ≡ true)) × (x ≡ y)
+done-is : (w f : Bool) {x y : BatchBuilder} → pick w (pick f (Done x) (Refused Fit)) (Refused Text) ≡ Done y → ((w ≡ true) × (f ≡ true)) × (x ≡ y)
 done-is true true e = ((refl, refl), cc)
 done-is true false e = let z : _≡_ {A = ℕ} 0 1 = cc in absurd (omega arith)
 done-is false f e = let z : _≡_ {A = ℕ} 0 1 = cc in absurd (omega arith)
 
-never-done : {A : Type 0} (w f : Bool) {y : BatchBuilder} → pick w (pick f NoRecord Fit) Text ≡ Done y → A
+never-done : {A : Type 0} (w f : Bool) {y : BatchBuilder} → pick w (pick f (Refused NoRecord) (Refused Fit)) (Refused Text) ≡ Done y → A
 never-done true true e = let z : _≡_ {A = ℕ} 0 1 = cc in absurd (omega arith)
 never-done true false e = let z : _≡_ {A = ℕ} 0 1 = cc in absurd (omega arith)
 never-done false f e = let z : _≡_ {A = ℕ} 0 1 = cc in absurd (omega arith)
-
--- a refused addition leaves the body as it was
-pub refused-keeps : (count : BatchBuilder → List ℕ → List ℕ) (b : BatchBuilder) (body bs : List ℕ) (x : Added) → (addedNumber x ≡ 0 → ⊥) → laid count b body bs x ≡ body
-unfolding laid
-refused-keeps count b body bs (Done next) h = absurd (h refl)
-refused-keeps count b body bs Area h = refl
-refused-keeps count b body bs Truncated h = refl
-refused-keeps count b body bs Text h = refl
-refused-keeps count b body bs Fit h = refl
-refused-keeps count b body bs NoRecord h = refl
 
 module _ {t : ℕ} {rs : List Rec} {b : BatchBuilder} {body : List ℕ} (h : Built t rs b body) where
   pub full : length body ≡ 4096
@@ -162,7 +153,7 @@ module _ {t : ℕ} {rs : List Rec} {b : BatchBuilder} {body : List ℕ} (h : Bui
 
   -- a record is refused where its table is not UTF-8 (19), or where the batch with it would pass 4,096 bytes (20)
   pub record-answer : (r : Rec) → recordAdded b body r
-      ≡ pick (wellFormed (tableOf r)) (pick (leb (length (encodeBatch t (rs ++ (r ∷ [])))) 4096) (Done (builderOf t (rs ++ (r ∷ [])))) Fit) Text
+      ≡ pick (wellFormed (tableOf r)) (pick (leb (length (encodeBatch t (rs ++ (r ∷ [])))) 4096) (Done (builderOf t (rs ++ (r ∷ [])))) (Refused Fit)) (Refused Text)
   unfolding recordAdded judged recordIn builderOf
   record-answer r =
       let n : length rs ≡ 0xffff → ⊥ = λ e. omega (arith, records-few t rs (h .fits)) in
@@ -192,7 +183,7 @@ module _ {t : ℕ} {rs : List Rec} {b : BatchBuilder} {body : List ℕ} (h : Bui
   columnSays c =
       pick (both (texted (c .val)) (wellFormed (c .name)))
       (pick (leb (length (encodeBatch t rs) + length (encodeColumn c)) 4096)
-      (pick (endsPresent rs) (Done (builderOf t (withColumn rs c))) NoRecord) Fit) Text
+      (pick (endsPresent rs) (Done (builderOf t (withColumn rs c))) (Refused NoRecord)) (Refused Fit)) (Refused Text)
 
   column-cases : (c : Col) (l : Last) → lastFrom 18 rs ≡ l → columnAdded b body c ≡ columnSays c
   unfolding columnAdded columnTold judged columnIn builderOf
@@ -204,7 +195,7 @@ module _ {t : ℕ} {rs : List Rec} {b : BatchBuilder} {body : List ℕ} (h : Bui
   pub column-answer : (c : Col) → columnAdded b body c
       ≡ pick (both (texted (c .val)) (wellFormed (c .name)))
       (pick (leb (length (encodeBatch t rs) + length (encodeColumn c)) 4096)
-      (pick (endsPresent rs) (Done (builderOf t (withColumn rs c))) NoRecord) Fit) Text
+      (pick (endsPresent rs) (Done (builderOf t (withColumn rs c))) (Refused NoRecord)) (Refused Fit)) (Refused Text)
   column-answer c = column-cases c (lastFrom 18 rs) refl
 
   column-built-in : (c : Col) {b' : BatchBuilder} (l : Last) → lastFrom 18 rs ≡ l → HeldValue (c .val) → columnAdded b body c ≡ Done b'

@@ -30,7 +30,8 @@ use Rattle.mvcc_build.specs.declared.Last.{Last}
 use Rattle.mvcc_build.specs.declared.Last.the-variants.{Closed, Open}
 use Rattle.mvcc_build.specs.declared.BatchBuilder.{BatchBuilder}
 use Rattle.mvcc_build.specs.declared.Added.{Added}
-use Rattle.mvcc_build.specs.declared.Added.the-variants.{Done, Area, Truncated, Text, Fit, NoRecord}
+use Rattle.refusal.specs.declared.Refusal.the-variants.{Area, Truncated, Text, Fit, NoRecord}
+use Rattle.mvcc_build.specs.declared.Added.the-variants.{Done, Refused}
 
 -- ---- tests
 
@@ -174,11 +175,11 @@ module _ (l : List ℕ) (at : ℕ) (full : length l ≡ 4096) where
 -- ---- what an addition answers
 
 module _ (b : BatchBuilder) (body : List ℕ) (texts : Bool) (bs : List ℕ) (more : Added) where
-  pub judged-area : (length body ≡ 4096 → ⊥) → Area ≡ judged b body texts bs more
+  pub judged-area : (length body ≡ 4096 → ⊥) → Refused Area ≡ judged b body texts bs more
   unfolding judged
   judged-area h = rw (ne-eqb _ _ h)
 
-  pub judged-fit : length body ≡ 4096 → texts ≡ true → leb (b .at + length bs) 4096 ≡ false → Fit ≡ judged b body texts bs more
+  pub judged-fit : length body ≡ 4096 → texts ≡ true → leb (b .at + length bs) 4096 ≡ false → Refused Fit ≡ judged b body texts bs more
   unfolding judged
   judged-fit h t f = rw (eq-eqb _ _ h, t, f)
 
@@ -192,23 +193,23 @@ module _ (count : BatchBuilder → List ℕ → List ℕ) (b : BatchBuilder) (bo
   abbrev Says : Added → List ℕ → Type 0
   Says r l = (r ≡ judged b body texts bs more) × (l ≡ laid count b body bs r)
 
-  pub way-area : (length body ≡ 4096 → ⊥) → Says Area body
+  pub way-area : (length body ≡ 4096 → ⊥) → Says (Refused Area) body
   unfolding laid
   way-area h = (judged-area b body texts bs more h, refl)
 
-  kept-so : (t : Bool) → body ≡ laid count b body bs (pick t Text Area)
+  kept-so : (t : Bool) → body ≡ laid count b body bs (pick t (Refused Text) (Refused Area))
   unfolding laid
   kept-so true = refl
   kept-so false = refl
 
   -- a text is not UTF-8; the body's length comes first
-  pub way-text : {r : Added} → texts ≡ false → r ≡ pick (eqb (length body) 4096) Text Area → Says r body
+  pub way-text : {r : Added} → texts ≡ false → r ≡ pick (eqb (length body) 4096) (Refused Text) (Refused Area) → Says r body
   unfolding judged
   way-text f e = (rw (e, f), rw e (kept-so (eqb (length body) 4096)))
 
   module _ (full : length body ≡ 4096) where
     module _ (f : texts ≡ true) {n : ℕ} (m : length bs ≡ n) {r : Bool} (g : r ≡ leb (b .at + n) 4096) where
-      pub way-fit : r ≡ false → Says Fit body
+      pub way-fit : r ≡ false → Says (Refused Fit) body
       unfolding laid
       way-fit h = (judged-fit b body texts bs more full f (rw m (sym g ∙ h)), refl)
 
@@ -228,21 +229,21 @@ module _ (b : BatchBuilder) (body : List ℕ) (texts : Bool) (op : ℕ) (t : Lis
   size : length H ≡ 11 + z + length t + 0
   size = rw length-head (omega arith)
 
-  pub head-area : (length body ≡ 4096 → ⊥) → Heads Area body
+  pub head-area : (length body ≡ 4096 → ⊥) → Heads (Refused Area) body
   unfolding headTold
   head-area h = way-area recordCount b body texts H (recordIn b (length H) end) h
 
-  pub head-text : {r : Added} → texts ≡ false → r ≡ pick (eqb (length body) 4096) Text Area → Heads r body
+  pub head-text : {r : Added} → texts ≡ false → r ≡ pick (eqb (length body) 4096) (Refused Text) (Refused Area) → Heads r body
   unfolding headTold
   head-text f e = way-text recordCount b body texts H (recordIn b (length H) end) f e
 
   module _ (full : length body ≡ 4096) where
     module _ (f : texts ≡ true) {r : Bool} (g : r ≡ leb (b .at + (11 + z + length t + 0)) 4096) where
-      pub head-fit : r ≡ false → Heads Fit body
+      pub head-fit : r ≡ false → Heads (Refused Fit) body
       unfolding headTold
       head-fit h = way-fit recordCount b body texts H (recordIn b (length H) end) full f size g h
 
-      pub head-many : r ≡ true → b .records ≡ 0xffff → Heads Fit body
+      pub head-many : r ≡ true → b .records ≡ 0xffff → Heads (Refused Fit) body
       unfolding headTold recordIn laid
       head-many h k = way-more recordCount b body texts H (recordIn b (length H) end) full f size g h (rw (eq-eqb _ _ k)) refl
 
@@ -262,11 +263,11 @@ module _ (b : BatchBuilder) (body : List ℕ) (texts : Bool) (t : List ℕ) (tag
   abbrev Cols : Added → List ℕ → Type 0
   Cols r l = (r ≡ columnTold b body texts C) × (l ≡ laid columnCount b body C r)
 
-  pub col-area : (length body ≡ 4096 → ⊥) → Cols Area body
+  pub col-area : (length body ≡ 4096 → ⊥) → Cols (Refused Area) body
   unfolding columnTold
   col-area h = way-area columnCount b body texts C (columnIn b (length C) (b .last)) h
 
-  pub col-text : {r : Added} → texts ≡ false → r ≡ pick (eqb (length body) 4096) Text Area → Cols r body
+  pub col-text : {r : Added} → texts ≡ false → r ≡ pick (eqb (length body) 4096) (Refused Text) (Refused Area) → Cols r body
   unfolding columnTold
   col-text f e = way-text columnCount b body texts C (columnIn b (length C) (b .last)) f e
 
@@ -275,16 +276,16 @@ module _ (b : BatchBuilder) (body : List ℕ) (texts : Bool) (t : List ℕ) (tag
       sized : length C ≡ 3 + k + length t + length bs
       sized = length-tagged t tag k v bs
 
-      pub col-fit : r ≡ false → Cols Fit body
+      pub col-fit : r ≡ false → Cols (Refused Fit) body
       unfolding columnTold
       col-fit h = way-fit columnCount b body texts C (columnIn b (length C) (b .last)) full f sized g h
 
-      pub col-none : r ≡ true → b .last ≡ Closed → Cols NoRecord body
+      pub col-none : r ≡ true → b .last ≡ Closed → Cols (Refused NoRecord) body
       unfolding columnTold columnIn laid
       col-none h o = way-more columnCount b body texts C (columnIn b (length C) (b .last)) full f sized g h (rw o) refl
 
       module _ (h : r ≡ true) {counted columns : ℕ} (o : b .last ≡ Open counted columns) where
-        pub col-many : columns ≡ 0xffff → Cols Fit body
+        pub col-many : columns ≡ 0xffff → Cols (Refused Fit) body
         unfolding columnTold columnIn laid
         col-many i = way-more columnCount b body texts C (columnIn b (length C) (b .last)) full f sized g h (rw (o, eq-eqb _ _ i)) refl
 
@@ -374,11 +375,11 @@ vector-bytes bs b h =
     rw (words-length bs b (length bs / 4) 0, words-bytes bs b (length bs / 4) 0 (omega arith), e, take-length)
 
 module _ (b : BatchBuilder) (body n bs : List ℕ) where
-  pub vector-area : (length body ≡ 4096 → ⊥) → (Area ≡ vectorAdded b body n bs) × (body ≡ vectorBytes b body n bs)
+  pub vector-area : (length body ≡ 4096 → ⊥) → (Refused Area ≡ vectorAdded b body n bs) × (body ≡ vectorBytes b body n bs)
   unfolding vectorAdded vectorBytes laid
   vector-area h = (rw (ne-eqb _ _ h), rw (ne-eqb _ _ h))
 
-  pub vector-cut : length body ≡ 4096 → (length bs % 4 ≡ 0 → ⊥) → (Truncated ≡ vectorAdded b body n bs) × (body ≡ vectorBytes b body n bs)
+  pub vector-cut : length body ≡ 4096 → (length bs % 4 ≡ 0 → ⊥) → (Refused Truncated ≡ vectorAdded b body n bs) × (body ≡ vectorBytes b body n bs)
   unfolding vectorAdded vectorBytes laid
   vector-cut h k = (rw (eq-eqb _ _ h, ne-eqb _ _ k), rw (eq-eqb _ _ h, ne-eqb _ _ k))
 
@@ -402,7 +403,7 @@ zeros-split : (n m : ℕ) → replicate {A = ℕ} (n + m) 0 ≡ replicate n 0 ++
 zeros-split n m = sym (replicate-append-replicate {A = ℕ} n m 0)
 
 module _ (l : List ℕ) (t : ℕ) where
-  pub start-area : (length l ≡ 4096 → ⊥) → (Area ≡ started l) × (l ≡ startedBytes t l)
+  pub start-area : (length l ≡ 4096 → ⊥) → (Refused Area ≡ started l) × (l ≡ startedBytes t l)
   unfolding started startedBytes
   start-area h = (rw (ne-eqb _ _ h), rw (ne-eqb _ _ h))
 

@@ -3,42 +3,34 @@ use mathlib.Core.Path.{_≡_, refl}
 use mathlib.Core.Bool.{Bool, true, false}
 use mathlib.Core.List.{List, [], _∷_, _++_}
 use Prim.Native.Nat.{ℕ, _+_, _/_, _%_, _^_, _<_}
-use native.Mathlib.Omega.{arith}
 use borrow.Author.Tests.{eq-eqb}
 use lib.Dec.{leb, eqb}
 use lib.ListN.{length}
 use Rattle.le.specs.Choice.{both}
 use Rattle.le.specs.Le.{Bytes}
 use Rattle.text.specs.Utf8.{wellFormed}
-use Rattle.mvcc.specs.Batch.{vector, Col, Rec, encodeColumn, encodeRecord, encodeBatch, encodeBody, Each}
+use Rattle.mvcc.specs.Batch.{vector, Col, Rec, encodeColumn, encodeBatch, encodeBody, Each}
 use Rattle.mvcc.proofs.Sound.{words-small}
 use Rattle.mvcc_build.specs.declared.BatchBuilder.{BatchBuilder}
-use Rattle.mvcc_build.specs.declared.Added.{Added}
-use Rattle.mvcc_build.specs.declared.Added.the-variants.{Done, Area, Truncated, Text, Fit, NoRecord}
-use Rattle.mvcc_build.specs.Build.{addedNumber, startedBytes, laid, recordCount, columnCount, tableOf, recordAdded, recordBytes, column, texted, columnAdded, columnBytes, elements, vectorAdded, vectorBytes}
+use Rattle.refusal.specs.declared.Refusal.{Refusal}
+use Rattle.refusal.specs.declared.Refusal.the-variants.{Text, Fit, NoRecord}
+use Rattle.mvcc_build.specs.declared.Added.the-variants.{Done, Refused}
+use Rattle.mvcc_build.specs.Build.{startedBytes, laid, tableOf, recordAdded, recordBytes, column, texted, columnAdded, columnBytes, elements, vectorAdded, vectorBytes}
 use Rattle.mvcc_build.specs.Built.{builderOf, Built, endsPresent, withColumn, Held, HeldValue}
-use Rattle.mvcc_build.specs.Run.{Call, record-call, column-call, vector-call, HeldCall, onward, nextBuilder, nextBody, columnRecords, nextRecords, runBuilder, runBody, runRecords}
-use Rattle.mvcc_build.proofs.Built.{full, start-built, refused-keeps, record-answer, record-built, column-answer, column-built}
-
-onward-refused : (x : Added) (b : BatchBuilder) → (addedNumber x ≡ 0 → ⊥) → onward x b ≡ b
-onward-refused (Done next) b h = absurd (h refl)
-onward-refused Area b h = refl
-onward-refused Truncated b h = refl
-onward-refused Text b h = refl
-onward-refused Fit b h = refl
-onward-refused NoRecord b h = refl
+use Rattle.mvcc_build.specs.Run.{Call, record-call, column-call, vector-call, HeldCall, nextBuilder, nextBody, columnRecords, nextRecords, runBuilder, runBody, runRecords}
+use Rattle.mvcc_build.proofs.Built.{full, start-built, record-answer, record-built, column-answer, column-built}
 
 module _ {t : ℕ} {rs : List Rec} {b : BatchBuilder} {body : List ℕ} (h : Built t rs b body) where
   -- a refused call leaves all as it was
-  refused-record : (r : Rec) (x : Added) → recordAdded b body r ≡ x → (addedNumber x ≡ 0 → ⊥)
+  refused-record : (r : Rec) (k : Refusal) → recordAdded b body r ≡ Refused k
       → Built t rs (nextBuilder (record-call r) b body) (nextBody (record-call r) b body)
-  unfolding nextBuilder nextBody recordBytes
-  refused-record r x e n = rw (e, onward-refused x b n, refused-keeps recordCount b body (encodeRecord r) x n) h
+  unfolding nextBuilder nextBody recordBytes laid
+  refused-record r k e = rw e h
 
-  refused-column : (c : Col) (x : Added) → columnAdded b body c ≡ x → (addedNumber x ≡ 0 → ⊥)
+  refused-column : (c : Col) (k : Refusal) → columnAdded b body c ≡ Refused k
       → Built t rs (nextBuilder (column-call c) b body) (nextBody (column-call c) b body)
-  unfolding nextBuilder nextBody columnBytes
-  refused-column c x e n = rw (e, onward-refused x b n, refused-keeps columnCount b body (encodeColumn c) x n) h
+  unfolding nextBuilder nextBody columnBytes laid
+  refused-column c k e = rw e h
 
   taken-record : (r : Rec) (b2 : BatchBuilder) → Held r → recordAdded b body r ≡ Done b2
       → Built t (rs ++ (r ∷ [])) (nextBuilder (record-call r) b body) (nextBody (record-call r) b body)
@@ -54,17 +46,17 @@ module _ {t : ℕ} {rs : List Rec} {b : BatchBuilder} {body : List ℕ} (h : Bui
       → Built t (nextRecords t (record-call r) rs) (nextBuilder (record-call r) b body) (nextBody (record-call r) b body)
   unfolding nextRecords
   record-in r k true true w f = rw (w, f) (taken-record r (builderOf t (rs ++ (r ∷ []))) k (rw (w, f) at (record-answer h r)))
-  record-in r k true false w f = rw (w, f) (refused-record r Fit (rw (w, f) at (record-answer h r)) (λ z. omega arith))
-  record-in r k false f w g = rw w (refused-record r Text (rw w at (record-answer h r)) (λ z. omega arith))
+  record-in r k true false w f = rw (w, f) (refused-record r Fit (rw (w, f) at (record-answer h r)))
+  record-in r k false f w g = rw w (refused-record r Text (rw w at (record-answer h r)))
 
   column-in : (c : Col) → HeldValue (c .val) → (w f p : Bool) → both (texted (c .val)) (wellFormed (c .name)) ≡ w
       → leb (length (encodeBatch t rs) + length (encodeColumn c)) 4096 ≡ f → endsPresent rs ≡ p
       → Built t (columnRecords t c rs) (nextBuilder (column-call c) b body) (nextBody (column-call c) b body)
   unfolding columnRecords
   column-in c k true true true w f p = rw (w, f, p) (taken-column c (builderOf t (withColumn rs c)) k (rw (w, f, p) at (column-answer h c)))
-  column-in c k true true false w f p = rw (w, f, p) (refused-column c NoRecord (rw (w, f, p) at (column-answer h c)) (λ z. omega arith))
-  column-in c k true false p w f g = rw (w, f) (refused-column c Fit (rw (w, f) at (column-answer h c)) (λ z. omega arith))
-  column-in c k false f p w g i = rw w (refused-column c Text (rw w at (column-answer h c)) (λ z. omega arith))
+  column-in c k true true false w f p = rw (w, f, p) (refused-column c NoRecord (rw (w, f, p) at (column-answer h c)))
+  column-in c k true false p w f g = rw (w, f) (refused-column c Fit (rw (w, f) at (column-answer h c)))
+  column-in c k false f p w g i = rw w (refused-column c Text (rw w at (column-answer h c)))
 
   column-any : (c : Col) → HeldValue (c .val) → Built t (columnRecords t c rs) (nextBuilder (column-call c) b body) (nextBody (column-call c) b body)
   column-any c k =

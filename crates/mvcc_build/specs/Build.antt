@@ -16,21 +16,13 @@ use Rattle.mvcc_build.specs.declared.Last.{Last}
 use Rattle.mvcc_build.specs.declared.Last.the-variants.{Closed, Open}
 use Rattle.mvcc_build.specs.declared.BatchBuilder.{BatchBuilder}
 use Rattle.mvcc_build.specs.declared.Added.{Added}
-use Rattle.mvcc_build.specs.declared.Added.the-variants.{Done, Area, Truncated, Text, Fit, NoRecord}
-
--- document 01's numbers; 0 is no refusal
-abbrev pub addedNumber : Added → ℕ
-addedNumber (Done b) = 0
-addedNumber Area = 1
-addedNumber Truncated = 17
-addedNumber Text = 19
-addedNumber Fit = 20
-addedNumber NoRecord = 21
+use Rattle.refusal.specs.declared.Refusal.the-variants.{Area, Truncated, Text, Fit, NoRecord}
+use Rattle.mvcc_build.specs.declared.Added.the-variants.{Done, Refused}
 
 -- ---- starting
 
 unfoldable pub started : List ℕ → Added
-started body = pick (eqb (length body) 4096) (Done (record { at = 18; records = 0; last = Closed })) Area
+started body = pick (eqb (length body) 4096) (Done (record { at = 18; records = 0; last = Closed })) (Refused Area)
 
 unfoldable pub startedBytes : ℕ → List ℕ → List ℕ
 startedBytes t body = pick (eqb (length body) 4096) (encodeBody t []) body
@@ -40,22 +32,18 @@ startedBytes t body = pick (eqb (length body) 4096) (encodeBody t []) body
 -- the refusals 1, 19 and 20 of an addition with the bytes bs, in order, then what is behind them; `texts`: its texts are UTF-8
 unfoldable pub judged : BatchBuilder → List ℕ → Bool → List ℕ → Added → Added
 judged b body texts bs more =
-    pick (eqb (length body) 4096) (pick texts (pick (leb (b .at + length bs) 4096) more Fit) Text) Area
+    pick (eqb (length body) 4096) (pick texts (pick (leb (b .at + length bs) 4096) more (Refused Fit)) (Refused Text)) (Refused Area)
 
 -- the later bytes: those added, with the count that goes with them; after a refusal the body is as it was
 unfoldable pub laid : (BatchBuilder → List ℕ → List ℕ) → BatchBuilder → List ℕ → List ℕ → Added → List ℕ
 laid count b body bs (Done next) = count next (put body (b .at) bs)
-laid count b body bs Area = body
-laid count b body bs Truncated = body
-laid count b body bs Text = body
-laid count b body bs Fit = body
-laid count b body bs NoRecord = body
+laid count b body bs (Refused r) = body
 
 -- ---- records
 
 -- one record more, of n bytes, with `end` the last one now
 unfoldable pub recordIn : BatchBuilder → ℕ → Last → Added
-recordIn b n end = pick (eqb (b .records) 0xffff) Fit (Done (record { at = b .at + n; records = b .records + 1; last = end }))
+recordIn b n end = pick (eqb (b .records) 0xffff) (Refused Fit) (Done (record { at = b .at + n; records = b .records + 1; last = end }))
 
 -- the record count, stored anew
 unfoldable pub recordCount : BatchBuilder → List ℕ → List ℕ
@@ -93,9 +81,9 @@ headTold b body texts op t row z =
 
 -- the last record takes a column of n bytes, if it is a present one
 unfoldable pub columnIn : BatchBuilder → ℕ → Last → Added
-columnIn b n Closed = NoRecord
+columnIn b n Closed = Refused NoRecord
 columnIn b n (Open counted columns) =
-    pick (eqb columns 0xffff) Fit (Done (record { at = b .at + n; records = b .records; last = Open counted (columns + 1) }))
+    pick (eqb columns 0xffff) (Refused Fit) (Done (record { at = b .at + n; records = b .records; last = Open counted (columns + 1) }))
 
 -- what a column with the bytes bs answers; `texts`: its texts are UTF-8
 unfoldable pub columnTold : BatchBuilder → List ℕ → Bool → List ℕ → Added
@@ -137,8 +125,8 @@ elements bs = words bs (length bs / 4) 0
 unfoldable pub vectorAdded : BatchBuilder → List ℕ → List ℕ → List ℕ → Added
 vectorAdded b body n bs =
     pick (eqb (length body) 4096)
-    (pick (eqb (length bs % 4) 0) (columnAdded b body (column n (vector (elements bs)))) Truncated)
-    Area
+    (pick (eqb (length bs % 4) 0) (columnAdded b body (column n (vector (elements bs)))) (Refused Truncated))
+    (Refused Area)
 
 unfoldable pub vectorBytes : BatchBuilder → List ℕ → List ℕ → List ℕ → List ℕ
 vectorBytes b body n bs = laid columnCount b body (encodeColumn (column n (vector (elements bs)))) (vectorAdded b body n bs)

@@ -9,7 +9,7 @@ use Rattle.text.specs.Utf8.{wellFormed}
 use Rattle.mvcc.specs.Batch.{vector, Col, Rec, encodeColumn, encodeBatch}
 use Rattle.mvcc_build.specs.declared.BatchBuilder.{BatchBuilder}
 use Rattle.mvcc_build.specs.declared.Added.{Added}
-use Rattle.mvcc_build.specs.declared.Added.the-variants.{Done, Area, Truncated, Text, Fit, NoRecord}
+use Rattle.mvcc_build.specs.declared.Added.the-variants.{Done, Refused}
 use Rattle.mvcc_build.specs.Build.{tableOf, recordAdded, recordBytes, column, texted, columnAdded, columnBytes, elements, vectorAdded, vectorBytes}
 use Rattle.mvcc_build.specs.Built.{endsPresent, withColumn, Held, HeldValue}
 
@@ -28,11 +28,7 @@ HeldCall (vector-call n bs) = Bytes bs
 -- the builder that the caller goes on with
 abbrev pub onward : Added → BatchBuilder → BatchBuilder
 onward (Done next) b = next
-onward Area b = b
-onward Truncated b = b
-onward Text b = b
-onward Fit b = b
-onward NoRecord b = b
+onward (Refused r) b = b
 
 unfoldable pub nextBuilder : Call → BatchBuilder → List ℕ → BatchBuilder
 nextBuilder (record-call r) b body = onward (recordAdded b body r) b

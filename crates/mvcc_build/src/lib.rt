@@ -17,8 +17,10 @@ ghost use Rattle.text.specs.Utf8.{wellFormed};
 ghost use Rattle.text.specs.Walk.{Ascii};
 ghost use Rattle.mvcc.specs.Batch.{null, integer, real, text, bool, tombstone, present, encodeText};
 ghost use Rattle.mvcc_build.specs.Words.{Wide};
-ghost use Rattle.mvcc_build.specs.declared.Added.the-variants.{Area, Text};
+ghost use Rattle.refusal.specs.declared.Refusal.the-variants.{Area, Text};
+ghost use Rattle.mvcc_build.specs.declared.Added.the-variants.{Refused};
 ghost use Rattle.mvcc_build.specs.Build.{headBytes, lastOf, tagged, started, startedBytes, laid, recordCount, headTold, recordAdded, recordBytes, columnCount, columnTold, column, columnAdded, columnBytes, vectorAdded, vectorBytes};
+use refusal::Refusal;
 
 // The record that was added last.
 pub enum Last {
@@ -35,18 +37,12 @@ pub struct BatchBuilder {
     pub last: Last,
 }
 
+// What an addition answers: the builder to go on with, or the first of its refusals. Area: the body has not 4,096 bytes.
+// Truncated: the last element of a vector is cut. Text: a name or a text is not UTF-8. Fit: the batch would pass 4,096 bytes.
+// NoRecord: a column, and no present record is last.
 pub enum Added {
     Done(BatchBuilder),
-    // The body has not 4,096 bytes.
-    Area,
-    // The last element of a vector is cut.
-    Truncated,
-    // A name or a text is not UTF-8.
-    Text,
-    // The batch would pass 4,096 bytes.
-    Fit,
-    // A column, and no present record is last.
-    NoRecord,
+    Refused(Refusal),
 }
 
 // ---- texts: a short one is looked at and stored as two words, its first bytes and its last, which may overlap
@@ -207,12 +203,12 @@ pub fn bits_of(x: f64) -> u64
 
 // What an addition to a body of this length answers where a text of it is not UTF-8.
 fn no_text(len: usize) -> Added
-    ensures { λ r. ⌜ r ≡ pick (eqb len 4096) Text Area ⌝ }
+    ensures { λ r. ⌜ r ≡ pick (eqb len 4096) (Refused Text) (Refused Area) ⌝ }
 {
     if len != 4096 {
-        return Added::Area;
+        return Added::Refused(Refusal::Area);
     }
-    Added::Text
+    Added::Refused(Refusal::Text)
 }
 
 // Stores a text with a length of two bytes.
@@ -232,7 +228,7 @@ pub fn start(body: &mut [u8], commit_ts: u64) -> Added
     ensures { λ _. ⌜ now (body .exit) ≡ startedBytes «commit_ts» (now (body .entry)) ⌝ }
 {
     if body.len() != 4096 {
-        return Added::Area;
+        return Added::Refused(Refusal::Area);
     }
     le::write_u64(body, 0, 0x3130_3030_4343_564d);
     le::write_u64(body, 8, commit_ts);
@@ -289,13 +285,13 @@ fn add_record(
         return no_text(body.len());
     }
     if body.len() != 4096 {
-        return Added::Area;
+        return Added::Refused(Refusal::Area);
     }
     if !fits(at, 11 + zeros, table.len(), 0) {
-        return Added::Fit;
+        return Added::Refused(Refusal::Fit);
     }
     if records == 0xffff {
-        return Added::Fit;
+        return Added::Refused(Refusal::Fit);
     }
     put_record(body, at, op, table, rowid, zeros);
     le::write_u16(body, 16, records + 1);
@@ -358,16 +354,16 @@ fn add_column(
         return no_text(body.len());
     }
     if body.len() != 4096 {
-        return Added::Area;
+        return Added::Refused(Refusal::Area);
     }
     if !fits(at, 3 + k, name.len(), bytes.len()) {
-        return Added::Fit;
+        return Added::Refused(Refusal::Fit);
     }
     let Last::Open { counted, columns } = last else {
-        return Added::NoRecord;
+        return Added::Refused(Refusal::NoRecord);
     };
     if columns == 0xffff {
-        return Added::Fit;
+        return Added::Refused(Refusal::Fit);
     }
     put_column(body, at, name, tag, k, v, bytes);
     le::write_u16(body, counted, columns + 1);
@@ -437,10 +433,10 @@ pub fn add_vector(body: &mut [u8], b: BatchBuilder, name: &[u8], bytes: &[u8]) -
     ensures { λ _. ⌜ now (body .exit) ≡ vectorBytes b (now (body .entry)) (now (name .entry)) (now (bytes .entry)) ⌝ }
 {
     if body.len() != 4096 {
-        return Added::Area;
+        return Added::Refused(Refusal::Area);
     }
     if bytes.len() % 4 != 0 {
-        return Added::Truncated;
+        return Added::Refused(Refusal::Truncated);
     }
     add_column(
         body,

@@ -3,7 +3,7 @@ use mathlib.Core.Path.{_≡_, refl, sym, ap, _∙_}
 use mathlib.Core.Bool.{Bool, true, false, not}
 use mathlib.Core.List.{List, [], _∷_, _++_, map, append-assoc, append-nil}
 use mathlib.Core.Logic.{⊎-elim}
-use Prim.Native.Nat.{ℕ, zero, suc, _+_, _-_, _*_, _%_, _^_, _≤_, _<_}
+use Prim.Native.Nat.{ℕ, zero, suc, _+_, _*_, _%_, _^_, _≤_, _<_}
 use native.Mathlib.Omega.{arith}
 use borrow.Author.Tests.{leb-true, eqb-true, lt-ltb, le-ltb}
 use lib.Dec.{eqb}
@@ -29,7 +29,7 @@ use Rattle.mvcc.specs.declared.RowID.{RowID}
 use Rattle.mvcc.specs.declared.VersionPayload.{VersionPayload}
 use Rattle.mvcc.specs.declared.VersionPayload.the-variants as payload
 use Rattle.mvcc.specs.declared.MvccLogRecord.{MvccLogRecord}
-use Rattle.mvcc.specs.declared.Refusal.the-variants.{Truncated}
+use Rattle.refusal.specs.declared.Refusal.the-variants.{Truncated}
 use Rattle.mvcc.proofs.Trip.{real-seen}
 use Rattle.mvcc.proofs.Bytes.{field-small}
 use Rattle.mvcc.proofs.Sound.{When, then-when, pick-test, words-length}

@@ -26,7 +26,7 @@ use Rattle.mvcc.specs.declared.Column.{Column}
 use Rattle.mvcc.specs.declared.VersionPayload.{VersionPayload}
 use Rattle.mvcc.specs.declared.VersionPayload.the-variants as payload
 use Rattle.mvcc.specs.declared.MvccLogRecord.{MvccLogRecord}
-use Rattle.mvcc.specs.declared.Refusal.{Refusal}
+use Rattle.refusal.specs.declared.Refusal.{Refusal}
 use Rattle.mvcc_canonical.specs.Canonical.{endOf, fixAll, fixValue, columnStep, fixPayload, recordStep, fixRecord, Stands, Walk}
 use Rattle.mvcc_canonical.proofs.Same.{At, at-left, patch, PayloadIs, ColumnSame, RecordSame, column-same, record-same}
 

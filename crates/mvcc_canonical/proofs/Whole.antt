@@ -1,8 +1,8 @@
 -- The front of a decodable body with its bools set, and zeros behind, is its canonical form. Assumes nothing.
 use mathlib.Core.Path.{_≡_, refl, sym, ap, _∙_}
-use mathlib.Core.Bool.{true, false}
+use mathlib.Core.Bool.{true}
 use mathlib.Core.List.{List, [], _∷_, _++_, map, append-assoc}
-use Prim.Native.Nat.{ℕ, _+_, _-_, _≤_, _<_}
+use Prim.Native.Nat.{ℕ, _-_, _≤_, _<_}
 use native.Mathlib.Nat.{zero-add}
 use native.Mathlib.Omega.{arith}
 use borrow.Author.Tests.{le-leb, lt-leb, eq-eqb, ne-eqb}
@@ -10,36 +10,30 @@ use lib.ListN.{length, take, drop, replicate, length-append, length-take, length
 use lib.Seq.{take-at, drop-at}
 use Rattle.le.specs.Le.{Bytes, leOf, leBytes, field, put, store}
 use Rattle.le.proofs.Stores.{put-all, store-put, store-next}
+use Rattle.refusal.specs.declared.Refusal.{Refusal}
+use Rattle.refusal.specs.declared.Refusal.the-variants as refusal
 use Rattle.mvcc.specs.Answer.{taken, many}
 use Rattle.mvcc.specs.Decode.{recordAt, magic, recordsAt, batchOf}
 use Rattle.mvcc.specs.Batch.{Rec, all, encodeRecord, encodeBatch, encodeBody, padded}
-use Rattle.mvcc.specs.Seen.{seenRecord, refusalOf, decodes, commitTs, records, canonical}
+use Rattle.mvcc.specs.Seen.{seenRecord, decodeRefusal, decodes, commitTs, records, canonical}
 use Rattle.mvcc.specs.declared.MvccCommitBatch.{MvccCommitBatch}
 use Rattle.mvcc.specs.declared.BatchDecoded.{BatchDecoded}
 use Rattle.mvcc.specs.declared.BatchDecoded.the-variants as batch
 use Rattle.mvcc.proofs.Whole.{Found, found, found-batch, found-records, batch-length}
-use Rattle.mvcc.proofs.BatchDecoded.{the-type}
-use Rattle.mvcc.specs.declared.Refusal.the-variants.{Truncated, Tag, Text}
-use types.Run.{OneOf, miss}
-use denote.Enum.Declared.{tagOf}
 use Rattle.mvcc.proofs.Canonical.{batchOf-is, encode-length}
-use Rattle.mvcc_canonical.specs.Canonical.{toldOf, canonicalized, canonicalBytes, fixAll, recordStep, Walk, BoolsTo}
+use Rattle.mvcc_canonical.specs.Canonical.{toldOf, canonicalRefusal, canonicalized, canonicalBytes, fixAll, recordStep, Walk, BoolsTo}
 use Rattle.mvcc_canonical.specs.declared.Canonical.{Canonical}
-use Rattle.mvcc_canonical.specs.declared.Canonical.the-variants.{Done, Area, Short, Magic, Refused}
+use Rattle.mvcc_canonical.specs.declared.Canonical.the-variants.{Done, Refused}
 use Rattle.mvcc_canonical.proofs.Same.{At, at-append, field-at}
 use Rattle.mvcc_canonical.proofs.Walk.{Agree, agree-front, agree-part, put-front, records-is}
 use Rattle.mvcc_canonical.proofs.Bools.{bools-less, records-at}
 
 abbrev countIn : BatchDecoded → ℕ
 countIn (batch.Batch b) = b .records
-countIn batch.Short = 0
-countIn batch.Magic = 0
 countIn (batch.Refused k) = 0
 
 abbrev endIn : BatchDecoded → ℕ
 endIn (batch.Batch b) = b .end
-endIn batch.Short = 0
-endIn batch.Magic = 0
 endIn (batch.Refused k) = 0
 
 magic-bytes : leBytes 8 magic ≡ 0x4d ∷ 0x56 ∷ 0x43 ∷ 0x43 ∷ 0x30 ∷ 0x30 ∷ 0x30 ∷ 0x31 ∷ []
@@ -47,7 +41,7 @@ unfolding magic leOf leBytes
 magic-bytes = refl
 
 decodes-batch : (s : List ℕ) {b : MvccCommitBatch} → batchOf s ≡ batch.Batch b → decodes s ≡ true
-unfolding decodes refusalOf
+unfolding decodes decodeRefusal
 decodes-batch s e = rw e
 
 -- a body that was decoded
@@ -168,34 +162,24 @@ module _ (s : List ℕ) {b : MvccCommitBatch} (w : Decoded s b) where
       let t : take (length E) s ≡ E = rw encoded at (a .is) in
       e ∙ rw t
 
--- a body that does not decode, as a match tells it
-pub not-decodes : (s : List ℕ) (x : BatchDecoded) → x ≡ batchOf s → OneOf (1 ∷ 2 ∷ 3 ∷ []) (tagOf the-type x) → decodes s ≡ false
-unfolding decodes refusalOf
-not-decodes s (batch.Batch b) e k = absurd (miss (1 ∷ 2 ∷ 3 ∷ []) 0 tt k)
-not-decodes s batch.Short e k = rw (← e)
-not-decodes s batch.Magic e k = rw (← e)
-not-decodes s (batch.Refused Truncated) e k = rw (← e)
-not-decodes s (batch.Refused Tag) e k = rw (← e)
-not-decodes s (batch.Refused Text) e k = rw (← e)
-
 -- ---- the ways of `canonicalize`
 
 module _ (s out : List ℕ) where
   abbrev Says : Canonical → List ℕ → Type 0
   Says r l = (r ≡ canonicalized s out) × (l ≡ canonicalBytes s out)
 
-  pub way-out : (length out ≡ 4096 → ⊥) → Says Area out
-  unfolding canonicalized canonicalBytes
+  pub way-out : (length out ≡ 4096 → ⊥) → Says (Refused refusal.Area) out
+  unfolding canonicalRefusal
   way-out h = (rw (ne-eqb _ _ h), rw (ne-eqb _ _ h))
 
-  pub way-long : length out ≡ 4096 → 4096 < length s → Says Area out
-  unfolding canonicalized canonicalBytes
+  pub way-long : length out ≡ 4096 → 4096 < length s → Says (Refused refusal.Area) out
+  unfolding canonicalRefusal
   way-long h k = (rw (eq-eqb _ _ h, lt-leb _ _ k), rw (eq-eqb _ _ h, lt-leb _ _ k))
 
-  pub way-refused : {x : BatchDecoded} {r : Canonical} → length out ≡ 4096 → length s ≤ 4096 → x ≡ batchOf s → decodes s ≡ false → r ≡ toldOf x → Says r out
-  unfolding canonicalized canonicalBytes
-  way-refused h k e d f = (rw (eq-eqb _ _ h, le-leb _ _ k, ← e) f, rw (eq-eqb _ _ h, le-leb _ _ k, d))
+  pub way-refused : {x : BatchDecoded} {r : Canonical} {k : Refusal} → length out ≡ 4096 → length s ≤ 4096 → x ≡ batchOf s → x ≡ batch.Refused k → r ≡ toldOf x → Says r out
+  unfolding canonicalRefusal decodeRefusal
+  way-refused h k e g f = (rw (eq-eqb _ _ h, le-leb _ _ k, ← e) f, rw (eq-eqb _ _ h, le-leb _ _ k, ← e, g))
 
   pub way-done : {b : MvccCommitBatch} {c : List ℕ} → length out ≡ 4096 → Decoded s b → c ≡ canonical s → Says Done c
-  unfolding canonicalized canonicalBytes
-  way-done h w f = (rw (eq-eqb _ _ h, le-leb _ _ (w .small), w .is), rw (eq-eqb _ _ h, le-leb _ _ (w .small), decodes-batch s (w .is)) f)
+  unfolding canonicalRefusal decodeRefusal
+  way-done h w f = (rw (eq-eqb _ _ h, le-leb _ _ (w .small), w .is), rw (eq-eqb _ _ h, le-leb _ _ (w .small), w .is) f)

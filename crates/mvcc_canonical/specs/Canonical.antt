@@ -2,14 +2,18 @@
 use mathlib.Core.Path.{_≡_}
 use mathlib.Core.Bool.{Bool}
 use mathlib.Core.List.{List, [], _∷_}
+use mathlib.Core.Option.{Option}
 use Prim.Native.Nat.{ℕ, zero, suc, _+_, _-_, _≤_, _<_}
 use lib.Dec.{leb, ltb, eqb}
 use lib.ListN.{length, getD}
 use Rattle.le.specs.Choice.{pick}
 use Rattle.le.specs.Le.{store}
-use Rattle.mvcc.specs.Answer.{Answer, taken, refused, many, refusal}
-use Rattle.mvcc.specs.Decode.{columnAt, recordAt, batchOf}
-use Rattle.mvcc.specs.Seen.{decodes, canonical}
+use Rattle.refusal.specs.Refusal.{unless, accepts, answered}
+use Rattle.refusal.specs.declared.Refusal.{Refusal}
+use Rattle.refusal.specs.declared.Refusal.the-variants as refusal
+use Rattle.mvcc.specs.Answer.{Answer, taken, refused, many}
+use Rattle.mvcc.specs.Decode.{columnAt, recordAt}
+use Rattle.mvcc.specs.Seen.{refusalIn, decodeRefusal, canonical}
 use Rattle.mvcc.specs.declared.Value.{Value}
 use Rattle.mvcc.specs.declared.Value.the-variants as value
 use Rattle.mvcc.specs.declared.Column.{Column}
@@ -17,31 +21,25 @@ use Rattle.mvcc.specs.declared.VersionPayload.{VersionPayload}
 use Rattle.mvcc.specs.declared.VersionPayload.the-variants as payload
 use Rattle.mvcc.specs.declared.MvccLogRecord.{MvccLogRecord}
 use Rattle.mvcc.specs.declared.BatchDecoded.{BatchDecoded}
-use Rattle.mvcc.specs.declared.BatchDecoded.the-variants as batch
 use Rattle.mvcc_canonical.specs.declared.Canonical.{Canonical}
-use Rattle.mvcc_canonical.specs.declared.Canonical.the-variants.{Done, Area, Short, Magic, Refused}
+use Rattle.mvcc_canonical.specs.declared.Canonical.the-variants.{Done, Refused}
 
--- document 01's numbers; 0 is no refusal
-abbrev pub canonicalNumber : Canonical → ℕ
-canonicalNumber Done = 0
-canonicalNumber Area = 1
-canonicalNumber Short = 2
-canonicalNumber Magic = 3
-canonicalNumber (Refused k) = refusal k
-
+-- what an answer of decoding comes to
 abbrev pub toldOf : BatchDecoded → Canonical
-toldOf (batch.Batch b) = Done
-toldOf batch.Short = Short
-toldOf batch.Magic = Magic
-toldOf (batch.Refused k) = Refused k
+toldOf d = answered Refused Done (refusalIn d)
 
--- the body s, into out: refused where a length is wrong (1), and as decoding refuses it (2, 3, 17, 18, 19)
-unfoldable pub canonicalized : List ℕ → List ℕ → Canonical
-canonicalized s out = pick (eqb (length out) 4096) (pick (leb (length s) 4096) (toldOf (batchOf s)) Area) Area
+-- the body s, into out: a wrong length, then decoding's refusals
+unfoldable pub canonicalRefusal : List ℕ → List ℕ → Option Refusal
+canonicalRefusal s out =
+    unless (eqb (length out) 4096) refusal.Area
+    (unless (leb (length s) 4096) refusal.Area (decodeRefusal s))
+
+abbrev pub canonicalized : List ℕ → List ℕ → Canonical
+canonicalized s out = answered Refused Done (canonicalRefusal s out)
 
 -- the later bytes of out: a refusal leaves them as they were
-unfoldable pub canonicalBytes : List ℕ → List ℕ → List ℕ
-canonicalBytes s out = pick (eqb (length out) 4096) (pick (leb (length s) 4096) (pick (decodes s) (canonical s) out) out) out
+abbrev pub canonicalBytes : List ℕ → List ℕ → List ℕ
+canonicalBytes s out = pick (accepts (canonicalRefusal s out)) (canonical s) out
 
 -- ---- the walk
 

@@ -7,15 +7,12 @@ ghost use Rattle.le.specs.Choice.{pick};
 ghost use Rattle.mvcc.specs.Answer.{many};
 ghost use Rattle.mvcc.specs.Decode.{columnAt, recordAt};
 ghost use Rattle.mvcc_canonical.specs.Canonical.{endOf, fixAll, fixValue, columnStep, recordStep, fixRecord, Stands, Walk, BoolsTo, toldOf, canonicalized, canonicalBytes};
+use refusal::Refusal;
 
 pub enum Canonical {
     Done,
-    // `out` has not 4,096 bytes, or the body has more.
-    Area,
-    // The body does not decode.
-    Short,
-    Magic,
-    Refused(mvcc::Refusal),
+    // Area: `out` has not 4,096 bytes, or the body has more. Any other: the body does not decode.
+    Refused(Refusal),
 }
 
 fn byte_of(b: bool) -> u8
@@ -117,9 +114,7 @@ fn told_of(d: mvcc::BatchDecoded) -> Canonical
 {
     match d {
         mvcc::BatchDecoded::Batch(_) => Canonical::Done,
-        mvcc::BatchDecoded::Short => Canonical::Short,
-        mvcc::BatchDecoded::Magic => Canonical::Magic,
-        mvcc::BatchDecoded::Refused(k) => Canonical::Refused(k),
+        mvcc::BatchDecoded::Refused(row) => Canonical::Refused(row),
     }
 }
 
@@ -129,10 +124,10 @@ pub fn canonicalize(body: &[u8], out: &mut [u8]) -> Canonical
     ensures { λ _. ⌜ now (out .exit) ≡ canonicalBytes (now (body .entry)) (now (out .entry)) ⌝ }
 {
     if out.len() != 4096 {
-        return Canonical::Area;
+        return Canonical::Refused(Refusal::Area);
     }
     if 4096 < body.len() {
-        return Canonical::Area;
+        return Canonical::Refused(Refusal::Area);
     }
     let d = mvcc::MvccCommitBatch::decode(body);
     let mvcc::BatchDecoded::Batch(b) = d else {

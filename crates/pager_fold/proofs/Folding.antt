@@ -13,6 +13,7 @@ use Rattle.le.specs.Le.{put}
 use Rattle.le.proofs.Tests.{le-or-lt}
 use Rattle.frame.specs.Frame.{frameAt, bodyOf}
 use Rattle.frame.proofs.Places.{body-there}
+use Rattle.refusal.specs.declared.Refusal.the-variants as refusal
 use Rattle.header.specs.Header.{encodeHeader}
 use Rattle.header.specs.declared.DbHeader.{DbHeader}
 use Rattle.header.proofs.Encoding.{length-encodeHeader}
@@ -26,7 +27,7 @@ use Rattle.pager_state.specs.Overlay.{frameOf, logBytes}
 use Rattle.pager_state.specs.Stores.{Act, placeOf, inside, diskOf, grown, putFile, lenFile}
 use Rattle.pager_state.specs.Pages.{pagesFrom, firstOf, folds}
 use Rattle.pager_state.specs.Fold.{foldedFrom, logHeaderAct, nextHeader, folded, logLengthAct, withoutFrames, emptied, mainLengthAct, lengthened, mainHeaderAct, headed, isEmpty, pageAct, paged, headerTodo, emptyTodo, lengthTodo, pagesTodo, foldTodo, pagesAdvance, foldAdvance}
-use Rattle.pager_state.specs.Steps.{stepFine, answerOf, namedBy, named, done, nothingToFold, checkpointStart, folding, beginCheckpoint}
+use Rattle.pager_state.specs.Steps.{stepFine, answerOf, namedBy, named, done, nothingToFold, checkpointRefusal, checkpointStart, folding, beginCheckpoint}
 use Rattle.pager_state.specs.declared.Job.{Job}
 use Rattle.pager_state.specs.declared.Job.the-variants as job
 use Rattle.pager_state.specs.declared.Pager.{Pager}
@@ -37,34 +38,24 @@ use Rattle.pager_state.proofs.Searches.{lowest}
 use Rattle.pager_state.proofs.Walks.{none-found}
 use Rattle.pager_state.proofs.Nexts.{named-in, done-in}
 use Rattle.pager_state.proofs.Made.{fine-parts}
-use Rattle.pager_fold.specs.FoldStep.{foldAnswer, foldStepped, foldsBy, fileOf, withMain, pagePut, headerPut, startedAs}
+use Rattle.pager_fold.specs.FoldStep.{foldAnswer, foldStepped, fileOf, withMain, pagePut, headerPut, startedAs}
 
 -- ---- a fold's pages, by the count and the table
 
 module _ (w : World) where
-  abbrev by : ℕ → Bool
-  by = foldsBy (countOf (headerOf (w .pager))) (w .table)
+  pub some-pages : (p q : ℕ) → q ≡ firstOf (pagesFrom (folds w) p) → q < 1024 → pagesFrom (folds w) p ≡ q ∷ pagesFrom (folds w) (suc q)
+  some-pages p q g h = lowest (folds w) p q g h .split
 
-  pub pages-by : (p : ℕ) → pagesFrom by p ≡ pagesFrom (folds w) p
-  unfolding folds foldsBy
-  pages-by p = refl
-
-  first-by : (p q : ℕ) → q ≡ firstOf (pagesFrom by p) → q ≡ firstOf (pagesFrom (folds w) p)
-  first-by p q g = g ∙ ap firstOf (pages-by p)
-
-  pub some-pages : (p q : ℕ) → q ≡ firstOf (pagesFrom by p) → q < 1024 → pagesFrom (folds w) p ≡ q ∷ pagesFrom (folds w) (suc q)
-  some-pages p q g h = lowest (folds w) p q (first-by p q g) h .split
-
-  pub no-pages : (p q : ℕ) → q ≡ firstOf (pagesFrom by p) → 1024 ≤ q → pagesFrom (folds w) p ≡ []
-  no-pages p q g h = none-found (folds w) p q (first-by p q g) h
+  pub no-pages : (p q : ℕ) → q ≡ firstOf (pagesFrom (folds w) p) → 1024 ≤ q → pagesFrom (folds w) p ≡ []
+  no-pages p q g h = none-found (folds w) p q g h
 
   -- whether another page follows
-  none-as : (p q : ℕ) → q ≡ firstOf (pagesFrom by p) → (b : Bool) → leb 1024 q ≡ b → isEmpty (pagesFrom (folds w) p) ≡ b
+  none-as : (p q : ℕ) → q ≡ firstOf (pagesFrom (folds w) p) → (b : Bool) → leb 1024 q ≡ b → isEmpty (pagesFrom (folds w) p) ≡ b
   none-as p q g true t = ap isEmpty (no-pages p q g (leb-true 1024 q t))
   none-as p q g false t = ap isEmpty (some-pages p q g (leb-false 1024 q t))
 
-  pub last-is : (p q : ℕ) → q ≡ firstOf (pagesFrom by (p + 1)) → none (pagesFrom (folds w) (suc p)) ≡ leb 1024 q
-  last-is p q g = none-as (suc p) q (g ∙ ap (λ (k : ℕ). firstOf (pagesFrom by k)) (add-one p)) (leb 1024 q) refl
+  pub last-is : (p q : ℕ) → q ≡ firstOf (pagesFrom (folds w) (p + 1)) → isEmpty (pagesFrom (folds w) (suc p)) ≡ leb 1024 q
+  last-is p q g = none-as (suc p) q (g ∙ ap (λ (k : ℕ). firstOf (pagesFrom (folds w) k)) (add-one p)) (leb 1024 q) refl
 
 -- a page's bytes in the log, as its frame's body
 pub body-of-page : (t l : List ℕ) (n : ℕ) {at : ℕ} {bs : List ℕ} → at ≡ frameOf t n → bs ≡ bodyOf (frameAt at l) → bs ≡ logBytes t l n
@@ -135,7 +126,7 @@ more-pages n salt answer a [] v = refl
 more-pages n salt answer a (x ∷ xs) v = refl
 
 module _ (salt answer p : ℕ) (w : World) where
-  pub page-told : (q : ℕ) (b : Bool) → pagesFrom (folds w) p ≡ q ∷ pagesFrom (folds w) (suc q) → q < 1024 → none (pagesFrom (folds w) (suc q)) ≡ b
+  pub page-told : (q : ℕ) (b : Bool) → pagesFrom (folds w) p ≡ q ∷ pagesFrom (folds w) (suc q) → q < 1024 → isEmpty (pagesFrom (folds w) (suc q)) ≡ b
       → step.Stored (placeOf (pageAct w q b)) ≡ named answer (pagesTodo salt answer (pagesFrom (folds w) p) w)
   unfolding pagesTodo
   page-told q b e h t =
@@ -172,7 +163,7 @@ module _ (salt answer p : ℕ) (w : World) where
 
 -- ---- the step, by the job
 
-pub not-fine : (w : World) → fine w ≡ false → (step.Area ≡ foldAnswer w) × (w ≡ foldStepped w)
+pub not-fine : (w : World) → fine w ≡ false → (step.Refused refusal.Area ≡ foldAnswer w) × (w ≡ foldStepped w)
 unfolding foldAnswer foldStepped
 not-fine w e = (rw e, rw e)
 
@@ -246,26 +237,26 @@ module _ (l : List ℕ) (v : Wal) (salt : ℕ) (n : (length l ≡ 4210720) × (v
 -- ---- the judgement of a starting call
 
 module _ (g : List ℕ) (w : World) (salt : ℕ) where
-  pub start-area : stepFine g w ≡ false → startedAs checkpoint.Area (w .pager) ≡ beginCheckpoint g w salt
-  unfolding beginCheckpoint checkpointStart
+  pub start-area : stepFine g w ≡ false → startedAs (checkpoint.Refused refusal.Area) (w .pager) ≡ beginCheckpoint g w salt
+  unfolding beginCheckpoint checkpointStart checkpointRefusal
   start-area a = rw a
 
   module _ (a : stepFine g w ≡ true) where
-    pub start-busy : busy (w .pager) ≡ true → startedAs checkpoint.Busy (w .pager) ≡ beginCheckpoint g w salt
-    unfolding beginCheckpoint checkpointStart
+    pub start-busy : busy (w .pager) ≡ true → startedAs (checkpoint.Refused refusal.Busy) (w .pager) ≡ beginCheckpoint g w salt
+    unfolding beginCheckpoint checkpointStart checkpointRefusal
     start-busy b = rw (a, b)
 
     module _ (b : busy (w .pager) ≡ false) where
-      pub start-read-only : readOnly (w .pager) ≡ true → startedAs checkpoint.ReadOnly (w .pager) ≡ beginCheckpoint g w salt
-      unfolding beginCheckpoint checkpointStart
+      pub start-read-only : readOnly (w .pager) ≡ true → startedAs (checkpoint.Refused refusal.ReadOnly) (w .pager) ≡ beginCheckpoint g w salt
+      unfolding beginCheckpoint checkpointStart checkpointRefusal
       start-read-only c = rw (a, b, c)
 
       module _ (c : readOnly (w .pager) ≡ false) where
         pub start-nothing : nothingToFold w ≡ true → startedAs checkpoint.Nothing (w .pager) ≡ beginCheckpoint g w salt
-        unfolding beginCheckpoint checkpointStart
+        unfolding beginCheckpoint checkpointStart checkpointRefusal
         start-nothing d = rw (a, b, c, d)
 
-        pub start-begun : {n : ℕ} {r : Pager} → nothingToFold w ≡ false → n ≡ length (pagesFrom (by w) 0)
+        pub start-begun : {n : ℕ} {r : Pager} → nothingToFold w ≡ false → n ≡ length (pagesFrom (folds w) 0)
             → r ≡ withJob (withWal (w .pager) (w .pager .wal)) (job.Fold salt 0 n) → startedAs checkpoint.Begun r ≡ beginCheckpoint g w salt
-        unfolding beginCheckpoint checkpointStart folding
-        start-begun d e f = rw (a, b, c, d, f, e, pages-by w 0)
+        unfolding beginCheckpoint checkpointStart checkpointRefusal folding
+        start-begun d e f = rw (a, b, c, d, f, e)

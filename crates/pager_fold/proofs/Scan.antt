@@ -12,10 +12,10 @@ use lib.ListN.{length, getD}
 use Rattle.le.specs.Choice.{both}
 use Rattle.le.proofs.Tests.{le-or-lt}
 use Rattle.pager_state.specs.Overlay.{frameOf, inLog}
-use Rattle.pager_state.specs.Pages.{pagesFrom}
+use Rattle.pager_state.specs.Pages.{pagesFrom, foldsBy}
 use Rattle.pager_state.proofs.Searches.{pages-miss, pages-end}
 use Rattle.pager_state.proofs.Entries.{getD-past}
-use Rattle.pager_fold.specs.FoldStep.{foldsBy, foldingEnd}
+use Rattle.pager_fold.specs.FoldStep.{foldingEnd}
 
 both-false : (a b : Bool) → b ≡ false → both a b ≡ false
 both-false true b e = e

@@ -7,6 +7,7 @@ use native.Mathlib.Omega.{arith}
 use borrow.Author.Tests.{eq-eqb}
 use lib.ListN.{length, take, drop, length-append, length-take, length-drop}
 use lib.Seq.{drop-drop}
+use Rattle.refusal.specs.declared.Refusal.the-variants as refusal
 use Rattle.le.specs.Le.{put}
 use Rattle.page.specs.Page.{emptyTablePage, emptyAfter}
 use Rattle.page.proofs.Written.{length-emptyTablePage}
@@ -64,7 +65,7 @@ module _ (t l m g : List ℕ) (salt : ℕ) where
   Creates r u v w =
       (r ≡ create t l m g salt) × ((u ≡ createTable t l m g) × ((v ≡ createLog t l m g salt) × (w ≡ createMain t l m g salt)))
 
-  pub create-refused : {r : PagerCreated} → createFine t l m g ≡ false → r ≡ record { answer = created.Area; pager = noPager } → Creates r t l m
+  pub create-refused : {r : PagerCreated} → createFine t l m g ≡ false → r ≡ record { answer = created.Refused refusal.Area; pager = noPager } → Creates r t l m
   unfolding create createTable createLog createMain
   create-refused n a = (rw n a, (rw n, (rw n, rw n)))
 

@@ -8,6 +8,7 @@ use borrow.Author.Tests.{le-leb, lt-leb, leb-true, leb-false}
 use lib.Dec.{leb}
 use lib.ListN.{length}
 use Rattle.le.specs.Choice.{pick}
+use Rattle.refusal.specs.declared.Refusal.the-variants as refusal
 use Rattle.header.specs.declared.DbHeader.{DbHeader}
 use Rattle.header.specs.declared.HeaderDecoded.{HeaderDecoded}
 use Rattle.header.specs.declared.HeaderDecoded.the-variants as main
@@ -29,13 +30,13 @@ use Rattle.pager_open.proofs.Found.{found-frames, found-last, found-log
 -- ---- 6, then 10
 
 module _ (how : How) (len : ℕ) (mh : DbHeader) (v : Wal) (h : DbHeader) where
-  pub over : leb (4096 * countOf h) 4194304 ≡ false → opened.Limit ≡ openedWith how len mh v h
+  pub over : leb (4096 * countOf h) 4194304 ≡ false → (opened.Refused refusal.Limit) ≡ openedWith how len mh v h
   unfolding openedWith
   over e =
       let k : 1024 < countOf h = omega (arith, leb-false (4096 * countOf h) 4194304 e) in
       rw (lt-leb _ _ k)
 
-  pub read-only : leb (4096 * countOf h) 4194304 ≡ true → barred how ≡ true → opened.ReadOnly ≡ openedWith how len mh v h
+  pub read-only : leb (4096 * countOf h) 4194304 ≡ true → barred how ≡ true → (opened.Refused refusal.ReadOnly) ≡ openedWith how len mh v h
   unfolding openedWith
   read-only e b =
       let k : countOf h ≤ 1024 = omega (arith, leb-true (4096 * countOf h) 4194304 e) in
@@ -71,18 +72,11 @@ module _ (how : How) (len : ℕ) (mh : DbHeader) (l : List ℕ) where
 -- by what opening the log answers
 abbrev pub judgedOpen : WalOpened → Opens → Opens
 judgedOpen (wal.Opened w) next = next
-judgedOpen wal.Area next = opened.Area
-judgedOpen wal.Short next = opened.Short
-judgedOpen wal.Magic next = opened.Magic
-judgedOpen wal.Version next = opened.Version
-judgedOpen wal.PageSize next = opened.PageSize
+judgedOpen (wal.Refused r) next = opened.Refused r
 
 open-either : (d : WalHeaderDecoded) (w : Wal) (next : Opens) → judgedOpen (openedBy d w) next ≡ judgedLog d next
 open-either (log.Header h) w next = refl
-open-either log.Short w next = refl
-open-either log.Magic w next = refl
-open-either log.Version w next = refl
-open-either log.PageSize w next = refl
+open-either (log.Refused r) w next = refl
 
 pub log-judged : (l : List ℕ) (next : Opens) {r o : WalOpened} → length l ≤ 4210720 → r ≡ openLog l → r ≡ o
     → judgedOpen o next ≡ judgedLog (decodeWalHeader l) next
@@ -94,35 +88,29 @@ log-judged l next h a e =
 
 main-like : (d : HeaderDecoded) (f g : DbHeader → Opens) → ((h : DbHeader) → f h ≡ g h) → judgedMain d f ≡ judgedMain d g
 main-like (main.Header h) f g e = e h
-main-like main.Short f g e = refl
-main-like main.Magic f g e = refl
-main-like main.Version f g e = refl
-main-like main.PageSize f g e = refl
+main-like (main.Refused r) f g e = refl
 
 zero-like : (d : HeaderDecoded) (f g : DbHeader → Opens) → ((h : DbHeader) → f h ≡ g h) → judgedZero d f ≡ judgedZero d g
 zero-like (main.Header h) f g e = e h
-zero-like main.Short f g e = refl
-zero-like main.Magic f g e = refl
-zero-like main.Version f g e = refl
-zero-like main.PageSize f g e = refl
+zero-like (main.Refused r) f g e = refl
 
 module _ (how : How) (d : Disk) where
   with-as : (mh h : DbHeader) → openedAs how d mh (foundBy how (d .log)) h ≡ openedWith how (d .main .len) mh (foundBy how (d .log) .log) h
   unfolding openedAs openedWith
   with-as mh h = rw (found-end how (d .log))
 
-  behind-as : (mh : DbHeader) → pick (isLong (d .main) mh) (judged how d mh) opened.MainShort ≡ judgedBehind how (d .main .len) (d .log) mh
+  behind-as : (mh : DbHeader) → pick (isLong (d .main) mh) (judged how d mh) (opened.Refused refusal.MainShort) ≡ judgedBehind how (d .main .len) (d .log) mh
   unfolding judged judgedBehind judgedFound
   behind-as mh = rw (zero-like (headerBy mh (foundBy how (d .log))) _ _ (with-as mh))
 
-  pub opening-judged : (t g : List ℕ) → openPager how t d g ≡ pick (openFine t d g) (judgedFiles how d) opened.Area
+  pub opening-judged : (t g : List ℕ) → openPager how t d g ≡ pick (openFine t d g) (judgedFiles how d) (opened.Refused refusal.Area)
   unfolding openPager judgedFiles
   opening-judged t g = rw (main-like (mainHeader (d .main)) _ _ behind-as)
 
 -- ---- each way that judging can end
 
 module _ (how : How) (len : ℕ) (f : File) (mh : DbHeader) where
-  pub main-short : leb (4096 * countOf mh) len ≡ false → opened.MainShort ≡ judgedBehind how len f mh
+  pub main-short : leb (4096 * countOf mh) len ≡ false → (opened.Refused refusal.MainShort) ≡ judgedBehind how len f mh
   unfolding judgedBehind
   main-short e = rw e
 

@@ -26,14 +26,17 @@ use Rattle.wal.specs.declared.WalHeaderDecoded.the-variants as log
 use Rattle.wal.specs.declared.Wal.{Wal}
 use Rattle.wal.proofs.HeaderRoundTrip.{decoded-as as log-decoded-as}
 use Rattle.wal.proofs.Recovered.{commit-within}
-use Rattle.pager_state.specs.World.{countOf}
+use Rattle.refusal.specs.declared.Refusal.{Refusal}
+use Rattle.refusal.specs.declared.Refusal.the-variants as refusal
+use Rattle.pager_state.specs.World.{countOf, lengthsFine}
 use Rattle.pager_state.specs.Stores.{File, Disk, content, grown, putFile, lenFile, storedAll}
 use Rattle.pager_state.specs.Opening.{tableOf, opensAs, How, writes, foundIn, foundFresh, foundBy, mainHeader, judgedMain, judgedLog, judgedZero, headerBy, openingOf, openFine, openPager, openedAnswer, opens, logStores, openStores, emptyFile, lying, openTable, openLogArea}
 use Rattle.pager_state.specs.Opened.{Opens}
 use Rattle.pager_state.specs.Opened as opened
 use Rattle.pager_state.specs.declared.Pager.{Pager}
 use Rattle.pager_state.specs.declared.PagerOpened.{PagerOpened}
-use Rattle.pager_open.specs.Judging.{lengthsFine, barred, openedWith, judgedFound, judgedBehind, judgedFiles, isOpened}
+use Rattle.pager_state.specs.declared.OpenAnswer.the-variants as answer
+use Rattle.pager_open.specs.Judging.{barred, openedWith, judgedFound, judgedBehind, judgedFiles}
 use Rattle.pager_open.proofs.Found.{found-end, found-chunks, fresh-chunks}
 use Rattle.pager_open.proofs.Judged.{opening-judged}
 
@@ -61,35 +64,19 @@ lengths t la l ma m g e =
 
 -- ---- the answer and what it stands for
 
-same-test : (o : Opens) → isOpened (openedAnswer o .answer) ≡ opens o
-same-test (opened.Opened p) = refl
-same-test opened.Area = refl
-same-test opened.Short = refl
-same-test opened.Magic = refl
-same-test opened.Version = refl
-same-test opened.PageSize = refl
-same-test opened.Limit = refl
-same-test opened.MainShort = refl
-same-test opened.PageZero = refl
-same-test opened.ReadOnly = refl
+no-answer : {A : Type 0} (r : Refusal) → answer.Refused r ≡ answer.Opened → A
+no-answer r e = absurd (let z : _≡_ {A = ℕ} 0 1 = cc in omega arith)
 
-store-of : (o : Opens) → opens o ≡ true → o ≡ opened.Opened (openedAnswer o .pager)
-store-of (opened.Opened p) e = refl
-store-of opened.Area e = no-test e
-store-of opened.Short e = no-test e
-store-of opened.Magic e = no-test e
-store-of opened.Version e = no-test e
-store-of opened.PageSize e = no-test e
-store-of opened.Limit e = no-test e
-store-of opened.MainShort e = no-test e
-store-of opened.PageZero e = no-test e
-store-of opened.ReadOnly e = no-test e
+opened-by : (o : Opens) → openedAnswer o .answer ≡ answer.Opened → o ≡ opened.Opened (openedAnswer o .pager)
+opened-by (opened.Opened p) e = refl
+opened-by (opened.Refused r) e = no-answer r e
 
-pub answered : (o : Opens) (r : PagerOpened) → r ≡ openedAnswer o → isOpened (r .answer) ≡ opens o
-answered o r e = rw e (same-test o)
+refused-by : (o : Opens) (r : Refusal) → openedAnswer o .answer ≡ answer.Refused r → opens o ≡ false
+refused-by (opened.Opened p) r e = no-answer r (sym e)
+refused-by (opened.Refused k) r e = refl
 
-pub store-opened : (o : Opens) (r : PagerOpened) → r ≡ openedAnswer o → isOpened (r .answer) ≡ true → o ≡ opened.Opened (r .pager)
-store-opened o r e t = rw e (store-of o (sym (answered o r e) ∙ t))
+pub store-opened : (o : Opens) (r : PagerOpened) → r ≡ openedAnswer o → r .answer ≡ answer.Opened → o ≡ opened.Opened (r .pager)
+store-opened o r e t = rw e (opened-by o (sym (ap (λ (x : PagerOpened). x .answer) e) ∙ t))
 
 -- ---- what the refusals that were passed tell
 
@@ -108,17 +95,11 @@ refused-not r p n e = no-test (sym n ∙ ap opens e)
 
 main-read : (d : HeaderDecoded) (next : DbHeader → Opens) (p : Pager) → judgedMain d next ≡ opened.Opened p → Read d next p
 main-read (main.Header h) next p e = record { found = h; header = refl; rest = e }
-main-read main.Short next p e = refused-not opened.Short p refl e
-main-read main.Magic next p e = refused-not opened.Magic p refl e
-main-read main.Version next p e = refused-not opened.Version p refl e
-main-read main.PageSize next p e = refused-not opened.PageSize p refl e
+main-read (main.Refused r) next p e = refused-not (opened.Refused r) p refl e
 
 zero-read : (d : HeaderDecoded) (next : DbHeader → Opens) (p : Pager) → judgedZero d next ≡ opened.Opened p → Read d next p
 zero-read (main.Header h) next p e = record { found = h; header = refl; rest = e }
-zero-read main.Short next p e = refused-not opened.PageZero p refl e
-zero-read main.Magic next p e = refused-not opened.PageZero p refl e
-zero-read main.Version next p e = refused-not opened.PageZero p refl e
-zero-read main.PageSize next p e = refused-not opened.PageZero p refl e
+zero-read (main.Refused r) next p e = refused-not (opened.Refused refusal.PageZero) p refl e
 
 record LogRead (d : WalHeaderDecoded) (next : Opens) (p : Pager) : Type 0 where
   found : WalHeader
@@ -127,10 +108,7 @@ record LogRead (d : WalHeaderDecoded) (next : Opens) (p : Pager) : Type 0 where
 
 log-read : (d : WalHeaderDecoded) (next : Opens) (p : Pager) → judgedLog d next ≡ opened.Opened p → LogRead d next p
 log-read (log.Header h) next p e = record { found = h; header = refl; rest = e }
-log-read log.Short next p e = refused-not opened.Short p refl e
-log-read log.Magic next p e = refused-not opened.Magic p refl e
-log-read log.Version next p e = refused-not opened.Version p refl e
-log-read log.PageSize next p e = refused-not opened.PageSize p refl e
+log-read (log.Refused r) next p e = refused-not (opened.Refused r) p refl e
 
 -- what a store was opened with
 record With (mh : DbHeader) (v : Wal) (p : Pager) : Type 0 where
@@ -140,12 +118,12 @@ record With (mh : DbHeader) (v : Wal) (p : Pager) : Type 0 where
 opened-with : (how : How) (len : ℕ) (mh : DbHeader) (v : Wal) (h : DbHeader) (p : Pager) → openedWith how len mh v h ≡ opened.Opened p → With mh v p
 unfolding openedWith opensAs
 opened-with how len mh v h p e =
-    let a = chosen (leb (countOf h) 1024) _ opened.Limit p refl e in
+    let a = chosen (leb (countOf h) 1024) _ (opened.Refused refusal.Limit) p refl e in
     let b = not-barred (barred how) (opensAs h mh len v (v .«last_commit_offset») (openingOf how)) (a .1) in
     record { header = ap (λ (x : Pager). x .storage .header) (sym b); end = ap (λ (x : Pager). x .recovered) (sym b) }
   where
-    not-barred : (t : Bool) (q : Pager) → pick t opened.ReadOnly (opened.Opened q) ≡ opened.Opened p → q ≡ p
-    not-barred true q k = refused-not opened.ReadOnly p refl k
+    not-barred : (t : Bool) (q : Pager) → pick t (opened.Refused refusal.ReadOnly) (opened.Opened q) ≡ opened.Opened p → q ≡ p
+    not-barred true q k = refused-not (opened.Refused refusal.ReadOnly) p refl k
     not-barred false q k = cc
 
 module _ (how : How) (len : ℕ) (f : File) (mh : DbHeader) (p : Pager) where
@@ -170,7 +148,7 @@ module _ (how : How) (len : ℕ) (f : File) (mh : DbHeader) (p : Pager) where
   behind : judgedBehind how len f mh ≡ opened.Opened p → Behind
   unfolding judgedBehind
   behind e =
-      let a = chosen (leb (4096 * countOf mh) len) _ opened.MainShort p refl e in
+      let a = chosen (leb (4096 * countOf mh) len) _ (opened.Refused refusal.MainShort) p refl e in
       log-or-none (how .exists) refl (judgedFound how len mh (foundBy how f)) found-with (a .1)
 
 -- nothing behind a page's length is read of the main file's own header
@@ -195,7 +173,7 @@ main-there f h e =
     let k = long-enough (leb 4096 (f .len)) (decodeHeader (take 4096 (f .area))) e in
     sym (decoded-as (take 4096 (f .area)) h k .fields) ∙ header-front (f .area)
   where
-    long-enough : (t : Bool) (x : HeaderDecoded) → pick t x main.Short ≡ main.Header h → x ≡ main.Header h
+    long-enough : (t : Bool) (x : HeaderDecoded) → pick t x (main.Refused refusal.Short) ≡ main.Header h → x ≡ main.Header h
     long-enough true x k = k
     long-enough false x k = let z : _≡_ {A = ℕ} 0 1 = cc in absurd (omega arith)
 
@@ -277,17 +255,18 @@ module _ (how : How) (d : Disk) where
     leaves-refused o e n a = (rw e a, refused-leaves (rw e n))
 
     -- refusal 1, then the others
-    pub area-refused : {r : PagerOpened} → openFine t d g ≡ false → r ≡ openedAnswer opened.Area → Leaves r t (d .log .area)
-    area-refused n a = leaves-refused opened.Area (opening-judged how d t g ∙ rw n) refl a
+    pub area-refused : {r : PagerOpened} → openFine t d g ≡ false → r ≡ openedAnswer (opened.Refused refusal.Area) → Leaves r t (d .log .area)
+    area-refused n a = leaves-refused (opened.Refused refusal.Area) (opening-judged how d t g ∙ rw n) refl a
 
     module _ (fine : openFine t d g ≡ true) (r : PagerOpened) (a : r ≡ openedAnswer (judgedFiles how d)) where
       judged-here : openPager how t d g ≡ judgedFiles how d
       judged-here = opening-judged how d t g ∙ rw fine
 
-      pub judged-refused : isOpened (r .answer) ≡ false → Leaves r t (d .log .area)
-      judged-refused n = leaves-refused (judgedFiles how d) judged-here (sym (answered (judgedFiles how d) r a) ∙ n) a
+      pub judged-refused : (k : Refusal) → r .answer ≡ answer.Refused k → Leaves r t (d .log .area)
+      judged-refused k n =
+          leaves-refused (judgedFiles how d) judged-here (refused-by (judgedFiles how d) k (sym (ap (λ (x : PagerOpened). x .answer) a) ∙ n)) a
 
-      pub judged-opened : {u v : List ℕ} → isOpened (r .answer) ≡ true → length (d .log .area) ≡ 4210720
+      pub judged-opened : {u v : List ℕ} → r .answer ≡ answer.Opened → length (d .log .area) ≡ 4210720
           → u ≡ tableOf (r .pager .storage .header) (chunks (take (r .pager .recovered) (d .log .area)))
           → v ≡ pick (how .exists) (d .log .area) (pick (writes (how .access)) (headed (d .log .area) (createdHeader (how .salt))) (d .log .area))
           → Leaves r u v

@@ -6,9 +6,8 @@ use lib.Dec.{eqb}
 use lib.ListN.{length}
 use Rattle.le.specs.Choice.{pick, both}
 use Rattle.refusal.specs.Refusal.{answered}
-use Rattle.pager_state.specs.World.{fineIn, stagingFine, busyWith}
+use Rattle.pager_state.specs.World.{fineIn, stagingFine}
 use Rattle.pager_state.specs.Overlay.{readRefusalBy}
-use Rattle.pager_state.specs.declared.Pager.{Pager}
 use Rattle.pager_state.specs.declared.PageFound.{PageFound}
 use Rattle.pager_state.specs.declared.PageFound.the-variants as found
 use Rattle.pager_read.specs.declared.ReadAnswer.{ReadAnswer}
@@ -28,7 +27,3 @@ readEnd count k = pick (eqb k 0) count 4294967296
 abbrev pub readAs : ReadAnswer → PageFound → PageFound
 readAs may.Allowed f = f
 readAs (may.Refused r) f = found.Refused r
-
--- the job of an open store, as a reading is told it
-abbrev pub jobTold : Pager → ℕ
-jobTold p = pick (busyWith (p .job)) 1 0

@@ -109,7 +109,14 @@ pub fn stage_page(pager: Pager, staging: &mut [u8], page_num: u32, bytes: &[u8])
     let busy = pager_state::is_busy(job);
     let mut later = pager;
     let count = later.staged.count;
-    let done = stage(busy, page_num, count, &mut later.staged.pages, staging, bytes);
+    let done = stage(
+        busy,
+        page_num,
+        count,
+        &mut later.staged.pages,
+        staging,
+        bytes,
+    );
     later.staged.count = done.count;
     let answer = done.answer;
     PageStaged {
@@ -190,10 +197,7 @@ pub fn append_mvcc_batch(pager: Pager, log: &mut [u8], body: &[u8]) -> PagerAppe
     }
     let opening = pager.opening;
     if pager_state::is_read_only(opening) {
-        return not_appended(
-            lowest(log.len(), wal.len, body, Refusal::ReadOnly),
-            pager,
-        );
+        return not_appended(lowest(log.len(), wal.len, body, Refusal::ReadOnly), pager);
     }
     match wal_batch::append_mvcc_batch(log, wal, body) {
         BatchAppended::Refused(refusal) => not_appended(refusal, pager),

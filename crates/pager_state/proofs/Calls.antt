@@ -13,7 +13,7 @@ use Rattle.page.specs.Page.{pageSize}
 use Rattle.refusal.specs.Refusal.{accepts}
 use Rattle.refusal.specs.declared.Refusal.{Refusal}
 use Rattle.refusal.specs.declared.Refusal.the-variants as refusal
-use Rattle.refusal.proofs.Judged.{met, behind}
+use Rattle.refusal.proofs.Judged.{met, first-none}
 use Rattle.mvcc.specs.Seen.{headingRefusal}
 use Rattle.wal.specs.Write.{withFrame, withClock}
 use Rattle.wal.specs.declared.Wal.{Wal}
@@ -105,7 +105,7 @@ pub append-idle : (p : Pager) (l body : List ℕ) → appendRefusal p l body ≡
 unfolding appendRefusal
 append-idle p l body e =
     let a = met (both (logFine (p .wal .len) l) (leb (length body) pageSize)) refusal.Area _ e in
-    let b = met (not (busy p)) refusal.Busy _ (behind (headingRefusal body) _ (a .1)) in
+    let b = met (not (busy p)) refusal.Busy _ (first-none (headingRefusal body) _ (a .1) .1) in
     not-busy (p .job) (off _ (b .0))
 
 longer-placed : (w : World) (l : List ℕ) → PlacedOf every w → PlacedOf every (world (withWal (w .pager) (withFrame (w .pager .wal) 0)) (w .table) l (w .main))

@@ -1,4 +1,4 @@
--- What is known behind a judgement that is no refusal. Assumes nothing.
+-- What a judgement's answer tells. Assumes nothing.
 use mathlib.Core.Path.{_≡_, refl}
 use mathlib.Core.Bool.{Bool, true, false}
 use mathlib.Core.Option.{Option, none, some}
@@ -12,11 +12,6 @@ pub met : (b : Bool) (r : Refusal) (rest : Option Refusal) → unless b r rest �
 met true r rest e = (refl, e)
 met false r rest e = let z : _≡_ {A = ℕ} 0 1 = cc in absurd (omega arith)
 
--- and behind one that comes first
-pub behind : (v rest : Option Refusal) → first v rest ≡ none → rest ≡ none
-behind none rest e = e
-behind (some r) rest e = let z : _≡_ {A = ℕ} 0 1 = cc in absurd (omega arith)
-
 -- an answer that is none of the refusals is the result
 pub resulted : {A : Type 0} (refused : Refusal → A) (result answer : A) → ((r : Refusal) → refused r ≡ answer → ⊥) → (v : Option Refusal)
     → answered refused result v ≡ answer → (v ≡ none) × (result ≡ answer)
@@ -26,3 +21,14 @@ resulted refused result answer apart (some r) e = absurd (apart r e)
 pub accepts-none : (v : Option Refusal) → accepts v ≡ true → v ≡ none
 accepts-none none a = refl
 accepts-none (some r) a = let z : _≡_ {A = ℕ} 0 1 = cc in absurd (omega arith)
+
+-- where neither of two judgements refuses
+pub first-none : (v rest : Option Refusal) → first v rest ≡ none → (v ≡ none) × (rest ≡ none)
+first-none none rest e = (refl, e)
+first-none (some r) rest e = let z : _≡_ {A = ℕ} 0 1 = cc in absurd (omega arith)
+
+-- an answer tells its judgement
+pub row-back : {A : Type 0} (refused : Refusal → A) (result : A) (row : A → Option Refusal) → row result ≡ none
+    → ((r : Refusal) → row (refused r) ≡ some r) → (v : Option Refusal) → row (answered refused result v) ≡ v
+row-back refused result row n s none = n
+row-back refused result row n s (some r) = s r

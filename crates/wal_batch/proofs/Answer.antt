@@ -1,46 +1,29 @@
 -- What the answer of appending a batch says, and that it is an append of a frame. Assumes nothing.
-use mathlib.Core.Path.{_≡_, refl, sym}
-use mathlib.Core.Bool.{Bool, true, false}
+use mathlib.Core.Path.{_≡_}
+use mathlib.Core.Bool.{true}
 use mathlib.Core.List.{List}
 use Prim.Native.Nat.{ℕ, _+_, _≤_}
 use native.Mathlib.Omega.{arith}
 use borrow.Author.Tests.{eq-eqb, eqb-true, le-leb, leb-true}
 use lib.Dec.{eqb, leb}
 use lib.ListN.{length}
-use Rattle.le.specs.Choice.{pick, both}
+use Rattle.le.specs.Choice.{both}
 use Rattle.le.specs.Le.{Bytes, put}
 use Rattle.le.proofs.Compare.{both-true}
-use Rattle.mvcc.specs.Seen.{refusalOf, decodes, canonical}
-use Rattle.mvcc.proofs.Canonical.{canonical-decodes}
+use Rattle.refusal.specs.declared.Refusal.the-variants as refusal
+use Rattle.refusal.proofs.Judged.{met, resulted, first-none}
+use Rattle.mvcc.specs.Seen.{headingRefusal, decodes, canonical}
+use Rattle.mvcc.proofs.Canonical.{decodes-none, none-decodes, canonical-decodes}
+use Rattle.mvcc.proofs.Heading.{decodes-heading}
 use Rattle.wal.specs.Write.{withFrame, hasRoom, appendAnswer, appendAfter}
 use Rattle.wal.specs.Reached.{Reached, by-append}
 use Rattle.wal.specs.declared.Wal.{Wal}
 use Rattle.wal.specs.declared.FrameAppended.the-variants as appended
-use Rattle.wal_batch.specs.Batch.{lent, headed, decodedAs, batchAnswer, batchAfter}
-use Rattle.wal_batch.specs.declared.BatchAppended.{BatchAppended}
-use Rattle.wal_batch.specs.declared.BatchAppended.the-variants.{Appended, Area, Short, Magic, LogFull, Truncated, Tag, Text}
+use Rattle.wal_batch.specs.Batch.{lent, batchRefusal, batchAnswer, batchAfter}
+use Rattle.wal_batch.specs.declared.BatchAppended.the-variants.{Appended, Refused}
 use Rattle.wal_batch.proofs.Frame.{batchFrame, canonical-page}
 
 -- ---- where no refusal comes
-
-headed-by : (x : BatchAppended) (v : Wal) (a b : Bool) → pick a Short (pick b Magic x) ≡ Appended v → x ≡ Appended v
-headed-by x v true b e = let z : _≡_ {A = ℕ} 0 1 = cc in absurd (omega arith)
-headed-by x v false true e = let z : _≡_ {A = ℕ} 0 1 = cc in absurd (omega arith)
-headed-by x v false false e = e
-
-decoded-by : (w v : Wal) (a b c : Bool) → pick a (Appended w) (pick b Truncated (pick c Tag Text)) ≡ Appended v → (a ≡ true) × (w ≡ v)
-decoded-by w v true b c e = let h : w ≡ v = cc in (refl, h)
-decoded-by w v false true c e = let z : _≡_ {A = ℕ} 0 1 = cc in absurd (omega arith)
-decoded-by w v false false true e = let z : _≡_ {A = ℕ} 0 1 = cc in absurd (omega arith)
-decoded-by w v false false false e = let z : _≡_ {A = ℕ} 0 1 = cc in absurd (omega arith)
-
-roomy-by : (r : Bool) (n : ℕ) (w v : Wal) → pick r (decodedAs n w) LogFull ≡ Appended v → (r ≡ true) × (eqb n 0 ≡ true) × (w ≡ v)
-roomy-by true n w v e = let p = decoded-by w v (eqb n 0) (eqb n 17) (eqb n 18) e in (refl, p .0, p .1)
-roomy-by false n w v e = let z : _≡_ {A = ℕ} 0 1 = cc in absurd (omega arith)
-
-lent-by : (t : Bool) (x : BatchAppended) (v : Wal) → pick t x Area ≡ Appended v → (t ≡ true) × (x ≡ Appended v)
-lent-by true x v e = (refl, e)
-lent-by false x v e = let z : _≡_ {A = ℕ} 0 1 = cc in absurd (omega arith)
 
 pub record Done (l : List ℕ) (w : Wal) (s : List ℕ) (v : Wal) : Type 0 where
   pub area : length l ≡ 4210720
@@ -52,21 +35,22 @@ pub record Done (l : List ℕ) (w : Wal) (s : List ℕ) (v : Wal) : Type 0 where
 
 module _ (l : List ℕ) (w : Wal) (s : List ℕ) where
   pub batch-done : (v : Wal) → batchAnswer l w s ≡ Appended v → Done l w s v
-  unfolding batchAnswer batchAfter decodes
+  unfolding batchAnswer batchAfter batchRefusal
   batch-done v e =
-      let n : ℕ = refusalOf s in
-      let t = lent-by (lent l w s) (headed n (pick (hasRoom w) (decodedAs n (withFrame w 0)) LogFull)) v e in
-      let h = headed-by (pick (hasRoom w) (decodedAs n (withFrame w 0)) LogFull) v (eqb n 2) (eqb n 3) (t .1) in
-      let p = roomy-by (hasRoom w) n (withFrame w 0) v h in
+      let p = resulted Refused (Appended (withFrame w 0)) (Appended v) (λ r f. let z : _≡_ {A = ℕ} 0 1 = cc in absurd (omega arith)) (batchRefusal l w s) e in
+      let t = met (lent l w s) refusal.Area _ (p .0) in
+      let h = first-none (headingRefusal s) _ (t .1) in
+      let m = met (hasRoom w) refusal.LogFull _ (h .1) in
       let a = both-true (eqb (length l) 4210720) (both (leb (w .len) 4210720) (leb (length s) 4096)) (t .0) in
       let b = both-true (leb (w .len) 4210720) (leb (length s) 4096) (a .1) in
+      let k : Appended (withFrame w 0) ≡ Appended v = p .1 in
       record {
         area = eqb-true _ _ (a .0);
         small = leb-true _ _ (b .1);
-        room = leb-true _ _ (p .0);
-        decoded = p .1;
-        is = sym (p .2);
-        bytes = rw (t .0, p .0, p .1);
+        room = leb-true _ _ (m .0);
+        decoded = none-decodes s (m .1);
+        is = cc;
+        bytes = rw (t .0, h .0, m .0, m .1);
       }
 
   module _ (v : Wal) (sb : Bytes s) (e : batchAnswer l w s ≡ Appended v) where
@@ -96,8 +80,7 @@ module _ (l : List ℕ) (w : Wal) (s : List ℕ) where
 -- a body that decodes is appended where there is room
 pub batch-taken : (l : List ℕ) (w : Wal) (s : List ℕ) → length l ≡ 4210720 → length s ≤ 4096 → w .len + 4112 ≤ 4210720 → decodes s ≡ true
     → batchAnswer l w s ≡ Appended (withFrame w 0)
-unfolding batchAnswer decodes
+unfolding batchAnswer batchRefusal
 batch-taken l w s nl ns room d =
     let n : w .len ≤ 4210720 = omega arith in
-    let z : refusalOf s ≡ 0 = eqb-true _ _ d in
-    rw (eq-eqb _ _ nl, le-leb _ _ n, le-leb _ _ ns, le-leb _ _ room, z)
+    rw (eq-eqb _ _ nl, le-leb _ _ n, le-leb _ _ ns, le-leb _ _ room, decodes-heading s d, decodes-none s d)

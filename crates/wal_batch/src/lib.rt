@@ -1,48 +1,33 @@
 // A batch appended to the log: its canonical form is written straight behind the heading's place at the log's length,
 // and becomes an unsealed frame there.
 ghost use mathlib.Core.Path.{_≡_};
-ghost use Rattle.mvcc.specs.Seen.{refusalOf};
-ghost use Rattle.wal_batch.specs.Batch.{headed, refusedAs, batchAnswer, batchAfter};
+ghost use Rattle.refusal.specs.Refusal.{answered};
+ghost use Rattle.mvcc.specs.Seen.{headingRefusal};
+ghost use Rattle.wal_batch.specs.Batch.{batchAnswer, batchAfter};
 use frame::FRAME_HEADER_SIZE;
 use frame::FRAME_SIZE;
+use mvcc::HeadingJudged;
 use mvcc::MVCC_FRAME_MARKER;
-use mvcc::Refusal;
 use mvcc_canonical::Canonical;
 use page::PAGE_SIZE;
+use refusal::Refusal;
 use wal::WAL_AREA;
 use wal::Wal;
 
-// What appending answers: the log one frame longer, or the first of its refusals.
+// What appending answers: the log one frame longer, or the first of its refusals. Area: the log's area has another length,
+// the log is longer than it, or the body is longer than a page.
 pub enum BatchAppended {
     Appended(Wal),
-    // The log's area has another length, the log is longer than it, or the body is longer than a page.
-    Area,
-    Short,
-    Magic,
-    LogFull,
-    Truncated,
-    Tag,
-    Text,
+    Refused(Refusal),
 }
 
 // The answer where a frame has no room: a body's length and leading bytes are judged before that, its records are not.
 fn full(body: &[u8]) -> BatchAppended
-    ensures { λ r. ⌜ r ≡ headed (refusalOf (now (body .entry))) BatchAppended.LogFull ⌝ }
+    ensures { λ r. ⌜ r ≡ answered BatchAppended.Refused (BatchAppended.Refused Refusal.LogFull) (headingRefusal (now (body .entry))) ⌝ }
 {
     match mvcc::heading_refusal(body) {
-        2 => BatchAppended::Short,
-        3 => BatchAppended::Magic,
-        _ => BatchAppended::LogFull,
-    }
-}
-
-fn refused(k: Refusal) -> BatchAppended
-    ensures { λ r. ⌜ r ≡ refusedAs k ⌝ }
-{
-    match k {
-        Refusal::Truncated => BatchAppended::Truncated,
-        Refusal::Tag => BatchAppended::Tag,
-        Refusal::Text => BatchAppended::Text,
+        HeadingJudged::Fine => BatchAppended::Refused(Refusal::LogFull),
+        HeadingJudged::Refused(row) => BatchAppended::Refused(row),
     }
 }
 
@@ -51,13 +36,13 @@ pub fn append_mvcc_batch(log: &mut [u8], wal: Wal, body: &[u8]) -> BatchAppended
     ensures { λ r. ⌜ (r ≡ batchAnswer (now (log .entry)) wal (now (body .entry))) × (now (log .exit) ≡ batchAfter (now (log .entry)) wal (now (body .entry))) ⌝ }
 {
     if log.len() != WAL_AREA {
-        return BatchAppended::Area;
+        return BatchAppended::Refused(Refusal::Area);
     }
     if WAL_AREA < wal.len {
-        return BatchAppended::Area;
+        return BatchAppended::Refused(Refusal::Area);
     }
     if PAGE_SIZE < body.len() {
-        return BatchAppended::Area;
+        return BatchAppended::Refused(Refusal::Area);
     }
     if WAL_AREA - wal.len < FRAME_SIZE {
         return full(body);
@@ -66,10 +51,7 @@ pub fn append_mvcc_batch(log: &mut [u8], wal: Wal, body: &[u8]) -> BatchAppended
     let to = wal.len + FRAME_SIZE;
     match mvcc_canonical::canonicalize(body, &mut log[from..to]) {
         Canonical::Done => {}
-        Canonical::Area => return BatchAppended::Area,
-        Canonical::Short => return BatchAppended::Short,
-        Canonical::Magic => return BatchAppended::Magic,
-        Canonical::Refused(k) => return refused(k),
+        Canonical::Refused(row) => return BatchAppended::Refused(row),
     }
     let header = wal.header;
     frame::write_frame_header(log, wal.len, MVCC_FRAME_MARKER, 0, header.salt);

@@ -3,7 +3,7 @@ use crate::args::{Args, Known, number};
 use crate::batch_text;
 use crate::failure::Failure;
 use crate::help::{HELP, about};
-use crate::writing::{Commit, Fold, OPENING, Opening, carry_out};
+use crate::writing::{Checkpoint, Commit, OPENING, Opening, execute};
 use lateenbael::sys::{LOG_AREA, PAGE_SIZE};
 use lateenbael::{BatchBuilder, Error, Files, Log, Mode, Store, salts_of_the_clock, wal_path_for};
 use std::fmt::Write;
@@ -42,7 +42,7 @@ pub fn run(words: &[String]) -> Answer {
         "read" => read(&args(NO_OPTIONS)?),
         "commit" => commit(&args(COMMIT_OPTIONS)?),
         "append" => append(&args(OPENING)?),
-        "fold" => fold(&args(OPENING)?),
+        "checkpoint" | "fold" => checkpoint(&args(OPENING)?),
         other => Err(Failure::Usage(format!("{other} is no command"))),
     }
 }
@@ -59,7 +59,11 @@ fn help(words: &[String]) -> Answer {
 fn create(args: &Args) -> Answer {
     let [path] = args.words("create STORE [--over]")?;
     let file = Path::new(path);
-    let files = if args.has("over") { Files::over(file) } else { Files::fresh(file) };
+    let files = if args.has("over") {
+        Files::overwriting(file)
+    } else {
+        Files::fresh(file)
+    };
     let store = Store::create_on(files.map_err(|e| Failure::file(path, e))?, salts_of_the_clock())?;
     Ok(format!("created; pages: {}\n", store.header()?.page_count).into_bytes())
 }
@@ -110,12 +114,14 @@ fn check(args: &Args) -> Answer {
             let _ = writeln!(lines, "page {page} is nowhere");
         }
     }
-    lines += &store.log()?.map_or("tail: none, there is no log\n".to_string(), |log| tail(&log));
+    lines += &store
+        .log()?
+        .map_or("tail: none, there is no log\n".to_string(), |log| uncommitted(&log));
     Ok(lines.into_bytes())
 }
 
-/// What lies behind the commit point.
-fn tail(log: &Log) -> String {
+/// What lies behind the commit point: document 01's tail.
+fn uncommitted(log: &Log) -> String {
     let bytes = log.file_len() - log.commit_point();
     if bytes == 0 {
         return "tail: none\n".to_string();
@@ -175,7 +181,7 @@ fn read(args: &Args) -> Answer {
 
 fn commit(args: &Args) -> Answer {
     let (path, pages) = args.first_and_rest("commit STORE [OPTION]... [PAGE=FILE]...")?;
-    let work = Commit {
+    let operation = Commit {
         count: args.number("count")?,
         root: args.number("root")?,
         version: args.number("version")?,
@@ -184,28 +190,28 @@ fn commit(args: &Args) -> Answer {
         pages: pages.iter().map(|word| page_of(word)).collect::<Result<_, Failure>>()?,
         batches: batches_of(args.all("batch"))?,
     };
-    carry_out(path, &Opening::of(args)?, &work)
+    execute(path, &Opening::of(args)?, &operation)
 }
 
 fn append(args: &Args) -> Answer {
     let (path, files) = args.first_and_rest("append STORE FILE...")?;
-    let work = Commit {
+    let operation = Commit {
         clock: args.number("clock")?,
         batches: batches_of(files.iter().map(String::as_str))?,
         ..Commit::default()
     };
-    if work.batches.is_empty() {
+    if operation.batches.is_empty() {
         return Err(Failure::Usage("no batch to append".to_string()));
     }
-    carry_out(path, &Opening::of(args)?, &work)
+    execute(path, &Opening::of(args)?, &operation)
 }
 
-fn fold(args: &Args) -> Answer {
-    let [path] = args.words("fold STORE")?;
-    let work = Fold {
+fn checkpoint(args: &Args) -> Answer {
+    let [path] = args.words("checkpoint STORE")?;
+    let operation = Checkpoint {
         clock: args.number("clock")?,
     };
-    carry_out(path, &Opening::of(args)?, &work)
+    execute(path, &Opening::of(args)?, &operation)
 }
 
 /// `PAGE=FILE`, with the file's bytes: one more than a page has if it goes on.

@@ -11,10 +11,10 @@ lateenbael looks after a store of pages of 4,096 bytes on two files, STORE and S
   lateenbael read STORE PAGE OUTFILE         writes a page to a new file, or to standard output (-)
   lateenbael commit STORE [PAGE=FILE]...     stages pages from files and commits them
   lateenbael append STORE FILE...            appends batches from text, and seals them by a commit
-  lateenbael fold STORE                      folds the log into the main file
+  lateenbael checkpoint STORE                writes the log's pages to the main file and empties it; also called fold
   lateenbael help [COMMAND]                  this, or more about a command
 
-create, commit, append and fold write; the others open read-only and alter nothing.
+create, commit, append and checkpoint write; the others open read-only and alter nothing.
 Before anything is written, the calls are tried out in memory: a refused one alters no file.
 Exit status: 0 done; 1 refused, with the refusal's number and name, or the disk failed; 2 not understood.
 ";
@@ -85,14 +85,14 @@ Stages each FILE, of 4,096 bytes, as that page and commits them.
 
   --count N      the new page count; without it the present one, or as many as the pages given need
   --root N       the new schema root page; --version N the new format version; --freelist N the new freelist head
-  --clock N      raises the clock; it reaches the log's header with the next fold
+  --clock N      raises the clock; it reaches the log's header with the next checkpoint
   --batch FILE   appends a file's batches before the commit, which seals them
   --plain        opens as the Rust does: an unsealed tail of the log stays, and this commit takes it in
   --cut-after-bytes N
                  for trying out: stops the disk after N bytes of the commit and exits as if the power had gone (a new length counts
                  as 1 byte, and a file's first 32 bytes are stored together or not at all)
 
-A commit that brings the log to 100 frames also folds it, and sealed batches go with the log.
+A commit that brings the log to 100 frames is followed by a checkpoint, and sealed batches go with the log.
 ";
 
 const APPEND: &str = "\
@@ -102,8 +102,8 @@ Appends the batches of text files, in the form that lateenbael help batches tell
 FILE - is standard input. The options are those of commit.
 ";
 
-const FOLD: &str = "\
-lateenbael fold STORE [--plain] [--clock N] [--cut-after-bytes N]
+const CHECKPOINT: &str = "\
+lateenbael checkpoint STORE [--plain] [--clock N] [--cut-after-bytes N]
 
 Writes the log's pages to the main file and empties the log; its batches go with it. The options are those of commit.
 ";
@@ -119,7 +119,7 @@ pub fn about(command: &str) -> Option<&'static str> {
         "read" => READ,
         "commit" => COMMIT,
         "append" => APPEND,
-        "fold" => FOLD,
+        "checkpoint" | "fold" => CHECKPOINT,
         "help" => HELP,
         _ => return None,
     })

@@ -1,7 +1,7 @@
-//! The commands that write: each is tried out in memory first, so that a refused one alters no file.
+//! The commands that write: each is a dry run in memory first, so that a refused one alters no file.
 use crate::args::{Args, Known};
 use crate::failure::Failure;
-use lateenbael::{BatchBuilder, Cutting, DbHeader, Disk, Error, Files, Mode, Rehearsal, Store, salts_of_the_clock};
+use lateenbael::{BatchBuilder, DbHeader, Disk, DryRun, Error, Files, Mode, PowerCut, Store, salts_of_the_clock};
 use std::path::Path;
 
 /// The options of every command that opens a store for writing.
@@ -10,37 +10,37 @@ pub const OPENING: Known = Known {
     valued: &["clock", "cut-after-bytes"],
 };
 
-/// How the store is opened, and when its power is cut.
+/// How the store is opened, and after how many bytes its power is cut.
 pub struct Opening {
     mode: Mode,
-    cut: Option<u64>,
+    power_cut: Option<u64>,
 }
 
 impl Opening {
     pub fn of(args: &Args) -> Result<Opening, Failure> {
         let mode = if args.has("plain") { Mode::Plain } else { Mode::ReadWrite };
-        let cut = args.number("cut-after-bytes")?;
-        Ok(Opening { mode, cut })
+        let power_cut = args.number("cut-after-bytes")?;
+        Ok(Opening { mode, power_cut })
     }
 }
 
-/// Calls on an open store, and what is said of them.
-pub trait Work {
+/// Calls on an open store, and the line that reports them.
+pub trait Operation {
     fn run<D: Disk>(&self, store: &mut Store<D>) -> Result<String, Error>;
 }
 
-/// Tries the work out, then does it.
-pub fn carry_out(path: &str, opening: &Opening, work: &impl Work) -> Result<Vec<u8>, Failure> {
+/// Does the operation on a dry run, then on the files.
+pub fn execute(path: &str, opening: &Opening, operation: &impl Operation) -> Result<Vec<u8>, Failure> {
     let file = Path::new(path);
     let unusable = |error| Failure::file(path, error);
-    let trial = Rehearsal::of(file).map_err(unusable)?;
-    work.run(&mut Store::open_on(trial, opening.mode, salts_of_the_clock())?)?;
-    let disk = Cutting::new(Files::existing(file, false).map_err(unusable)?);
+    let dry_run = DryRun::of(file).map_err(unusable)?;
+    operation.run(&mut Store::open_on(dry_run, opening.mode, salts_of_the_clock())?)?;
+    let disk = PowerCut::new(Files::existing(file, false).map_err(unusable)?);
     let mut store = Store::open_on(disk, opening.mode, salts_of_the_clock())?;
-    if let Some(bytes) = opening.cut {
+    if let Some(bytes) = opening.power_cut {
         store.disk_mut().arm(bytes);
     }
-    Ok(work.run(&mut store)?.into_bytes())
+    Ok(operation.run(&mut store)?.into_bytes())
 }
 
 /// A commit: what of the header is given, pages to stage and batches to append.
@@ -67,19 +67,19 @@ impl Commit {
         }
     }
 
-    fn said(&self, written: usize, folded: bool) -> String {
-        let mut said = format!("committed; pages that differed: {written}");
+    fn report(&self, written: usize, checkpointed: bool) -> String {
+        let mut report = format!("committed; pages that differed: {written}");
         if !self.batches.is_empty() {
-            said += &format!("; batches sealed: {}", self.batches.len());
+            report += &format!("; batches sealed: {}", self.batches.len());
         }
-        if folded {
-            said += "; the log was folded, and its batches are gone";
+        if checkpointed {
+            report += "; the log was folded, and its batches are gone";
         }
-        said + "\n"
+        report + "\n"
     }
 }
 
-impl Work for Commit {
+impl Operation for Commit {
     fn run<D: Disk>(&self, store: &mut Store<D>) -> Result<String, Error> {
         raise_clock(store, self.clock)?;
         for (page, bytes) in &self.pages {
@@ -90,16 +90,16 @@ impl Work for Commit {
         }
         let sequence = store.wal_header()?.checkpoint_seq;
         let written = store.commit(self.header(store.header()?))?;
-        Ok(self.said(written, store.wal_header()?.checkpoint_seq != sequence))
+        Ok(self.report(written, store.wal_header()?.checkpoint_seq != sequence))
     }
 }
 
-/// A fold.
-pub struct Fold {
+/// A checkpoint: document 01's fold.
+pub struct Checkpoint {
     pub clock: Option<u64>,
 }
 
-impl Work for Fold {
+impl Operation for Checkpoint {
     fn run<D: Disk>(&self, store: &mut Store<D>) -> Result<String, Error> {
         raise_clock(store, self.clock)?;
         let written = store.checkpoint()?;

@@ -8,43 +8,43 @@ use std::path::{Path, PathBuf};
 use std::process::{Command, Output};
 
 /// A folder of its own, in which the program runs.
-struct Desk(Folder);
+struct WorkDir(Folder);
 
 /// What a call printed, and its exit status.
-struct Said {
+struct Printed {
     out: String,
     err: String,
     status: i32,
 }
 
-impl Desk {
-    fn new() -> Desk {
-        Desk(Folder::new())
+impl WorkDir {
+    fn new() -> WorkDir {
+        WorkDir(Folder::new())
     }
 
-    /// A desk with a store of 7 pages and files of pages beside it.
-    fn with_store() -> Desk {
-        let desk = Desk::new();
+    /// One with a store of 7 pages and files of pages beside it.
+    fn with_store() -> WorkDir {
+        let dir = WorkDir::new();
         for n in 1..=9 {
-            fs::write(desk.path(&format!("p{n}")), [n; 4096]).unwrap();
+            fs::write(dir.path(&format!("p{n}")), [n; 4096]).unwrap();
         }
-        desk.done("create grips");
-        desk.done("commit grips 2=p2 3=p3 4=p4 5=p5 6=p6");
-        desk
+        dir.done("create grips");
+        dir.done("commit grips 2=p2 3=p3 4=p4 5=p5 6=p6");
+        dir
     }
 
     fn path(&self, name: &str) -> PathBuf {
         self.0.0.join(name)
     }
 
-    fn call(&self, line: &str) -> Said {
+    fn call(&self, line: &str) -> Printed {
         let words = line.split_whitespace();
         let Output { stdout, stderr, status } = Command::new(env!("CARGO_BIN_EXE_lateenbael"))
             .current_dir(&self.0.0)
             .args(words)
             .output()
             .unwrap();
-        Said {
+        Printed {
             out: String::from_utf8_lossy(&stdout).into_owned(),
             err: String::from_utf8(stderr).unwrap(),
             status: status.code().unwrap(),
@@ -53,20 +53,20 @@ impl Desk {
 
     /// A call that must work: what it printed.
     fn done(&self, line: &str) -> String {
-        let said = self.call(line);
-        assert_eq!((said.status, said.err.as_str()), (0, ""), "{line}");
-        said.out
+        let printed = self.call(line);
+        assert_eq!((printed.status, printed.err.as_str()), (0, ""), "{line}");
+        printed.out
     }
 
     /// A call that must fail with a status and a message, and alter no file.
     fn fails(&self, line: &str, status: i32, message: &str) {
         let before = self.files();
-        let said = self.call(line);
-        assert_eq!((said.status, said.out.as_str()), (status, ""), "{line}");
+        let printed = self.call(line);
+        assert_eq!((printed.status, printed.out.as_str()), (status, ""), "{line}");
         assert!(
-            said.err.starts_with("lateenbael: ") && said.err.contains(message),
+            printed.err.starts_with("lateenbael: ") && printed.err.contains(message),
             "{line}: {}",
-            said.err
+            printed.err
         );
         assert!(self.files() == before, "{line} altered a file");
     }
@@ -109,20 +109,38 @@ fn damage(path: &Path, at: usize, byte: u8) {
 
 #[test]
 fn help_names_every_command() {
-    let desk = Desk::new();
-    let help = desk.done("--help");
-    assert_eq!(desk.done("help"), help);
-    for command in ["create", "info", "check", "log", "batches", "read", "commit", "append", "fold"] {
+    let dir = WorkDir::new();
+    let help = dir.done("--help");
+    assert_eq!(dir.done("help"), help);
+    for command in [
+        "create",
+        "info",
+        "check",
+        "log",
+        "batches",
+        "read",
+        "commit",
+        "append",
+        "checkpoint",
+    ] {
         assert!(help.contains(&format!("  lateenbael {command} ")), "{command}");
-        let more = desk.done(&format!("help {command}"));
+        let more = dir.done(&format!("help {command}"));
         assert!(more.starts_with(&format!("lateenbael {command} ")), "{command}");
-        assert_eq!(desk.done(&format!("{command} --help")), more);
+        assert_eq!(dir.done(&format!("{command} --help")), more);
     }
 }
 
 #[test]
+fn fold_is_another_name_of_checkpoint() {
+    let dir = WorkDir::with_store();
+    assert_eq!(dir.done("help fold"), dir.done("help checkpoint"));
+    assert_eq!(dir.done("fold grips"), "folded; pages written: 5\n");
+    assert_eq!(dir.done("checkpoint grips"), "folded; pages written: 0\n");
+}
+
+#[test]
 fn what_is_not_understood_is_status_2() {
-    let desk = Desk::with_store();
+    let dir = WorkDir::with_store();
     let table = [
         ("", "no command"),
         ("lift grips", "lift is no command"),
@@ -138,18 +156,18 @@ fn what_is_not_understood_is_status_2() {
         ("commit grips --count=-1", "\"-1\" is no number"),
         ("commit grips --version 70000", "no number that fits"),
         ("append grips", "no batch to append"),
-        ("fold grips --cut-after-bytes many", "\"many\" is no number"),
+        ("checkpoint grips --cut-after-bytes many", "\"many\" is no number"),
     ];
     for (line, message) in table {
-        desk.fails(line, 2, message);
+        dir.fails(line, 2, message);
     }
 }
 
 #[test]
 fn refusals_are_status_1_by_number_and_name() {
-    let desk = Desk::with_store();
-    desk.text("short", "not a page");
-    fs::write(desk.path("long"), [0; 4097]).unwrap();
+    let dir = WorkDir::with_store();
+    dir.text("short", "not a page");
+    fs::write(dir.path("long"), [0; 4097]).unwrap();
     let table = [
         ("create grips", "grips is there already"),
         ("commit grips 2=short", "refused 1 Area: "),
@@ -167,17 +185,17 @@ fn refusals_are_status_1_by_number_and_name() {
         ("read grips 1 p1", "p1: "),
         ("read none 1 out", "none: "),
         ("log none", "none-wal: "),
-        ("fold none", "none: "),
+        ("checkpoint none", "none: "),
     ];
     for (line, message) in table {
-        desk.fails(line, 1, message);
+        dir.fails(line, 1, message);
     }
 }
 
 #[test]
 fn a_damaged_store_is_refused_by_every_command() {
-    let desk = Desk::with_store();
-    let main = desk.path("grips");
+    let dir = WorkDir::with_store();
+    let main = dir.path("grips");
     damage(&main, 16, 9);
     let commands = [
         "info grips",
@@ -185,45 +203,45 @@ fn a_damaged_store_is_refused_by_every_command() {
         "batches grips",
         "read grips 1 out",
         "commit grips 1=p1",
-        "fold grips",
+        "checkpoint grips",
     ];
     for line in commands {
-        desk.fails(line, 1, "refused 4 Version: ");
+        dir.fails(line, 1, "refused 4 Version: ");
     }
     damage(&main, 16, 4);
-    desk.shows("check grips");
-    damage(&desk.path("grips-wal"), 0, 0);
+    dir.shows("check grips");
+    damage(&dir.path("grips-wal"), 0, 0);
     for line in commands.iter().chain(&["log grips"]) {
-        desk.fails(line, 1, "refused 3 Magic: ");
+        dir.fails(line, 1, "refused 3 Magic: ");
     }
 }
 
 #[test]
-fn a_refused_commit_leaves_even_the_tail() {
-    let desk = Desk::with_store();
-    assert_eq!(desk.call("commit grips 5=p9 --cut-after-bytes 5000").status, 1);
-    desk.fails("commit grips 1=p2 --count 0", 1, "refused 13");
-    assert!(desk.shows("check grips").contains("tail: 5000 bytes"));
-    fs::remove_file(desk.path("grips-wal")).unwrap();
-    desk.fails("commit grips 1=p2 --count 0", 1, "refused 13");
-    assert!(desk.shows("info grips").contains("there is no log"));
+fn a_refused_commit_leaves_even_uncommitted_frames() {
+    let dir = WorkDir::with_store();
+    assert_eq!(dir.call("commit grips 5=p9 --cut-after-bytes 5000").status, 1);
+    dir.fails("commit grips 1=p2 --count 0", 1, "refused 13");
+    assert!(dir.shows("check grips").contains("tail: 5000 bytes"));
+    fs::remove_file(dir.path("grips-wal")).unwrap();
+    dir.fails("commit grips 1=p2 --count 0", 1, "refused 13");
+    assert!(dir.shows("info grips").contains("there is no log"));
 }
 
 #[test]
-fn commits_and_folds_are_read_back() {
-    let desk = Desk::with_store();
+fn commits_and_checkpoints_are_read_back() {
+    let dir = WorkDir::with_store();
     assert_eq!(
-        desk.done("commit grips 1=p1 2=p2 3=p9 --root 3 --version 5 --freelist 4"),
+        dir.done("commit grips 1=p1 2=p2 3=p9 --root 3 --version 5 --freelist 4"),
         "committed; pages that differed: 2\n"
     );
     for (n, byte) in [(1, 1), (2, 2), (3, 9), (6, 6)] {
-        assert_eq!(desk.page(n), [byte; 4096]);
+        assert_eq!(dir.page(n), [byte; 4096]);
     }
-    assert_eq!(desk.done("fold grips --clock 77"), "folded; pages written: 6\n");
-    assert_eq!(desk.page(3), [9; 4096]);
-    assert_eq!(desk.done("commit grips --count 4"), "committed; pages that differed: 0\n");
-    desk.fails("read grips 5 out2", 1, "page 5 is nowhere");
-    let info = desk.shows("info grips");
+    assert_eq!(dir.done("checkpoint grips --clock 77"), "folded; pages written: 6\n");
+    assert_eq!(dir.page(3), [9; 4096]);
+    assert_eq!(dir.done("commit grips --count 4"), "committed; pages that differed: 0\n");
+    dir.fails("read grips 5 out2", 1, "page 5 is nowhere");
+    let info = dir.shows("info grips");
     for line in [
         "page count     4",
         "schema root    3",
@@ -246,29 +264,29 @@ fn commits_and_folds_are_read_back() {
 }
 
 #[test]
-fn the_hundredth_frame_folds_and_says_so() {
-    let desk = Desk::with_store();
-    desk.text("batch", "batch 1\n");
+fn the_hundredth_frame_brings_a_checkpoint_and_is_reported() {
+    let dir = WorkDir::with_store();
+    dir.text("batch", "batch 1\n");
     for n in 0..46 {
         let page = 1 + n % 2;
-        assert_eq!(desk.done(&format!("commit grips 1=p{page}")), "committed; pages that differed: 1\n");
+        assert_eq!(dir.done(&format!("commit grips 1=p{page}")), "committed; pages that differed: 1\n");
     }
-    assert!(desk.shows("info grips").contains("frames         98\n"));
-    let said = desk.done("append grips batch");
+    assert!(dir.shows("info grips").contains("frames         98\n"));
+    let printed = dir.done("append grips batch");
     assert_eq!(
-        said,
+        printed,
         "committed; pages that differed: 0; batches sealed: 1; the log was folded, and its batches are gone\n"
     );
-    assert_eq!(desk.shows("batches grips"), "");
+    assert_eq!(dir.shows("batches grips"), "");
 }
 
 #[test]
 fn the_log_is_listed_whatever_its_length() {
-    let desk = Desk::with_store();
+    let dir = WorkDir::with_store();
     for n in 0..10 {
-        desk.done(&format!("commit grips 1=p{}", 1 + n % 2));
+        dir.done(&format!("commit grips 1=p{}", 1 + n % 2));
     }
-    let listing = desk.shows("log grips");
+    let listing = dir.shows("log grips");
     let lines: Vec<&str> = listing.lines().collect();
     assert_eq!(lines.len(), 28);
     assert!(lines[0].starts_with("log 3 ") && lines[0].ends_with(" 0 0"));
@@ -278,26 +296,26 @@ fn the_log_is_listed_whatever_its_length() {
 }
 
 #[test]
-fn a_cut_commit_leaves_no_phantom() {
+fn a_cut_commit_leaves_no_trace() {
     for (plain, byte) in [("", 5), ("--plain", 9)] {
-        let desk = Desk::with_store();
-        let said = desk.call("commit grips 5=p9 --cut-after-bytes 4112");
+        let dir = WorkDir::with_store();
+        let printed = dir.call("commit grips 5=p9 --cut-after-bytes 4112");
         assert_eq!(
-            (said.status, said.err.as_str()),
+            (printed.status, printed.err.as_str()),
             (1, "lateenbael: the disk failed: the power was cut\n")
         );
-        let tail = desk.shows("check grips");
-        assert!(tail.contains("tail: frame 6 is good and unsealed: page 5\n"), "{tail}");
-        assert_eq!(desk.page(5), [5; 4096]);
-        desk.done(&format!("commit grips 3=p1 {plain}"));
-        assert_eq!(desk.page(5), [byte; 4096]);
-        assert!(desk.shows("check grips").contains("tail: none\n"));
+        let found = dir.shows("check grips");
+        assert!(found.contains("tail: frame 6 is good and unsealed: page 5\n"), "{found}");
+        assert_eq!(dir.page(5), [5; 4096]);
+        dir.done(&format!("commit grips 3=p1 {plain}"));
+        assert_eq!(dir.page(5), [byte; 4096]);
+        assert!(dir.shows("check grips").contains("tail: none\n"));
     }
 }
 
 #[test]
 fn batches_go_round() {
-    let desk = Desk::with_store();
+    let dir = WorkDir::with_store();
     let text = r#"batch 18446744073709551615
 tombstone "cabins" -9223372036854775808
 present "" 7
@@ -317,39 +335,39 @@ present "Kabinen \"grün\" # \\ \n\t\r\u{0}\u{7f}" 8
   column "none" vector
 batch 0
 "#;
-    desk.text("first", text);
+    dir.text("first", text);
     assert_eq!(
-        desk.done("append grips first"),
+        dir.done("append grips first"),
         "committed; pages that differed: 0; batches sealed: 2\n"
     );
-    assert_eq!(desk.shows("batches grips"), text);
-    desk.done("create other");
-    desk.text("again", &desk.shows("batches grips"));
-    desk.done("commit other --batch again 1=p1");
-    let bodies = |log: &str| fs::read(desk.path(log)).unwrap();
+    assert_eq!(dir.shows("batches grips"), text);
+    dir.done("create other");
+    dir.text("again", &dir.shows("batches grips"));
+    dir.done("commit other --batch again 1=p1");
+    let bodies = |log: &str| fs::read(dir.path(log)).unwrap();
     let (one, two) = (bodies("grips-wal"), bodies("other-wal"));
     assert_eq!(one[32 + 6 * 4112 + 16..][..4096], two[32 + 16..][..4096]);
-    assert_eq!(desk.shows("log other").lines().nth(1), Some("0 batch 3 0"));
-    assert_eq!(desk.shows("batches other"), text);
+    assert_eq!(dir.shows("log other").lines().nth(1), Some("0 batch 3 0"));
+    assert_eq!(dir.shows("batches other"), text);
 }
 
 #[test]
 fn other_writings_of_a_batch_are_read() {
-    let desk = Desk::with_store();
-    desk.text(
+    let dir = WorkDir::with_store();
+    dir.text(
         "loose",
         "# a comment\n\n  batch 3 # time\n\tpresent\"t\"1\ncolumn \"r\" real 5\ncolumn \"b\" real 0x3FF0000000000000\n",
     );
-    desk.done("append grips loose");
+    dir.done("append grips loose");
     assert_eq!(
-        desk.shows("batches grips"),
+        dir.shows("batches grips"),
         "batch 3\npresent \"t\" 1\n  column \"r\" real 5.0\n  column \"b\" real 1.0\n"
     );
 }
 
 #[test]
 fn unclear_batches_are_status_2_and_refused_ones_1() {
-    let desk = Desk::with_store();
+    let dir = WorkDir::with_store();
     let long = format!("batch 1\ntombstone \"{}\" 1\n", "t".repeat(5000));
     let table = [
         ("tombstone \"t\" 1\n", 2, "text, line 1: no batch has begun"),
@@ -374,73 +392,73 @@ fn unclear_batches_are_status_2_and_refused_ones_1() {
         (&long, 1, "text, line 2: refused 20 Fit: "),
     ];
     for (text, status, message) in table {
-        desk.text("text", text);
-        desk.fails("append grips text", status, message);
+        dir.text("text", text);
+        dir.fails("append grips text", status, message);
     }
 }
 
 #[test]
 fn creation_can_write_over() {
-    let desk = Desk::with_store();
-    desk.fails("create grips", 1, "is there already");
-    assert_eq!(desk.done("create grips --over"), "created; pages: 2\n");
-    assert_eq!(desk.shows("check grips"), "opens; pages: 2; batches recovered: 0\ntail: none\n");
+    let dir = WorkDir::with_store();
+    dir.fails("create grips", 1, "is there already");
+    assert_eq!(dir.done("create grips --over"), "created; pages: 2\n");
+    assert_eq!(dir.shows("check grips"), "opens; pages: 2; batches recovered: 0\ntail: none\n");
 }
 
 #[test]
 fn a_full_disk_stops_a_commit_and_loses_nothing() {
-    let desk = Desk::with_store();
+    let dir = WorkDir::with_store();
     // Files may have 28 KiB: the log, of 24,704 bytes, has no room for another frame.
     let line = format!(
         "trap '' XFSZ; ulimit -f 28; exec {} commit grips 5=p9 3=p9",
         env!("CARGO_BIN_EXE_lateenbael")
     );
-    let Output { stderr, status, .. } = Command::new("bash").current_dir(&desk.0.0).args(["-c", &line]).output().unwrap();
-    let said = String::from_utf8(stderr).unwrap();
+    let Output { stderr, status, .. } = Command::new("bash").current_dir(&dir.0.0).args(["-c", &line]).output().unwrap();
+    let printed = String::from_utf8(stderr).unwrap();
     assert!(
-        status.code() == Some(1) && said.starts_with("lateenbael: the disk failed: "),
-        "{said}"
+        status.code() == Some(1) && printed.starts_with("lateenbael: the disk failed: "),
+        "{printed}"
     );
-    assert!(desk.shows("check grips").contains("tail: 3968 bytes are no good frame\n"));
-    assert_eq!(desk.page(5), [5; 4096]);
-    desk.done("commit grips 3=p9");
-    assert_eq!((desk.page(3), desk.page(5)), (vec![9; 4096], vec![5; 4096]));
+    assert!(dir.shows("check grips").contains("tail: 3968 bytes are no good frame\n"));
+    assert_eq!(dir.page(5), [5; 4096]);
+    dir.done("commit grips 3=p9");
+    assert_eq!((dir.page(3), dir.page(5)), (vec![9; 4096], vec![5; 4096]));
 }
 
 #[test]
 fn a_store_in_use_is_left_alone() {
-    let desk = Desk::with_store();
-    let store = lateenbael::Store::open(desk.path("grips"), lateenbael::Mode::Plain).unwrap();
-    for line in ["info grips", "commit grips 1=p1", "fold grips", "create grips --over"] {
-        desk.fails(line, 1, "grips: another program has the store open");
+    let dir = WorkDir::with_store();
+    let store = lateenbael::Store::open(dir.path("grips"), lateenbael::Mode::Plain).unwrap();
+    for line in ["info grips", "commit grips 1=p1", "checkpoint grips", "create grips --over"] {
+        dir.fails(line, 1, "grips: another program has the store open");
     }
     drop(store);
     // A program that another test has just started shares this one's lock until it runs on its own.
     let mut tries = 0;
-    while desk.call("info grips").status != 0 && tries < 100 {
+    while dir.call("info grips").status != 0 && tries < 100 {
         std::thread::sleep(std::time::Duration::from_millis(10));
         tries += 1;
     }
-    desk.shows("info grips");
+    dir.shows("info grips");
 }
 
 #[test]
 fn a_page_goes_to_standard_output() {
-    let desk = Desk::with_store();
-    assert_eq!(desk.shows("read grips 5 -").as_bytes(), [5; 4096]);
+    let dir = WorkDir::with_store();
+    assert_eq!(dir.shows("read grips 5 -").as_bytes(), [5; 4096]);
 }
 
 #[test]
 fn a_foreign_store_may_lack_pages() {
-    let desk = Desk::with_store();
-    desk.done("fold grips");
-    let main = desk.path("grips");
+    let dir = WorkDir::with_store();
+    dir.done("checkpoint grips");
+    let main = dir.path("grips");
     fs::write(&main, &fs::read(&main).unwrap()[..8192]).unwrap();
     damage(&main, 20, 2);
-    desk.done("commit grips 6=p6 --count 2");
-    let log = desk.path("grips-wal");
+    dir.done("commit grips 6=p6 --count 2");
+    let log = dir.path("grips-wal");
     let mut bytes = fs::read(&log).unwrap();
-    // The seal's page 0 goes, and page 6 seals with count 7 instead: its sum changes by what the count adds.
+    // The commit frame, of page 0, goes, and page 6 is one with count 7 instead: its sum changes by what the count adds.
     bytes.truncate(32 + 4112);
     bytes[36] = 7;
     let sum = bytes[32..44]
@@ -449,6 +467,6 @@ fn a_foreign_store_may_lack_pages() {
         .fold(0u32, |sum, b| sum.rotate_left(1).wrapping_add((*b).into()));
     bytes[44..48].copy_from_slice(&sum.to_le_bytes());
     fs::write(&log, bytes).unwrap();
-    let said = desk.shows("check grips");
-    assert_eq!(said.lines().filter(|line| line.ends_with("is nowhere")).count(), 4, "{said}");
+    let printed = dir.shows("check grips");
+    assert_eq!(printed.lines().filter(|line| line.ends_with("is nowhere")).count(), 4, "{printed}");
 }

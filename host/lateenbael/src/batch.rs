@@ -83,7 +83,7 @@ impl<'a> Batch<'a> {
     /// Refusals 2, 3 and 17 to 19.
     pub fn decode(body: &'a [u8]) -> Result<Batch<'a>, Refusal> {
         let numbers = unsafe { sys::lateenbael_mvcc_decode(body.as_ptr(), body.len()) };
-        Refusal::judge(numbers.refusal)?;
+        Refusal::check(numbers.refusal)?;
         Ok(Batch { body, numbers })
     }
 
@@ -105,7 +105,7 @@ impl<'a> Batch<'a> {
         let mut at = FIRST_RECORD;
         (0..self.numbers.records).map_while(move |_| {
             let record = unsafe { sys::lateenbael_mvcc_decode_record(body.as_ptr(), body.len(), at) };
-            Refusal::judge(record.refusal).ok()?;
+            Refusal::check(record.refusal).ok()?;
             at = record.next;
             let (first, left) = (record.first, record.count);
             Some(Record {
@@ -123,7 +123,7 @@ impl<'a> Iterator for Columns<'a> {
     fn next(&mut self) -> Option<Column<'a>> {
         self.left = self.left.checked_sub(1)?;
         let column = unsafe { sys::lateenbael_mvcc_decode_column(self.body.as_ptr(), self.body.len(), self.at) };
-        Refusal::judge(column.refusal).ok()?;
+        Refusal::check(column.refusal).ok()?;
         self.at = column.next;
         Some(Column {
             name: text_at(self.body, column.name),
@@ -154,7 +154,7 @@ impl BatchBuilder {
     }
 
     fn take(&mut self, building: sys::Building) -> Result<(), Refusal> {
-        Refusal::judge(building.refusal)?;
+        Refusal::check(building.refusal)?;
         self.building = building;
         Ok(())
     }

@@ -13,10 +13,10 @@ pub trait Disk {
     fn read(&mut self, area: Area, buffer: &mut [u8]) -> io::Result<Option<usize>>;
     /// Makes the file empty; makes it if it isn't there.
     fn create(&mut self, area: Area) -> io::Result<()>;
-    /// Stores bytes; what is stored past the end lengthens the file.
+    /// Writes bytes; what is written past the end lengthens the file.
     fn write_at(&mut self, area: Area, at: usize, bytes: &[u8]) -> io::Result<()>;
     fn set_len(&mut self, area: Area, len: usize) -> io::Result<()>;
-    /// Returns when everything stored in the file so far, its length too, will outlast a power cut.
+    /// Returns when everything written to the file so far, its length too, will outlast a power cut.
     fn sync(&mut self, area: Area) -> io::Result<()>;
 }
 
@@ -32,7 +32,8 @@ pub struct Files {
     main_path: PathBuf,
     main: File,
     log: Option<File>,
-    /// How long each file is, where that is known: a fold that leaves the main file's length as it was then makes no system call for it.
+    /// How long each file is, where that is known: a checkpoint that leaves the main file's length as it was then makes no system call for
+    /// it.
     lengths: [Option<usize>; 2],
 }
 
@@ -45,10 +46,10 @@ impl Files {
             Err(error) if error.kind() == io::ErrorKind::NotFound => None,
             found => Some(found?),
         };
-        Ok(Files::over_these(path, main, log))
+        Ok(Files::of_parts(path, main, log))
     }
 
-    fn over_these(path: &Path, main: File, log: Option<File>) -> Files {
+    fn of_parts(path: &Path, main: File, log: Option<File>) -> Files {
         Files {
             main_path: path.to_path_buf(),
             main,
@@ -65,20 +66,20 @@ impl Files {
                 return Err(io::Error::new(io::ErrorKind::AlreadyExists, why));
             }
         }
-        Files::made(path, OpenOptions::new().read(true).write(true).create_new(true))
+        Files::create_with(path, OpenOptions::new().read(true).write(true).create_new(true))
     }
 
     /// Two files to be written anew, whatever they hold; nothing is written yet.
-    pub fn over(path: &Path) -> io::Result<Files> {
-        Files::made(path, OpenOptions::new().read(true).write(true).create(true))
+    pub fn overwriting(path: &Path) -> io::Result<Files> {
+        Files::create_with(path, OpenOptions::new().read(true).write(true).create(true))
     }
 
-    fn made(path: &Path, options: &OpenOptions) -> io::Result<Files> {
+    fn create_with(path: &Path, options: &OpenOptions) -> io::Result<Files> {
         let main = options.open(path)?;
         lock(&main, false)?;
         let log = Some(options.open(wal_path_for(path))?);
         sync_folder(path)?;
-        Ok(Files::over_these(path, main, log))
+        Ok(Files::of_parts(path, main, log))
     }
 
     fn file(&self, area: Area) -> io::Result<&File> {

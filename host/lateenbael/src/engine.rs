@@ -10,16 +10,21 @@ pub enum Area {
     Main,
 }
 
-/// A store to a file as the engine names it: `len` bytes from `at` on, or with `len` 0 the new length `at`; then a flush or none.
+/// A write to a file that the host carries out (document 01's store): `len` bytes from `at` on, or with `len` 0 the new length `at`;
+/// then a flush or none.
 #[derive(Clone, Copy, Debug, PartialEq, Eq)]
-pub struct Named {
+pub struct Write {
     pub area: Area,
     pub at: usize,
     pub len: usize,
     pub flush: bool,
 }
 
-impl Named {
+impl Write {
+    pub const fn new(area: Area, at: usize, len: usize, flush: bool) -> Write {
+        Write { area, at, len, flush }
+    }
+
     /// Whether it sets a length.
     pub fn is_length(self) -> bool {
         self.len == 0
@@ -31,14 +36,14 @@ impl Named {
 pub enum Step {
     /// Nothing was part done.
     Idle,
-    Stored(Named),
-    /// The last store, and the answer of the commit or fold.
-    Last(Named, usize),
+    Stored(Write),
+    /// The last write, and the answer of the commit or checkpoint.
+    Last(Write, usize),
 }
 
-/// A batch's index among the log's frames, and the place of its body.
+/// A recovered batch: its index among the log's frames, and the place of its body.
 #[derive(Clone, Copy, Debug, PartialEq, Eq)]
-pub struct Found {
+pub struct RecoveredBatch {
     pub index: usize,
     pub body: usize,
 }
@@ -74,7 +79,7 @@ const CLOSED: sys::Store = sys::Store {
         good_end: 0,
         last_commit_offset: 0,
         frame_count: 0,
-        sealed: 0,
+        committed: 0,
         last_commit_page_count: 0,
     },
     recovered: 0,
@@ -142,7 +147,7 @@ impl Engine {
             main: area(MAIN_AREA),
             staging: area(STAGING_AREA),
         };
-        engine.judge();
+        engine.check_readable();
         engine
     }
 
@@ -154,22 +159,22 @@ impl Engine {
     /// Puts another store over the areas.
     pub fn set_store(&mut self, store: sys::Store) {
         self.store = store;
-        self.judge();
+        self.check_readable();
     }
 
-    /// Judges whether pages may be read, which no reading does anew. A caller that puts an area of another length in the place of
+    /// Checks whether pages may be read, which no reading does anew. A caller that puts an area of another length in the place of
     /// one calls it too.
-    pub fn judge(&mut self) {
+    pub fn check_readable(&mut self) {
         let store = &self.store;
         let (count, job) = (store.current_header.page_count, store.job.kind);
         let (log_len, main_len) = (store.wal.len, store.storage.len);
         let may_read = sys::lateenbael_may_read;
         self.unreadable = over_areas!(self, as_ptr, may_read, [count, job, log_len, main_len], []);
-        self.end();
+        self.set_read_end();
     }
 
-    /// Says from where on no page is found.
-    fn end(&mut self) {
+    /// Sets from where on no page is found.
+    fn set_read_end(&mut self) {
         let store = &self.store;
         self.read_end = match self.unreadable {
             0 => unsafe { sys::lateenbael_read_end(store.current_header.page_count, store.staged.count) },
@@ -194,9 +199,9 @@ impl Engine {
 
     /// The store after a call that was not refused. It is copied once, where it is kept.
     fn take(&mut self, answered: &sys::Answered) -> Result<(), Refusal> {
-        Refusal::judge(answered.refusal)?;
+        Refusal::check(answered.refusal)?;
         self.store = answered.store;
-        self.judge();
+        self.check_readable();
         Ok(())
     }
 
@@ -249,19 +254,19 @@ impl Engine {
     /// The header that counts.
     pub fn header(&self) -> Result<DbHeader, Refusal> {
         let answer = unsafe { sys::lateenbael_header(self.store) };
-        Refusal::judge(answer.refusal)?;
+        Refusal::check(answer.refusal)?;
         Ok(answer.header)
     }
 
     pub fn is_read_only(&self) -> Result<bool, Refusal> {
         let answer = unsafe { sys::lateenbael_access_mode(self.store) };
-        Refusal::judge(answer.refusal)?;
+        Refusal::check(answer.refusal)?;
         Ok(answer.number != 0)
     }
 
     pub fn clock_high_water(&self) -> Result<u64, Refusal> {
         let answer = unsafe { sys::lateenbael_clock_high_water(self.store) };
-        Refusal::judge(answer.refusal)?;
+        Refusal::check(answer.refusal)?;
         Ok(answer.number)
     }
 
@@ -274,14 +279,14 @@ impl Engine {
     #[inline]
     pub fn read_page(&self, page_num: u32) -> Result<Option<&[u8]>, Refusal> {
         if page_num as usize >= self.read_end {
-            return Refusal::judge(self.unreadable).map(|()| None);
+            return Refusal::check(self.unreadable).map(|()| None);
         }
         let (count, staged) = (self.store.current_header.page_count, &self.store.staged);
         let answer =
             unsafe { sys::lateenbael_place_page(count, page_num, staged.count, &staged.pages, self.table.as_ptr(), self.table.len()) };
         let area = match answer.area {
             // A refusal names no area.
-            0 => return Refusal::judge(answer.refusal).map(|()| None),
+            0 => return Refusal::check(answer.refusal).map(|()| None),
             1 => &self.log,
             2 => &self.main,
             _ => &self.staging,
@@ -290,13 +295,13 @@ impl Engine {
     }
 
     /// The first batch that the opening recovered, at an index of the log or behind it.
-    pub fn recovered(&self, index: usize) -> Result<Option<Found>, Refusal> {
+    pub fn recovered(&self, index: usize) -> Result<Option<RecoveredBatch>, Refusal> {
         let place = unsafe { sys::lateenbael_recovered_mvcc_commits(self.store, self.log.as_ptr(), self.log.len(), index) };
-        Refusal::judge(place.refusal)?;
+        Refusal::check(place.refusal)?;
         if place.found == 0 {
             return Ok(None);
         }
-        Ok(Some(Found {
+        Ok(Some(RecoveredBatch {
             index: place.index,
             body: place.offset + (FRAME_SIZE - PAGE_SIZE),
         }))
@@ -317,10 +322,10 @@ impl Engine {
                 bytes.len(),
             )
         };
-        Refusal::judge(done.refusal)?;
+        Refusal::check(done.refusal)?;
         if staged.count != done.count {
             staged.count = done.count;
-            self.end();
+            self.set_read_end();
         }
         Ok(())
     }
@@ -330,18 +335,13 @@ impl Engine {
         self.take(&answered)
     }
 
-    /// Appends a batch; the frame that it becomes is named.
-    pub fn append_mvcc_batch(&mut self, body: &[u8]) -> Result<Named, Refusal> {
+    /// Appends a batch: the write of its frame.
+    pub fn append_mvcc_batch(&mut self, body: &[u8]) -> Result<Write, Refusal> {
         let at = self.store.wal.len;
         let answered =
             unsafe { sys::lateenbael_append_mvcc_batch(self.store, self.log.as_mut_ptr(), self.log.len(), body.as_ptr(), body.len()) };
         self.take(&answered)?;
-        Ok(Named {
-            area: Area::Log,
-            at,
-            len: FRAME_SIZE,
-            flush: false,
-        })
+        Ok(Write::new(Area::Log, at, FRAME_SIZE, false))
     }
 
     /// Begins a commit. Beside refusal 14 stands the lowest page that is missing.
@@ -350,31 +350,26 @@ impl Engine {
         self.take(&answered).map_err(|refusal| (refusal, answered.answer))
     }
 
-    /// Begins a fold; false if there is nothing to store, and its answer is 0.
+    /// Begins a checkpoint, document 01's fold; false if there is nothing to write, and its answer is 0.
     pub fn begin_checkpoint(&mut self, salt: u32) -> Result<bool, Refusal> {
         let answered = over_areas!(self, as_mut_ptr, sys::lateenbael_begin_checkpoint, [self.store], [salt]);
         self.take(&answered).map(|()| answered.begun != 0)
     }
 
-    /// Does the next store of what is part done. While more are to come, readings are refused (9) as they were before.
+    /// Does the next write of what is part done in its area. While more are to come, readings are refused (9) as they were before.
     pub fn next_step(&mut self) -> Result<Step, Refusal> {
         let step = over_areas!(self, as_mut_ptr, sys::lateenbael_next_step, [self.store], []);
-        Refusal::judge(step.refusal)?;
+        Refusal::check(step.refusal)?;
         self.store = step.store;
         let area = if step.area == 1 { Area::Log } else { Area::Main };
-        let named = Named {
-            area,
-            at: step.at,
-            len: step.len,
-            flush: step.flush != 0,
-        };
+        let write = Write::new(area, step.at, step.len, step.flush != 0);
         if step.kind == 1 {
-            return Ok(Step::Stored(named));
+            return Ok(Step::Stored(write));
         }
-        self.judge();
+        self.check_readable();
         Ok(match step.kind {
             0 => Step::Idle,
-            _ => Step::Last(named, step.answer),
+            _ => Step::Last(write, step.answer),
         })
     }
 
@@ -387,7 +382,7 @@ impl Engine {
         }
     }
 
-    /// A fold in one call: the number of pages written.
+    /// A checkpoint in one call: the number of pages written.
     pub fn checkpoint(&mut self, salt: u32) -> Result<usize, Refusal> {
         let answered = over_areas!(self, as_mut_ptr, sys::lateenbael_checkpoint, [self.store], [salt]);
         self.take(&answered).map(|()| answered.answer)

@@ -31,22 +31,24 @@
 //! ```
 mod batch;
 mod disk;
+mod dry_run;
 mod engine;
 mod error;
 mod log;
+mod power_cut;
 mod refusal;
 mod salts;
 mod store;
-mod trial;
 
 pub use batch::{Batch, BatchBuilder, Column, Columns, Record, Value, Vector};
 pub use disk::{Disk, Files, wal_path_for};
-pub use engine::{Area, Engine, Found, Named, Step};
+pub use dry_run::DryRun;
+pub use engine::{Area, Engine, RecoveredBatch, Step, Write};
 pub use error::Error;
 pub use lateenbael_sys as sys;
 pub use lateenbael_sys::DbHeader;
 pub use log::{Frame, Log};
+pub use power_cut::PowerCut;
 pub use refusal::Refusal;
 pub use salts::{Salts, salts_of_the_clock};
 pub use store::{Mode, Store};
-pub use trial::{Cutting, Rehearsal};

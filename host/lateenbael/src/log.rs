@@ -1,4 +1,4 @@
-//! A log's bytes, read alone: its header, its good frames, where it is sealed, its batches, and its listing.
+//! A log's bytes, read alone: its header, its good frames, its commit point, its batches, and its listing.
 use crate::{Batch, Refusal};
 use lateenbael_sys as sys;
 use std::fmt::Write;
@@ -18,7 +18,7 @@ pub struct Frame<'a> {
     /// The frame's first byte.
     pub offset: usize,
     pub page_num: u32,
-    /// 0: the frame seals nothing.
+    /// 0: no commit frame (document 01's seal).
     pub commit_page_count: u32,
     /// The page's bytes, or the batch's.
     pub body: &'a [u8],
@@ -38,7 +38,7 @@ impl<'a> Log<'a> {
     /// Refusals 1 to 5.
     pub fn open(bytes: &'a [u8]) -> Result<Log<'a>, Refusal> {
         let answer = unsafe { sys::lateenbael_wal_open(bytes.as_ptr(), bytes.len()) };
-        Refusal::judge(answer.refusal)?;
+        Refusal::check(answer.refusal)?;
         Ok(Log { bytes, wal: answer.wal })
     }
 
@@ -56,19 +56,19 @@ impl<'a> Log<'a> {
         self.wal.good_end
     }
 
-    /// The commit point: the end of the last seal.
+    /// The commit point: the end of the last commit frame.
     pub fn commit_point(&self) -> usize {
         self.wal.last_commit_offset
     }
 
-    /// Good frames, sealed or not, and a last batch frame that does not decode.
+    /// Good frames, committed or not, and a last batch frame that does not decode.
     pub fn frame_count(&self) -> usize {
         self.wal.frame_count
     }
 
-    /// The last seal's page count.
+    /// The last commit frame's page count.
     pub fn last_commit_page_count(&self) -> Option<u32> {
-        (self.wal.sealed != 0).then_some(self.wal.last_commit_page_count)
+        (self.wal.committed != 0).then_some(self.wal.last_commit_page_count)
     }
 
     /// The good frames.

@@ -60,7 +60,7 @@ const ALL: [(Refusal, &str, &str); 21] = [
 impl Refusal {
     /// `Err` with the refusal of that number; 0 is none.
     #[inline]
-    pub fn judge(number: u32) -> Result<(), Refusal> {
+    pub fn check(number: u32) -> Result<(), Refusal> {
         match number.checked_sub(1) {
             None => Ok(()),
             Some(k) => Err(Refusal::at(k)),

@@ -1,7 +1,7 @@
-//! The store on two real files: the proved engine, and every store that it names carried to the disk in order, those that adjoin
-//! as one write.
+//! The store on two real files: the proved engine, and every write that it names done on the disk in order, those that adjoin
+//! as one.
 use crate::disk::{Disk, Files};
-use crate::{Area, Batch, Engine, Error, Log, Named, Salts, Step, salts_of_the_clock};
+use crate::{Area, Batch, Engine, Error, Log, Salts, Step, Write, salts_of_the_clock};
 use lateenbael_sys as sys;
 use std::io;
 use std::path::Path;
@@ -12,10 +12,10 @@ const WAL_HEADER_SIZE: usize = 32;
 /// How a store is opened.
 #[derive(Clone, Copy, Debug, Default, PartialEq, Eq)]
 pub enum Mode {
-    /// For reading and writing; the log is cut at its commit point, so that nothing unsealed is ever taken in.
+    /// For reading and writing; the log is cut at its commit point, so that nothing uncommitted is ever taken in.
     #[default]
     ReadWrite,
-    /// For reading and writing as the Rust does: an unsealed tail stays, and a later commit takes it in.
+    /// For reading and writing as the Rust does: uncommitted frames (document 01's tail) stay, and a later commit takes them in.
     Plain,
     /// Nothing is written and no file is made.
     ReadOnly,
@@ -26,7 +26,7 @@ pub struct Store<D: Disk = Files> {
     engine: Engine,
     disk: D,
     salts: Salts,
-    /// Which files, the log and the main one, have stores that no flush has followed yet.
+    /// Which files, the log and the main one, have writes that no flush has followed yet.
     unflushed: [bool; 2],
     stopped: bool,
 }
@@ -39,7 +39,7 @@ impl Store<Files> {
 
     /// A new store in place of whatever the two files hold.
     pub fn create_over(path: impl AsRef<Path>) -> Result<Store, Error> {
-        Store::create_on(Files::over(path.as_ref())?, salts_of_the_clock())
+        Store::create_on(Files::overwriting(path.as_ref())?, salts_of_the_clock())
     }
 
     /// Opens a store.
@@ -50,12 +50,12 @@ impl Store<Files> {
     /// The same in the areas of an earlier store, whatever they hold: who opens often need not touch new memory each time.
     pub fn open_in(engine: Engine, path: impl AsRef<Path>, mode: Mode) -> Result<Store, Error> {
         let files = Files::existing(path.as_ref(), mode == Mode::ReadOnly)?;
-        Store::over(engine, files, salts_of_the_clock()).opened(mode)
+        Store::with_engine(engine, files, salts_of_the_clock()).opened(mode)
     }
 }
 
 impl<D: Disk> Store<D> {
-    fn over(engine: Engine, disk: D, salts: Salts) -> Store<D> {
+    fn with_engine(engine: Engine, disk: D, salts: Salts) -> Store<D> {
         Store {
             engine,
             disk,
@@ -65,24 +65,24 @@ impl<D: Disk> Store<D> {
         }
     }
 
-    /// A new store on a disk. Both files are made empty first: until the last store is done, an opening is refused.
+    /// A new store on a disk. Both files are made empty first: until the last write is done, an opening is refused.
     pub fn create_on(disk: D, salts: Salts) -> Result<Store<D>, Error> {
-        let mut store = Store::over(Engine::new(), disk, salts);
+        let mut store = Store::with_engine(Engine::new(), disk, salts);
         let salt = (store.salts)();
         store.engine.create(salt)?;
         for area in [Area::Main, Area::Log] {
             store.disk.create(area)?;
             store.disk.sync(area)?;
         }
-        store.carry(put(Area::Main, 0, PAGE_SIZE, false))?;
-        store.carry(put(Area::Main, PAGE_SIZE, PAGE_SIZE, true))?;
-        store.carry(put(Area::Log, 0, WAL_HEADER_SIZE, true))?;
+        store.write_out(Write::new(Area::Main, 0, PAGE_SIZE, false))?;
+        store.write_out(Write::new(Area::Main, PAGE_SIZE, PAGE_SIZE, true))?;
+        store.write_out(Write::new(Area::Log, 0, WAL_HEADER_SIZE, true))?;
         Ok(store)
     }
 
     /// Opens what lies on a disk. A log that is missing is made, but not read-only; a clean opening stores the log's length.
     pub fn open_on(disk: D, mode: Mode, salts: Salts) -> Result<Store<D>, Error> {
-        Store::over(Engine::new(), disk, salts).opened(mode)
+        Store::with_engine(Engine::new(), disk, salts).opened(mode)
     }
 
     fn opened(mut self, mode: Mode) -> Result<Store<D>, Error> {
@@ -94,10 +94,10 @@ impl<D: Disk> Store<D> {
             .reopen(mode == Mode::ReadWrite, main, log, mode == Mode::ReadOnly, salt)?;
         if mode != Mode::ReadOnly && log.is_none() {
             self.disk.create(Area::Log)?;
-            self.carry(put(Area::Log, 0, WAL_HEADER_SIZE, true))?;
+            self.write_out(Write::new(Area::Log, 0, WAL_HEADER_SIZE, true))?;
         }
         if mode == Mode::ReadWrite {
-            self.carry(put(Area::Log, self.engine.store().wal.len, 0, true))?;
+            self.write_out(Write::new(Area::Log, self.engine.store().wal.len, 0, true))?;
         }
         Ok(self)
     }
@@ -107,30 +107,30 @@ impl<D: Disk> Store<D> {
         self.engine
     }
 
-    /// Carries a store that the engine did to the disk.
-    fn carry(&mut self, named: Named) -> Result<(), Error> {
-        let done = self.carry_to_disk(named);
+    /// Does a write of the engine's on the disk.
+    fn write_out(&mut self, write: Write) -> Result<(), Error> {
+        let done = self.write_to_disk(write);
         self.stopped |= done.is_err();
         Ok(done?)
     }
 
-    fn carry_to_disk(&mut self, named: Named) -> io::Result<()> {
-        let bytes = match named.area {
+    fn write_to_disk(&mut self, write: Write) -> io::Result<()> {
+        let bytes = match write.area {
             Area::Log => &self.engine.log,
             Area::Main => &self.engine.main,
         };
-        self.unflushed[named.area as usize] = true;
-        match named.is_length() {
-            true => self.disk.set_len(named.area, named.at)?,
-            false => self.disk.write_at(named.area, named.at, &bytes[named.at..][..named.len])?,
+        self.unflushed[write.area as usize] = true;
+        match write.is_length() {
+            true => self.disk.set_len(write.area, write.at)?,
+            false => self.disk.write_at(write.area, write.at, &bytes[write.at..][..write.len])?,
         }
-        match named.flush {
+        match write.flush {
             true => self.flush(),
             false => Ok(()),
         }
     }
 
-    /// Everything stored so far goes to the disk.
+    /// Everything written so far goes to the disk.
     fn flush(&mut self) -> io::Result<()> {
         for area in [Area::Log, Area::Main] {
             if self.unflushed[area as usize] {
@@ -169,7 +169,7 @@ impl<D: Disk> Store<D> {
         Ok(self.engine.clock_high_water()?)
     }
 
-    /// Raises the clock; a lower value is ignored. It reaches the log's header with the next fold.
+    /// Raises the clock; a lower value is ignored. It reaches the log's header with the next checkpoint.
     pub fn observe_clock_high_water(&mut self, value: u64) -> Result<(), Error> {
         self.running()?;
         Ok(self.engine.observe_clock_high_water(value)?)
@@ -193,15 +193,16 @@ impl<D: Disk> Store<D> {
         Ok(self.engine.clear_staged()?)
     }
 
-    /// Appends a batch to the log. It counts once a commit has sealed it, and no flush follows until then.
+    /// Appends a batch to the log. It counts once a commit follows it (which seals it, in document 01's words), and no flush comes until
+    /// then.
     pub fn append_mvcc_batch(&mut self, body: &[u8]) -> Result<(), Error> {
         self.running()?;
-        let named = self.engine.append_mvcc_batch(body)?;
-        self.carry(named)
+        let write = self.engine.append_mvcc_batch(body)?;
+        self.write_out(write)
     }
 
-    /// Commits what is staged and seals the appended batches: the number of pages that differed. When it returns, all of it is on
-    /// the disk. At 100 frames or more the log is folded as well.
+    /// Commits what is staged and the appended batches: the number of pages that differed. When it returns, all of it is on the disk.
+    /// At 100 frames or more a checkpoint follows.
     pub fn commit(&mut self, header: DbHeader) -> Result<usize, Error> {
         self.running()?;
         let salt = (self.salts)();
@@ -209,7 +210,7 @@ impl<D: Disk> Store<D> {
         self.run_steps()
     }
 
-    /// Folds the log into the main file: the number of pages written.
+    /// Writes the log's pages to the main file and empties the log, document 01's fold: the number of pages written.
     pub fn checkpoint(&mut self) -> Result<usize, Error> {
         self.running()?;
         let salt = (self.salts)();
@@ -219,46 +220,46 @@ impl<D: Disk> Store<D> {
         }
     }
 
-    /// Does the stores of what has begun and carries them; the answer comes when all of them are on the disk.
+    /// Does the writes of what has begun; the answer comes when all of them are on the disk.
     ///
-    /// Stores that adjoin go to the file as one write. They still reach the disk in order: its bytes are those of the first store, then
-    /// those of the next, so what a cut leaves of it is the first stores whole, the first bytes of one and nothing of the others, as if
-    /// each were written by itself. What is held is still what the engine stored when it is written: between two flushes the stores
-    /// stand at ascending places, and a new length lies behind what is held.
+    /// Writes that adjoin go to the file as one. They still reach the disk in order: its bytes are those of the first write, then
+    /// those of the next, so what a cut leaves of it is the first writes whole, the first bytes of one and nothing of the others, as if
+    /// each were done by itself. What is pending is still in its area as it was when it is written: between two flushes the writes
+    /// stand at ascending places, and a new length lies behind what is pending.
     fn run_steps(&mut self) -> Result<usize, Error> {
-        let mut held = None;
+        let mut pending = None;
         let answer = loop {
             let step = self.engine.next_step();
             self.stopped |= step.is_err();
             match step? {
                 Step::Idle => break 0,
-                Step::Stored(named) => held = self.join_or_carry(held, named)?,
-                Step::Last(named, answer) => {
-                    held = self.join_or_carry(held, named)?;
+                Step::Stored(write) => pending = self.join_or_write(pending, write)?,
+                Step::Last(write, answer) => {
+                    pending = self.join_or_write(pending, write)?;
                     break answer;
                 }
             }
         };
-        held.map_or(Ok(()), |held| self.carry(held))?;
+        pending.map_or(Ok(()), |pending| self.write_out(pending))?;
         Ok(answer)
     }
 
-    /// Takes a store to the one that is held, which is carried first if they don't adjoin: what is held then. A length isn't held, nor
+    /// Adds a write to the pending one, which is done first if they don't adjoin: what is pending then. A length is never pending, nor
     /// what a flush follows.
-    fn join_or_carry(&mut self, held: Option<Named>, named: Named) -> Result<Option<Named>, Error> {
-        let joined = held.and_then(|held| join(held, named));
-        if let (Some(held), None) = (held, joined) {
-            self.carry(held)?;
+    fn join_or_write(&mut self, pending: Option<Write>, write: Write) -> Result<Option<Write>, Error> {
+        let joined = pending.and_then(|pending| join(pending, write));
+        if let (Some(pending), None) = (pending, joined) {
+            self.write_out(pending)?;
         }
-        let named = joined.unwrap_or(named);
-        if named.flush || named.is_length() {
-            self.carry(named)?;
+        let write = joined.unwrap_or(write);
+        if write.flush || write.is_length() {
+            self.write_out(write)?;
             return Ok(None);
         }
-        Ok(Some(named))
+        Ok(Some(write))
     }
 
-    /// The batches that the opening found sealed, in the log's order, until a fold ends them.
+    /// The batches that the opening found committed, in the log's order, until a checkpoint drops them.
     pub fn recovered_mvcc_commits(&self) -> Result<impl Iterator<Item = Batch<'_>>, Error> {
         self.running()?;
         let mut index = 0;
@@ -302,12 +303,8 @@ impl<D: Disk> Store<D> {
     }
 }
 
-fn put(area: Area, at: usize, len: usize, flush: bool) -> Named {
-    Named { area, at, len, flush }
-}
-
-/// Two stores as one, if the second's bytes begin where the first's end. The first has no flush behind it.
-fn join(first: Named, second: Named) -> Option<Named> {
+/// Two writes as one, if the second's bytes begin where the first's end. The first has no flush behind it.
+fn join(first: Write, second: Write) -> Option<Write> {
     let adjoin = first.area == second.area && first.at + first.len == second.at;
-    (adjoin && !second.is_length()).then(|| put(first.area, first.at, first.len + second.len, second.flush))
+    (adjoin && !second.is_length()).then(|| Write::new(first.area, first.at, first.len + second.len, second.flush))
 }

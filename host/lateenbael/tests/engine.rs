@@ -4,7 +4,7 @@ use common::{FRAME, page};
 use lateenbael::{Engine, Refusal, Step};
 
 #[test]
-fn a_page_is_committed_and_folded() {
+fn a_page_is_committed_and_checkpointed() {
     let mut engine = Engine::new();
     assert_eq!(engine.stage_page(1024, &page(9)), Err(Refusal::Page));
     engine.create(7).unwrap();
@@ -29,19 +29,19 @@ fn calls_between_steps_are_refused() {
     let header = engine.header().unwrap();
     engine.begin_commit(header, 8).unwrap();
     assert_eq!(engine.header(), Err(Refusal::Busy));
-    assert!(matches!(engine.next_step(), Ok(Step::Stored(named)) if named.at == 32 && !named.flush));
-    assert!(matches!(engine.next_step(), Ok(Step::Last(named, 1)) if named.at == 32 + FRAME && named.flush));
+    assert!(matches!(engine.next_step(), Ok(Step::Stored(write)) if write.at == 32 && !write.flush));
+    assert!(matches!(engine.next_step(), Ok(Step::Last(write, 1)) if write.at == 32 + FRAME && write.flush));
     assert_eq!(engine.next_step(), Ok(Step::Idle));
     assert_eq!(engine.header(), Ok(header));
 }
 
 #[test]
 fn every_refusal_has_its_number_and_name() {
-    let numbers: Vec<u32> = (1..=21).map(|n| Refusal::judge(n).unwrap_err().number()).collect();
+    let numbers: Vec<u32> = (1..=21).map(|n| Refusal::check(n).unwrap_err().number()).collect();
     assert_eq!(numbers, (1..=21).collect::<Vec<u32>>());
-    assert_eq!(Refusal::judge(0), Ok(()));
+    assert_eq!(Refusal::check(0), Ok(()));
     for n in 1..=21 {
-        let refusal = Refusal::judge(n).unwrap_err();
+        let refusal = Refusal::check(n).unwrap_err();
         assert_eq!(format!("{refusal:?}"), refusal.name());
         assert!(refusal.to_string().starts_with(&format!("refused {n} {}: ", refusal.name())));
     }

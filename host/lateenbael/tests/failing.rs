@@ -4,7 +4,7 @@ use common::*;
 use lateenbael::{DbHeader, Error, Files, Mode, Refusal, Store, wal_path_for};
 use std::path::Path;
 
-type Work = fn(&mut Store<Failing>) -> Result<(), Error>;
+type Operation = fn(&mut Store<Failing>) -> Result<(), Error>;
 
 fn commit_two_pages(store: &mut Store<Failing>) -> Result<(), Error> {
     let header = store.header()?;
@@ -18,7 +18,7 @@ fn append_and_commit(store: &mut Store<Failing>) -> Result<(), Error> {
     commit_two_pages(store)
 }
 
-fn append_and_fold(store: &mut Store<Failing>) -> Result<(), Error> {
+fn append_and_checkpoint(store: &mut Store<Failing>) -> Result<(), Error> {
     store.append_mvcc_batch(batch(77).body())?;
     store.checkpoint().map(drop)
 }
@@ -28,11 +28,11 @@ fn shrink(store: &mut Store<Failing>) -> Result<(), Error> {
     store.commit(with_count(header, 3)).map(drop)
 }
 
-fn fold(store: &mut Store<Failing>) -> Result<(), Error> {
+fn checkpoint(store: &mut Store<Failing>) -> Result<(), Error> {
     store.checkpoint().map(drop)
 }
 
-/// A store of 6 pages with a sealed batch in a log of at least so many frames.
+/// A store of 6 pages with a committed batch in a log of at least so many frames.
 fn prepared(path: &Path, frames: usize) {
     let mut store = Store::create_over(path).unwrap();
     store.append_mvcc_batch(batch(5).body()).unwrap();
@@ -64,12 +64,12 @@ fn stays_stopped(store: &mut Store<Failing>) {
 }
 
 /// Header and pages, and the batches' times.
-type State = (Shown, Vec<u64>);
+type State = (Contents, Vec<u64>);
 
 /// What a clean opening shows.
 fn reopened(path: &Path) -> State {
     let store = open(path, Mode::ReadWrite);
-    (shown(&store), times(&store))
+    (contents(&store), times(&store))
 }
 
 /// How many bytes a write that fails has stored: stores that adjoin are one write, so it may end in any of them or between two.
@@ -77,7 +77,7 @@ const STORED: [usize; 10] = [0, 32, 2056, PAGE, FRAME, FRAME + 1, 2 * PAGE, 2 * 
 
 /// Lets the work's disk fail at each of its calls in turn: how many there are. `between` tells states, given the last one, that may
 /// be met beside the first and the last.
-fn fails_everywhere(frames: usize, work: Work, between: fn(&State, &State) -> bool) -> usize {
+fn fails_everywhere(frames: usize, operation: Operation, between: fn(&State, &State) -> bool) -> usize {
     let folder = Folder::new();
     let path = folder.store();
     prepared(&path, frames);
@@ -88,7 +88,7 @@ fn fails_everywhere(frames: usize, work: Work, between: fn(&State, &State) -> bo
         put_back(&path, &files);
         let disk = Failing::new(Files::existing(&path, false).unwrap(), opening_calls + fails_at, stored);
         let mut store = Store::open_on(disk, Mode::ReadWrite, counting_salts(1000)).unwrap();
-        let answer = work(&mut store);
+        let answer = operation(&mut store);
         (answer, store)
     };
     let (answer, store) = run(usize::MAX - opening_calls, 0);
@@ -121,7 +121,7 @@ fn no_other(_: &State, _: &State) -> bool {
 
 #[test]
 fn in_a_commit() {
-    // Two pages and the seal, one flush.
+    // Two pages and the commit frame, one flush.
     assert_eq!(fails_everywhere(0, commit_two_pages, no_other), 2);
     assert_eq!(fails_everywhere(0, shrink, no_other), 2);
 }
@@ -131,22 +131,22 @@ fn in_an_append_and_its_commit() {
     assert_eq!(fails_everywhere(0, append_and_commit, no_other), 3);
 }
 
-/// Sealed, and not folded yet: the batches are still there.
-fn sealed_only(found: &State, after: &State) -> bool {
+/// Committed, and no checkpoint yet: the batches are still there.
+fn committed_only(found: &State, after: &State) -> bool {
     found.0 == after.0 && found.1 == [5]
 }
 
 #[test]
-fn in_a_fold() {
+fn in_a_checkpoint() {
     // Four pages in a row and a flush; header, length and a flush; length, header and a flush.
-    assert_eq!(fails_everywhere(0, fold, no_other), 8);
+    assert_eq!(fails_everywhere(0, checkpoint, no_other), 8);
     // The batch's frame, and its file in the first flush.
-    assert_eq!(fails_everywhere(0, append_and_fold, no_other), 10);
+    assert_eq!(fails_everywhere(0, append_and_checkpoint, no_other), 10);
 }
 
 #[test]
-fn in_a_commit_that_folds() {
-    assert_eq!(fails_everywhere(97, commit_two_pages, sealed_only), 2 + 8);
+fn in_a_commit_with_a_checkpoint() {
+    assert_eq!(fails_everywhere(97, commit_two_pages, committed_only), 2 + 8);
 }
 
 #[test]
@@ -154,7 +154,7 @@ fn in_a_creation() {
     let folder = Folder::new();
     let path = folder.store();
     for fails_at in 0.. {
-        let disk = Failing::new(Files::over(&path).unwrap(), fails_at, PAGE / 2);
+        let disk = Failing::new(Files::overwriting(&path).unwrap(), fails_at, PAGE / 2);
         let answer = Store::create_on(disk, counting_salts(1));
         if answer.is_ok() {
             assert_eq!(fails_at, 9);
@@ -169,12 +169,12 @@ fn in_a_creation() {
 }
 
 /// An opening whose disk fails at a call; what a read-only opening finds then.
-fn fails_in_opening(path: &Path, fails_at: usize) -> Result<Shown, Error> {
+fn fails_in_opening(path: &Path, fails_at: usize) -> Result<Contents, Error> {
     let disk = Failing::new(Files::existing(path, false).unwrap(), fails_at, 0);
     let answer = Store::open_on(disk, Mode::ReadWrite, counting_salts(1));
     assert!(matches!(answer, Err(Error::Io(_))));
     drop(answer);
-    Store::open(path, Mode::ReadOnly).map(|store| shown(&store))
+    Store::open(path, Mode::ReadOnly).map(|store| contents(&store))
 }
 
 #[test]
@@ -182,12 +182,12 @@ fn in_an_opening() {
     let folder = Folder::new();
     let path = folder.store();
     prepared(&path, 0);
-    let before = shown(&open(&path, Mode::ReadOnly));
+    let before = contents(&open(&path, Mode::ReadOnly));
     for fails_at in 0..2 {
         assert_eq!(fails_in_opening(&path, fails_at).unwrap(), before);
     }
     let disk = Failing::new(Files::existing(&path, false).unwrap(), 2, 0);
-    assert_eq!(shown(&Store::open_on(disk, Mode::ReadWrite, counting_salts(1)).unwrap()), before);
+    assert_eq!(contents(&Store::open_on(disk, Mode::ReadWrite, counting_salts(1)).unwrap()), before);
 }
 
 #[test]
@@ -196,7 +196,7 @@ fn in_an_opening_that_makes_the_log() {
     let path = folder.store();
     prepared(&path, 0);
     open(&path, Mode::ReadWrite).checkpoint().unwrap();
-    let before = shown(&open(&path, Mode::ReadOnly));
+    let before = contents(&open(&path, Mode::ReadOnly));
     for fails_at in 0..5 {
         std::fs::remove_file(wal_path_for(&path)).unwrap();
         match fails_at {

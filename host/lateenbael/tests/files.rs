@@ -1,4 +1,4 @@
-//! A store on two real files: creation, commits, folds and openings.
+//! A store on two real files: creation, commits, checkpoints and openings.
 mod common;
 use common::*;
 use lateenbael::{Area, Disk, Error, Files, Mode, Refusal, Store, wal_path_for};
@@ -75,12 +75,12 @@ fn what_was_committed_is_there_after_every_opening() {
     store.append_mvcc_batch(batch(4).body()).unwrap();
     assert_eq!(commit_pages(&mut store, 2, &[1, 2, 3]), 3);
     assert_eq!(commit_pages(&mut store, 2, &[1, 9, 3]), 1);
-    let before = shown(&store);
+    let before = contents(&store);
     assert_eq!(times(&store), []);
     drop(store);
     for mode in [Mode::ReadOnly, Mode::Plain, Mode::ReadWrite] {
         let store = open(&path, mode);
-        assert_eq!(shown(&store), before);
+        assert_eq!(contents(&store), before);
         assert_eq!(times(&store), [5, 4]);
         assert_eq!(store.frame_count().unwrap(), 8);
     }
@@ -88,17 +88,17 @@ fn what_was_committed_is_there_after_every_opening() {
     store.observe_clock_high_water(40).unwrap();
     assert_eq!(store.checkpoint().unwrap(), 3);
     assert_eq!(times(&store), []);
-    assert_eq!(shown(&store), before);
+    assert_eq!(contents(&store), before);
     drop(store);
     let [main, log] = bytes_of(&path).map(Option::unwrap);
     assert_eq!((main.len(), log.len()), (5 * PAGE, 32));
     let store = open(&path, Mode::ReadWrite);
-    assert_eq!(shown(&store), before);
+    assert_eq!(contents(&store), before);
     assert_eq!(store.clock_high_water().unwrap(), 40);
 }
 
 #[test]
-fn the_hundredth_frame_folds() {
+fn the_hundredth_frame_brings_a_checkpoint() {
     let folder = Folder::new();
     let mut store = Store::create(folder.store()).unwrap();
     for seed in 0..49 {
@@ -111,21 +111,21 @@ fn the_hundredth_frame_folds() {
     assert_ne!(store.wal_header().unwrap().salt, salt);
     drop(store);
     assert_eq!(bytes_of(&folder.store()).map(|bytes| bytes.unwrap().len()), [8192, 32]);
-    assert_eq!(shown(&open(&folder.store(), Mode::ReadOnly)).pages, [(1, page(99).to_vec())]);
+    assert_eq!(contents(&open(&folder.store(), Mode::ReadOnly)).pages, [(1, page(99).to_vec())]);
 }
 
 #[test]
-fn only_a_clean_opening_cuts_the_tail() {
+fn only_a_clean_opening_drops_uncommitted_frames() {
     let folder = Folder::new();
     let path = folder.store();
     let mut store = Store::create(&path).unwrap();
     commit_pages(&mut store, 1, &[4]);
     store.append_mvcc_batch(batch(8).body()).unwrap();
     drop(store);
-    let with_tail = bytes_of(&path);
+    let with_uncommitted = bytes_of(&path);
     for mode in [Mode::ReadOnly, Mode::Plain] {
         assert_eq!(open(&path, mode).frame_count().unwrap(), 3);
-        assert_eq!(bytes_of(&path), with_tail);
+        assert_eq!(bytes_of(&path), with_uncommitted);
     }
     let store = open(&path, Mode::default());
     assert_eq!(store.frame_count().unwrap(), 2);
@@ -142,10 +142,10 @@ fn areas_of_an_earlier_store_show_nothing_of_it() {
     let path = folder.store();
     let mut store = Store::create(&path).unwrap();
     commit_pages(&mut store, 1, &[4]);
-    let before = shown(&store);
+    let before = contents(&store);
     drop(store);
     let store = Store::open_in(earlier.into_engine(), &path, Mode::default()).unwrap();
-    assert_eq!(shown(&store), before);
+    assert_eq!(contents(&store), before);
     open(&other, Mode::default());
 }
 
@@ -194,7 +194,7 @@ type Damage = (
 );
 
 #[test]
-fn refused_openings_say_which_and_write_nothing() {
+fn refused_openings_report_which_and_write_nothing() {
     let folder = Folder::new();
     let path = folder.store();
     let mut store = Store::create(&path).unwrap();

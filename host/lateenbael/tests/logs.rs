@@ -11,7 +11,7 @@ fn proved_listing(log: &[u8]) -> String {
     String::from_utf8(out[..answer.len].to_vec()).unwrap()
 }
 
-/// A store whose log has 3 seals, 2 batches and 3 pages, and a batch behind the last seal.
+/// A store whose log has 3 commit frames, 2 batches and 3 pages, and a batch behind the last commit frame.
 fn store() -> Engine {
     let mut engine = Engine::new();
     engine.create(0xab).unwrap();

@@ -2,7 +2,7 @@
 //! although stores that adjoin are one write.
 mod common;
 use common::*;
-use lateenbael::{Area, Disk, Engine, Named, Salts, Step, Store};
+use lateenbael::{Area, Disk, Engine, Salts, Step, Store, Write};
 use std::io;
 
 /// What a disk is asked for, byte by byte.
@@ -72,19 +72,19 @@ impl Alone {
         }
     }
 
-    fn named(&mut self, named: Named) {
-        let area = match named.area {
+    fn write(&mut self, write: Write) {
+        let area = match write.area {
             Area::Log => &self.engine.log,
             Area::Main => &self.engine.main,
         };
-        match named.is_length() {
-            true => self.events.push(Event::Length(named.area, named.at)),
-            false => self.events.extend(bytes_at(named.area, named.at, &area[named.at..][..named.len])),
+        match write.is_length() {
+            true => self.events.push(Event::Length(write.area, write.at)),
+            false => self.events.extend(bytes_at(write.area, write.at, &area[write.at..][..write.len])),
         }
-        self.stores += usize::from(!named.is_length());
-        self.unflushed[named.area as usize] = true;
+        self.stores += usize::from(!write.is_length());
+        self.unflushed[write.area as usize] = true;
         for area in [Area::Log, Area::Main] {
-            if named.flush && std::mem::take(&mut self.unflushed[area as usize]) {
+            if write.flush && std::mem::take(&mut self.unflushed[area as usize]) {
                 self.events.push(Event::Sync(area));
             }
         }
@@ -94,9 +94,9 @@ impl Alone {
         loop {
             match self.engine.next_step().unwrap() {
                 Step::Idle => return 0,
-                Step::Stored(named) => self.named(named),
-                Step::Last(named, answer) => {
-                    self.named(named);
+                Step::Stored(write) => self.write(write),
+                Step::Last(write, answer) => {
+                    self.write(write);
                     return answer;
                 }
             }
@@ -149,8 +149,8 @@ impl Both {
 
     fn append(&mut self) -> (usize, usize) {
         self.store.append_mvcc_batch(batch(3).body()).unwrap();
-        let named = self.alone.engine.append_mvcc_batch(batch(3).body()).unwrap();
-        self.alone.named(named);
+        let write = self.alone.engine.append_mvcc_batch(batch(3).body()).unwrap();
+        self.alone.write(write);
         self.agreed()
     }
 
@@ -162,7 +162,7 @@ impl Both {
         self.agreed()
     }
 
-    fn fold(&mut self) -> (usize, usize) {
+    fn checkpoint(&mut self) -> (usize, usize) {
         let salt = (self.alone.salts)();
         let begun = self.alone.engine.begin_checkpoint(salt).unwrap();
         let answer = if begun { self.alone.run() } else { 0 };
@@ -191,7 +191,7 @@ fn joined_writes_have_the_stores_bytes_in_their_order() {
     for _ in 0..120 {
         let (written, stored) = match both.below(8) {
             0 | 1 => both.append(),
-            2 => both.fold(),
+            2 => both.checkpoint(),
             _ => both.any_commit(),
         };
         assert!(written <= stored);
@@ -207,7 +207,7 @@ fn stores_that_adjoin_are_one_write() {
     (2..20).for_each(|n| both.stage(n));
     assert_eq!(both.commit(20), (1, 19));
     assert_eq!(both.append(), (1, 1));
-    assert_eq!(both.fold(), (3, 20));
+    assert_eq!(both.checkpoint(), (3, 20));
     for n in [2, 3, 5, 9, 10] {
         both.stage(n);
     }
@@ -226,5 +226,5 @@ fn a_new_length_where_the_header_ends_is_set() {
     both.stage(1);
     assert_eq!(both.commit(1), (1, 2));
     // No page lies below the count: the main header and its file's length, then the log's length and header.
-    assert_eq!(both.fold(), (2, 2));
+    assert_eq!(both.checkpoint(), (2, 2));
 }

@@ -61,7 +61,7 @@ fn a_65th_staged_page_is_refused() {
 }
 
 #[test]
-fn a_full_log_refuses_and_a_fold_makes_room() {
+fn a_full_log_refuses_and_a_checkpoint_makes_room() {
     let folder = Folder::new();
     let path = folder.store();
     let mut store = Store::create(&path).unwrap();

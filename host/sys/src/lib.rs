@@ -38,7 +38,7 @@ pub struct Wal {
     pub good_end: usize,
     pub last_commit_offset: usize,
     pub frame_count: usize,
-    pub sealed: u32,
+    pub committed: u32,
     pub last_commit_page_count: u32,
 }
 

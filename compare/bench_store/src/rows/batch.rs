@@ -1,7 +1,8 @@
 //! Appends of a batch to the log.
 
+use bench::bodies;
+
 use super::{Folder, begin};
-use crate::bodies;
 use crate::files;
 use crate::side::{Page, Side};
 use crate::table::Table;
@@ -41,7 +42,7 @@ fn row<R: Side, P: Side>(table: &Table, what: &str, sides: (R, P), body: &Page, 
 }
 
 fn sample<S: Side>(side: &mut S, batch: &S::Batch, built: bool, body: &Page) -> f64 {
-    side.fold();
+    side.checkpoint();
     let time = clock(|| {
         for _ in 0..APPENDS {
             match built {

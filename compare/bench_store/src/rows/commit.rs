@@ -1,4 +1,4 @@
-//! Commits: those between two folds, and with the folds.
+//! Commits: those between two checkpoints, and with the checkpoints.
 
 use std::time::Duration;
 
@@ -9,8 +9,8 @@ use crate::table::Table;
 use crate::timing::{clock, each};
 use crate::{port, rust};
 
-/// From so many frames on a commit folds.
-const FOLDS: usize = 100;
+/// From so many frames on a checkpoint follows a commit.
+const AUTO_CHECKPOINT_THRESHOLD_FRAMES: usize = 100;
 
 /// What commits are timed for.
 #[derive(Clone, Copy, PartialEq, Eq)]
@@ -21,8 +21,8 @@ enum Time {
     InFiles,
     /// Stagings too, in files.
     Staging,
-    /// The folds too that commits bring on, in files.
-    Folds,
+    /// The checkpoints too that commits bring on, in files.
+    Checkpoints,
 }
 
 pub fn rows(table: &Table) {
@@ -42,7 +42,7 @@ pub fn rows(table: &Table) {
             }
         }
         let differs = Differs::FromTheFirst;
-        let time = Time::Folds;
+        let time = Time::Checkpoints;
         row(
             table,
             &folder,
@@ -74,7 +74,7 @@ fn row(table: &Table, folder: &Folder, commits: Commits) {
             let what = format!("{what}, files, staging included");
             commits.row(table, &what, sides, beside(folder, pages, differs));
         }
-        Time::Folds => {
+        Time::Checkpoints => {
             let what = format!("{what}, files, staging and folds included");
             commits.row(table, &what, sides, None);
         }
@@ -88,7 +88,7 @@ fn beside(folder: &Folder, pages: usize, differs: Differs) -> Beside {
     let mut pool = Pool::new(differs);
     let commits = in_a_row(pages);
     let sample = move || {
-        sqlite.fold();
+        sqlite.checkpoint_and_commit();
         let times = (0..commits).map(|_| clock(|| sqlite.commit(&mut pool, pages)));
         let time = each(times.sum(), commits);
         sqlite.assert_holds(&pool);
@@ -102,9 +102,9 @@ fn beside(_: &Folder, _: usize, _: Differs) -> Beside {
     None
 }
 
-/// As many as don't fold.
+/// As many as bring on no checkpoint.
 pub fn in_a_row(pages: usize) -> usize {
-    (FOLDS - 1) / (pages + 1)
+    (AUTO_CHECKPOINT_THRESHOLD_FRAMES - 1) / (pages + 1)
 }
 
 /// Commits of so many pages.
@@ -141,14 +141,14 @@ impl Commits {
         table.row(what, rust, port, beside);
     }
 
-    /// The mean of the commits between two folds, or with them.
+    /// The mean of the commits between two checkpoints, or with them.
     pub fn sample(self, side: &mut impl Side, pool: &mut Pool) -> f64 {
         let mut commits = in_a_row(self.pages);
-        if self.time == Time::Folds {
-            // The last of them folds.
+        if self.time == Time::Checkpoints {
+            // The last of them brings on a checkpoint.
             commits += 1;
         } else {
-            side.fold();
+            side.checkpoint();
         }
         let times = (0..commits).map(|_| self.commit(side, pool));
         each(times.sum(), commits)
@@ -166,7 +166,7 @@ impl Commits {
         assert_eq!(written, self.pages);
         match self.time {
             Time::InMemory | Time::InFiles => time,
-            Time::Staging | Time::Folds => staging + time,
+            Time::Staging | Time::Checkpoints => staging + time,
         }
     }
 }

@@ -9,8 +9,8 @@ use crate::{port, rust};
 
 pub fn rows(table: &Table) {
     let folder = Folder::new();
-    for (frames, seal_each) in [(1_024, 8), (10, 5)] {
-        let log = files::log(PAGES, frames, seal_each);
+    for (frames, commit_each) in [(1_024, 8), (10, 5)] {
+        let log = files::log(PAGES, frames, commit_each);
         for (clean, mode) in [(false, ""), (true, " (port: clean)")] {
             let memory = (rust::InMemory::new(), port::InMemory::new(clean));
             let what = format!("log of {frames} frames, in memory{mode}");

@@ -35,17 +35,17 @@ fn row(table: &Table, what: &str, pages: usize, differs: Differs) {
     let mut port = InMemory::new(false);
     begin(&mut port, &files::main(), &files::empty_log());
     commits.sample(&mut port, &mut pool);
-    let seal = seal_frame(port.engine.store().wal);
+    let frame = commit_frame(port.engine.store().wal);
     let both = RefCell::new((port, pool));
     let whole = Box::new(|| {
         let (port, pool) = &mut *both.borrow_mut();
         commits.sample(port, pool)
     });
-    let parts = [None, Some(&*seal)].map(|seal| {
+    let parts = [None, Some(&*frame)].map(|frame| {
         let both = &both;
         Box::new(move || {
             let (port, pool) = &mut *both.borrow_mut();
-            frames(port, pool, pages, seal)
+            frames(port, pool, pages, frame)
         })
     });
     let [frames, least] = parts;
@@ -53,12 +53,13 @@ fn row(table: &Table, what: &str, pages: usize, differs: Differs) {
 }
 
 /// Appends the same frames with the log's own call, to the log area behind a
-/// fold, as the commits between two folds do, each time of pages that were just
-/// staged. With a seal, each page is compared before with its bytes in the main
-/// area, as a commit must, and the seal is copied with the sum that it has,
-/// since a commit need not sum its zeros. The mean of a commit's.
-fn frames(port: &mut InMemory, pool: &mut Pool, pages: usize, seal: Option<&[u8]>) -> f64 {
-    port.fold();
+/// checkpoint, as the commits between two checkpoints do, each time of pages
+/// that were just staged. With a commit frame, each page is compared before
+/// with its bytes in the main area, as a commit must, and the commit frame is
+/// copied with the sum that it has, since a commit need not sum its zeros. The
+/// mean of a commit's.
+fn frames(port: &mut InMemory, pool: &mut Pool, pages: usize, frame: Option<&[u8]>) -> f64 {
+    port.checkpoint();
     let mut wal = port.engine.store().wal;
     let header = header_page();
     let commits = in_a_row(pages);
@@ -72,7 +73,7 @@ fn frames(port: &mut InMemory, pool: &mut Pool, pages: usize, seal: Option<&[u8]
             let staged = engine.store().staged;
             let time = clock(|| {
                 let bodies = engine.staging.chunks_exact(PAGE_SIZE);
-                if seal.is_some() {
+                if frame.is_some() {
                     let places = staged.pages[..pages]
                         .iter()
                         .map(|&n| n as usize * PAGE_SIZE);
@@ -82,11 +83,11 @@ fn frames(port: &mut InMemory, pool: &mut Pool, pages: usize, seal: Option<&[u8]
                 for (k, body) in bodies.take(pages).enumerate() {
                     append(&mut engine.log, &mut wal, k as u32 + 1, body, 0);
                 }
-                match seal {
+                match frame {
                     None => append(&mut engine.log, &mut wal, 0, &header, HEADER.page_count),
-                    Some(seal) => {
-                        engine.log[wal.len..][..seal.len()].copy_from_slice(seal);
-                        wal.len += seal.len();
+                    Some(frame) => {
+                        engine.log[wal.len..][..frame.len()].copy_from_slice(frame);
+                        wal.len += frame.len();
                     }
                 }
             });
@@ -97,8 +98,9 @@ fn frames(port: &mut InMemory, pool: &mut Pool, pages: usize, seal: Option<&[u8]
     each(time, commits)
 }
 
-/// The seal of every commit behind a fold, whose salt stays the same.
-fn seal_frame(mut wal: sys::Wal) -> Vec<u8> {
+/// The commit frame of every commit behind a checkpoint, whose salt stays the
+/// same.
+fn commit_frame(mut wal: sys::Wal) -> Vec<u8> {
     let mut log = vec![0; sys::LOG_AREA];
     let at = wal.len;
     append(&mut log, &mut wal, 0, &header_page(), HEADER.page_count);

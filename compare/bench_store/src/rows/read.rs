@@ -2,7 +2,7 @@
 
 use std::hint::black_box;
 
-use stand_in::world::mix;
+use splitmix::mix;
 
 use super::{Folder, assert_agreed, begin};
 use crate::files::{self, PAGE_COUNT, PAGES};

@@ -1,16 +1,22 @@
 //! Pseudo-random batches, good and damaged.
 
+use splitmix::Random;
+
 use super::body::{Body, Value};
 use super::samples::{FLOATS, INTEGERS, REALS};
 use super::{case, whole};
 use crate::cases::Cases;
-use crate::random::Random;
 
 const NAMES: [&str; 10] = ["", "", "a", "id", "t1", "é", "名", "😀", "x y", "\0"];
 
+pub fn add_all(cases: &mut Cases) {
+    batches(cases);
+    garbage(cases);
+}
+
 /// Half of them good, the others with a byte replaced, removed or put in;
 /// every third as it stands in a frame.
-pub fn batches(cases: &mut Cases) {
+fn batches(cases: &mut Cases) {
     let mut random = Random::new(6);
     for round in 0..400 {
         let mut bytes = bytes(&mut random, round % 6);
@@ -86,7 +92,7 @@ fn integer(random: &mut Random) -> i64 {
 }
 
 /// Small bytes behind a good heading, so that some of it decodes.
-pub fn garbage(cases: &mut Cases) {
+fn garbage(cases: &mut Cases) {
     let mut random = Random::new(7);
     for round in 0..150 {
         let records = 1 + random.below(3);

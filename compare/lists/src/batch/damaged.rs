@@ -33,8 +33,13 @@ fn mixed() -> Body {
         .tombstone("u", 2)
 }
 
+pub fn add_all(cases: &mut Cases) {
+    truncated(cases);
+    bytes(cases);
+}
+
 /// Cut short, and those cut short with zeros in place of what is gone.
-pub fn truncated(cases: &mut Cases) {
+fn truncated(cases: &mut Cases) {
     for body in small_batches() {
         let bytes = body.as_ref();
         for length in 0..=bytes.len() {
@@ -50,7 +55,7 @@ pub fn truncated(cases: &mut Cases) {
 
 /// Each byte changed in three ways; of the largest one also as it stands in
 /// a frame, where a higher count finds zeros.
-pub fn bytes(cases: &mut Cases) {
+fn bytes(cases: &mut Cases) {
     for body in small_batches() {
         for at in 0..body.as_ref().len() {
             for change in [0x01, 0x80, 0xff] {

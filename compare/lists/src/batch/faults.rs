@@ -13,8 +13,16 @@ fn add_cuts(cases: &mut Cases, body: &Body, first: usize) {
     }
 }
 
+pub fn add_all(cases: &mut Cases) {
+    headings(cases);
+    ops(cases);
+    tags(cases);
+    texts(cases);
+    two_faults(cases);
+}
+
 /// Bodies of up to 18 bytes, and other magics.
-pub fn headings(cases: &mut Cases) {
+fn headings(cases: &mut Cases) {
     let good = Body::new(0x0102_0304_0506_0708, 0);
     for length in 0..=19 {
         for bytes in [[0; 19], [0xff; 19], *b"MVCC0001MVCC0001MVC"] {
@@ -42,7 +50,7 @@ pub fn headings(cases: &mut Cases) {
 
 /// An op is judged after its table and its row id: where one of those is
 /// cut off, the body is truncated, whatever the op.
-pub fn ops(cases: &mut Cases) {
+fn ops(cases: &mut Cases) {
     for op in samples(2) {
         cases.add(case(Body::new(1, 1).record(op, "", 0)));
         cases.add(case(whole(Body::new(1, 1).record(op, "t", 1))));
@@ -60,7 +68,7 @@ pub fn ops(cases: &mut Cases) {
 }
 
 /// A tag is judged before what is behind it.
-pub fn tags(cases: &mut Cases) {
+fn tags(cases: &mut Cases) {
     let row = Body::new(1, 1).present("t", 1, 1).name("c");
     for tag in samples(6) {
         cases.add(case(row.clone().bytes([tag])));
@@ -86,7 +94,7 @@ fn samples(first: u8) -> impl Iterator<Item = u8> {
 /// What isn't text, in each place that a text has: whole; with its own end
 /// cut off, which is judged before; and cut right behind it or with another
 /// op or tag, which are judged later.
-pub fn texts(cases: &mut Cases) {
+fn texts(cases: &mut Cases) {
     for bad in NO_TEXTS {
         for op in [0, 1, 2, 0xff] {
             let table = Body::new(1, 1).record(op, bad, 1);
@@ -114,7 +122,7 @@ pub fn texts(cases: &mut Cases) {
 
 /// Two records or columns, each good or with a fault of its own: the first
 /// fault counts.
-pub fn two_faults(cases: &mut Cases) {
+fn two_faults(cases: &mut Cases) {
     let good = Body::new(1, 1).tombstone("ok", 1);
     let bad_text = Body::new(1, 1).tombstone(b"\xff", 1);
     let bad_op = Body::new(1, 1).record(9, "t", 1);

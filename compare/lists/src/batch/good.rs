@@ -1,10 +1,11 @@
 //! Batches that decode.
 
+use splitmix::Random;
+
 use super::body::{Body, Value};
 use super::samples::{FLOATS, INTEGERS, REALS};
 use super::{case, whole};
 use crate::cases::Cases;
-use crate::random::Random;
 use crate::utf8::samples::SCRIPTS;
 
 /// A body that ends with its batch, and the same as a frame has it.
@@ -18,8 +19,18 @@ fn single(value: Value) -> Body {
     Body::new(7, 1).present("t", 1, 1).column("c", value)
 }
 
+pub fn add_all(cases: &mut Cases) {
+    numbers(cases);
+    values(cases);
+    sweeps(cases);
+    texts(cases);
+    vectors(cases);
+    records(cases);
+    garbage_behind(cases);
+}
+
 /// Commit times and row ids.
-pub fn numbers(cases: &mut Cases) {
+fn numbers(cases: &mut Cases) {
     for time in INTEGERS.map(|number| number as u64) {
         add(cases, Body::new(time, 0));
     }
@@ -29,7 +40,7 @@ pub fn numbers(cases: &mut Cases) {
     }
 }
 
-pub fn values(cases: &mut Cases) {
+fn values(cases: &mut Cases) {
     add(cases, single(Value::Null));
     for number in INTEGERS {
         add(cases, single(Value::Integer(number)));
@@ -47,7 +58,7 @@ pub fn values(cases: &mut Cases) {
 
 /// Each bit of an integer and of a real alone, each payload bit of a NaN
 /// (all but the highest: signalling), each byte of a bool.
-pub fn sweeps(cases: &mut Cases) {
+fn sweeps(cases: &mut Cases) {
     let columns = |count, of: &dyn Fn(u16) -> Value<'static>| {
         (0..count).fold(Body::new(1, 1).present("", 0, count), |body, index| {
             body.column("", of(index))
@@ -62,7 +73,7 @@ pub fn sweeps(cases: &mut Cases) {
 }
 
 /// Every script in each place that a text has, and long texts.
-pub fn texts(cases: &mut Cases) {
+fn texts(cases: &mut Cases) {
     add(cases, Body::new(1, 1).tombstone("", 1));
     add(cases, Body::new(1, 1).present("", 1, 0));
     add(cases, single(Value::Text(b"")));
@@ -87,7 +98,7 @@ pub fn texts(cases: &mut Cases) {
     add(cases, everywhere);
 }
 
-pub fn vectors(cases: &mut Cases) {
+fn vectors(cases: &mut Cases) {
     add(cases, single(Value::Vector(&[])));
     add(cases, single(Value::Vector(&FLOATS)));
     for count in [2, 3, 255, 256, 257, 1_000] {
@@ -99,7 +110,7 @@ pub fn vectors(cases: &mut Cases) {
 }
 
 /// Several records, with columns of all kinds; none; and some alike.
-pub fn records(cases: &mut Cases) {
+fn records(cases: &mut Cases) {
     add(cases, all_kinds());
     for count in 0..5 {
         let tombstones = (0..count).fold(Body::new(9, count), |body, index| {
@@ -145,7 +156,7 @@ fn all_kinds() -> Body {
 }
 
 /// Bytes behind the last record are ignored, whatever they are.
-pub fn garbage_behind(cases: &mut Cases) {
+fn garbage_behind(cases: &mut Cases) {
     let one = Body::new(3, 1).tombstone("t", 4);
     for body in [Body::new(3, 0), one.clone(), single(Value::Bool(0xff))] {
         for garbage in [

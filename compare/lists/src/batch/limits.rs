@@ -1,7 +1,7 @@
 //! Batches that fill a body, and counts and lengths that are too high.
 
 use engine::sql::pager::page::PAGE_SIZE;
-use stand_in::world::mix;
+use splitmix::mix;
 
 use super::body::{Body, Value};
 use super::case;
@@ -14,9 +14,17 @@ fn of_length(body: &Body, length: usize) -> Vec<u8> {
     bytes
 }
 
+pub fn add_all(cases: &mut Cases) {
+    tombstones(cases);
+    null_columns(cases);
+    claimed(cases);
+    to_the_last_byte(cases);
+    lengths(cases);
+}
+
 /// Zeros are tombstones with row id 0. 370 fit, 371 don't; a byte more or
 /// less at the end. Then 370 with rows of their own.
-pub fn tombstones(cases: &mut Cases) {
+fn tombstones(cases: &mut Cases) {
     for count in [1, 2, 369, 370, 371] {
         let end = 18 + 11 * usize::from(count);
         for length in [end - 11, end - 1, end, end + 1, PAGE_SIZE - 1, PAGE_SIZE] {
@@ -31,7 +39,7 @@ pub fn tombstones(cases: &mut Cases) {
 }
 
 /// Zeros are null columns with empty names. 1,355 fill the body.
-pub fn null_columns(cases: &mut Cases) {
+fn null_columns(cases: &mut Cases) {
     for count in [1, 2, 1_354, 1_355, 1_356] {
         let end = 31 + 3 * usize::from(count);
         let row = Body::new(1, 1).present("", 5, count);
@@ -43,7 +51,7 @@ pub fn null_columns(cases: &mut Cases) {
 }
 
 /// More records and columns claimed than any body has.
-pub fn claimed(cases: &mut Cases) {
+fn claimed(cases: &mut Cases) {
     for count in [372, 4_096, 0x7fff, 0x8000, 0xff00, 0xffff] {
         for length in [18, 19, 28, 29, 30, PAGE_SIZE] {
             cases.add(case(of_length(&Body::new(1, count), length)));
@@ -57,7 +65,7 @@ pub fn claimed(cases: &mut Cases) {
 
 /// A last field that ends with the body: a byte less and it doesn't fit. The
 /// texts are of NULs and the elements zeros; at last a text of letters.
-pub fn to_the_last_byte(cases: &mut Cases) {
+fn to_the_last_byte(cases: &mut Cases) {
     let zeros = [0; PAGE_SIZE];
     let row = Body::new(1, 1).present("", 1, 1);
     for body in [
@@ -78,7 +86,7 @@ pub fn to_the_last_byte(cases: &mut Cases) {
 
 /// Lengths and counts around what is left of the body, and so high that a
 /// sum or a product of 32 bits would come out low.
-pub fn lengths(cases: &mut Cases) {
+fn lengths(cases: &mut Cases) {
     let row = Body::new(1, 1).present("", 1, 1);
     for behind in [0u16, 1, 8, 100] {
         for length in [behind, behind + 1, 0xff, 0x100, 0x7fff, 0x8000, 0xffff] {

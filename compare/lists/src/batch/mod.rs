@@ -86,27 +86,11 @@ fn whole(body: impl AsRef<[u8]>) -> Vec<u8> {
 
 fn cases() -> Vec<Vec<u8>> {
     let mut cases = Cases::default();
-    good::numbers(&mut cases);
-    good::values(&mut cases);
-    good::sweeps(&mut cases);
-    good::texts(&mut cases);
-    good::vectors(&mut cases);
-    good::records(&mut cases);
-    good::garbage_behind(&mut cases);
-    limits::tombstones(&mut cases);
-    limits::null_columns(&mut cases);
-    limits::claimed(&mut cases);
-    limits::to_the_last_byte(&mut cases);
-    limits::lengths(&mut cases);
-    faults::headings(&mut cases);
-    faults::ops(&mut cases);
-    faults::tags(&mut cases);
-    faults::texts(&mut cases);
-    faults::two_faults(&mut cases);
-    damaged::truncated(&mut cases);
-    damaged::bytes(&mut cases);
-    at_random::batches(&mut cases);
-    at_random::garbage(&mut cases);
+    good::add_all(&mut cases);
+    limits::add_all(&mut cases);
+    faults::add_all(&mut cases);
+    damaged::add_all(&mut cases);
+    at_random::add_all(&mut cases);
     cases.into_vec()
 }
 

@@ -1,12 +1,13 @@
 //! Pseudo-random logs of 0 to 15 frames, most of them with a fault.
 
+use splitmix::Random;
+
 use super::headers::{CREATED, Header};
 use super::place;
 use super::recipe::{LONGEST_LOG, Recipe};
 use crate::batch::body::Body;
 use crate::cases::Cases;
-use crate::frame::{Drawn, Heading};
-use crate::random::Random;
+use crate::frame::{Heading, SeededFrame};
 
 pub fn logs(cases: &mut Cases) {
     let mut random = Random::new(10);
@@ -38,7 +39,7 @@ pub fn frame(random: &mut Random, log: Recipe) -> Recipe {
         0 => {
             let heading = Heading::new(page, count, log.salt());
             let kind = random.below(6) as u8;
-            log.drawn(Drawn::new(heading, kind, random.u32()))
+            log.seeded(SeededFrame::new(heading, kind, random.u32()))
         }
         1 => log.batch(count, Body::new(random.u64() >> 60, body as u16)),
         2 => log.batch(count, Body::new(0, 1).tombstone("t", body as i64)),

@@ -4,16 +4,17 @@
 use std::collections::BTreeMap;
 use std::fmt::{self, Display, Formatter};
 
+use splitmix::Random;
+
 use super::headers::{CREATED, Header};
 use super::recipe::{LONGEST_LOG, Recipe};
 use super::{at_random, oracle, place};
 use crate::batch;
-use crate::frame::{Drawn, Heading};
+use crate::frame::{Heading, SeededFrame};
 use crate::hex;
-use crate::random::Random;
 
 /// Compares a listing with the Rust's, log by log, up to the first
-/// difference, which it tells whole.
+/// difference, which it reports whole.
 pub fn compare(seed: u64, count: u64, listed: fn(&[u8]) -> String) -> Result<Found, String> {
     let mut random = Random::new(seed);
     let mut found = Found::default();
@@ -21,10 +22,10 @@ pub fn compare(seed: u64, count: u64, listed: fn(&[u8]) -> String) -> Result<Fou
         let recipe = any(&mut random);
         let log = recipe.log();
         let wanted = oracle::listed(log) + "\n";
-        let told = listed(log);
-        if told != wanted {
+        let listing = listed(log);
+        if listing != wanted {
             return Err(format!(
-                "log {index} of seed {seed}\n{}\nthe Rust:\n{wanted}the port:\n{told}\n{found}",
+                "log {index} of seed {seed}\n{}\nthe Rust:\n{wanted}the port:\n{listing}\n{found}",
                 hex::digits(log)
             ));
         }
@@ -46,17 +47,17 @@ impl Found {
                 ["log", ..] => continue,
                 [_, kind, _, count] if kind == "page" || kind == "batch" => {
                     frames += 1;
-                    let seals = if count == "0" { "" } else { ", a seal" };
-                    format!("frame, {kind}{seals}")
+                    let commit = if count == "0" { "" } else { ", a seal" };
+                    format!("frame, {kind}{commit}")
                 }
                 ["end", count, _, last] => {
-                    let sealed = if last == "-" { "none" } else { "some" };
+                    let committed = if last == "-" { "none" } else { "some" };
                     let ended = if count == frames.to_string() {
                         ""
                     } else {
                         ", then a batch that doesn't decode"
                     };
-                    format!("log, {sealed} sealed{ended}")
+                    format!("log, {committed} sealed{ended}")
                 }
                 _ => format!("log, {line}"),
             };
@@ -97,7 +98,7 @@ fn garbage(random: &mut Random) -> Recipe {
         2 => CREATED.log().length(random.below(33)),
         _ => {
             let heading = Heading::new(number(random), number(random), number(random));
-            any.drawn(Drawn::new(heading, 1, random.u32()))
+            any.seeded(SeededFrame::new(heading, 1, random.u32()))
         }
     }
 }
@@ -136,7 +137,11 @@ fn frame(random: &mut Random, log: Recipe) -> Recipe {
         }
         8..12 => {
             let heading = Heading::new(number(random), count, salt);
-            log.drawn(Drawn::new(heading, random.below(6) as u8, random.u32()))
+            log.seeded(SeededFrame::new(
+                heading,
+                random.below(6) as u8,
+                random.u32(),
+            ))
         }
         12..16 if salt == 0 => log.length(end),
         16 => {
@@ -152,7 +157,7 @@ fn frame(random: &mut Random, log: Recipe) -> Recipe {
 }
 
 /// A fault as the list has them; or one in the header, one that the sum
-/// doesn't see, bytes behind the end, frames behind a torn tail.
+/// doesn't see, bytes behind the end, frames behind a torn frame.
 fn faulty(random: &mut Random, log: Recipe) -> Recipe {
     let length = log.log().len();
     if length < 32 {
@@ -193,10 +198,10 @@ mod tests {
     }
 
     #[test]
-    fn a_difference_is_told_whole() {
-        let told = compare(1, 1, |_| "no listing\n".to_string()).err().unwrap();
+    fn a_difference_is_reported_whole() {
+        let report = compare(1, 1, |_| "no listing\n".to_string()).err().unwrap();
         let log = hex::digits(any(&mut Random::new(1)).log());
-        assert!(told.starts_with("log 0 of seed 1\n"));
-        assert!(told.contains(&log) && told.contains("the port:\nno listing\n"));
+        assert!(report.starts_with("log 0 of seed 1\n"));
+        assert!(report.contains(&log) && report.contains("the port:\nno listing\n"));
     }
 }

@@ -1,4 +1,4 @@
-//! Batch frames: good, undecodable, sealing.
+//! Batch frames: good, undecodable, commit frames.
 
 use super::headers::{CREATED, Header};
 use super::place;
@@ -48,17 +48,23 @@ fn bad_bodies() -> Vec<Body> {
     ]
 }
 
-/// Each alone, as the seal, with page frames around it, and twice.
-pub fn bodies(cases: &mut Cases) {
+pub fn add_all(cases: &mut Cases) {
+    bodies(cases);
+    damaged(cases);
+    versions(cases);
+}
+
+/// Each alone, as the commit frame, with page frames around it, and twice.
+fn bodies(cases: &mut Cases) {
     for body in good_bodies().into_iter().chain(bad_bodies()) {
         let log = CREATED.log();
         cases.add(log.clone().batch(0, &body));
         cases.add(log.clone().batch(5, &body));
         let page = log.clone().page(1, 0, b"1").batch(7, &body);
         cases.add(page.page(0, 2, b""));
-        let sealed = log.page(1, 3, b"1").batch(0, &body);
-        cases.add(sealed.clone().page(2, 4, b"2"));
-        cases.add(sealed.batch(0, &body));
+        let committed = log.page(1, 3, b"1").batch(0, &body);
+        cases.add(committed.clone().page(2, 4, b"2"));
+        cases.add(committed.batch(0, &body));
     }
     // The page number before the batches': any body will do.
     for body in [tombstone(), Body::new(0, 0).bytes(b"x")] {
@@ -68,7 +74,7 @@ pub fn bodies(cases: &mut Cases) {
 
 /// A change that the sum shows isn't counted as undecodable, and one that
 /// makes a batch of a page, or a page of a batch, isn't good.
-pub fn damaged(cases: &mut Cases) {
+fn damaged(cases: &mut Cases) {
     let log = CREATED.log().page(1, 2, b"1").batch(0, tombstone());
     let log = log.page(0, 3, b"");
     for at in [
@@ -100,7 +106,7 @@ pub fn damaged(cases: &mut Cases) {
 }
 
 /// Older versions have batches too.
-pub fn versions(cases: &mut Cases) {
+fn versions(cases: &mut Cases) {
     for version in 1..=3 {
         let header = Header {
             version,

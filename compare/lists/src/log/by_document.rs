@@ -38,7 +38,7 @@ pub fn listed(log: &[u8]) -> String {
         }
         frames += 1;
         let page = number(at, 4);
-        let seal = number(at + 4, 4);
+        let commit_count = number(at + 4, 4);
         let frame = if page != 4_294_967_295 {
             format!("page {page}")
         } else if let Some(records) = batch::by_document::records(body) {
@@ -46,10 +46,10 @@ pub fn listed(log: &[u8]) -> String {
         } else {
             break;
         };
-        lines.push(format!("{} {frame} {seal}", frames - 1));
-        if seal != 0 {
+        lines.push(format!("{} {frame} {commit_count}", frames - 1));
+        if commit_count != 0 {
             commit_point = at + 4_112;
-            last = seal.to_string();
+            last = commit_count.to_string();
         }
     }
     lines.push(format!("end {frames} {commit_point} {last}"));

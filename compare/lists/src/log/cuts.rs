@@ -4,19 +4,19 @@ use super::headers::{CREATED, Header};
 use super::place;
 use super::recipe::Recipe;
 use crate::cases::Cases;
-use crate::frame::{Drawn, Heading};
+use crate::frame::{Heading, SeededFrame};
 
-/// A page and two seals, with bodies that have few zeros.
+/// A page and two commit frames, with bodies that have few zeros.
 pub fn three_frames() -> Recipe {
     let frame = |page, count, kind, seed| {
         let heading = Heading::new(page, count, CREATED.salt);
-        Drawn::new(heading, kind, seed)
+        SeededFrame::new(heading, kind, seed)
     };
     CREATED
         .log()
-        .drawn(frame(1, 0, 1, 11))
-        .drawn(frame(2, 3, 5, 4_096))
-        .drawn(frame(0, 4, 3, 13))
+        .seeded(frame(1, 0, 1, 11))
+        .seeded(frame(2, 3, 5, 4_096))
+        .seeded(frame(0, 4, 3, 13))
 }
 
 /// Bytes of a frame that a cut leaves.
@@ -24,7 +24,13 @@ const LEFT: [usize; 17] = [
     0, 1, 3, 4, 5, 8, 11, 12, 13, 15, 16, 17, 100, 2_064, 4_095, 4_110, 4_111,
 ];
 
-pub fn torn(cases: &mut Cases) {
+pub fn add_all(cases: &mut Cases) {
+    torn(cases);
+    filled_up(cases);
+    off_their_places(cases);
+}
+
+fn torn(cases: &mut Cases) {
     for index in 0..3 {
         for left in LEFT {
             cases.add(three_frames().length(place(index) + left));
@@ -37,7 +43,7 @@ pub fn torn(cases: &mut Cases) {
 }
 
 /// Zeros where a frame was cut off. A body of zeros is whole again.
-pub fn filled_up(cases: &mut Cases) {
+fn filled_up(cases: &mut Cases) {
     for left in LEFT {
         for index in [1, 2] {
             let log = three_frames().length(place(index) + left);
@@ -48,9 +54,9 @@ pub fn filled_up(cases: &mut Cases) {
     }
 }
 
-/// A frame added behind a torn tail lands off its place, and one behind it
+/// A frame added behind a torn frame lands off its place, and one behind it
 /// too. With zeros between they are at their places, but behind a bad frame.
-pub fn off_their_places(cases: &mut Cases) {
+fn off_their_places(cases: &mut Cases) {
     let bare = Header { salt: 0, ..CREATED };
     let bare = bare.log().page(1, 2, b"").page(2, 0, b"two");
     for left in [1, 8, 16, 32, 2_056, 4_096, 4_111] {

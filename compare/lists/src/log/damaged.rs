@@ -5,10 +5,17 @@ use super::headers::{CREATED, Header};
 use super::place;
 use super::recipe::Recipe;
 use crate::cases::Cases;
-use crate::frame::{Drawn, Heading};
+use crate::frame::{Heading, SeededFrame};
+
+pub fn add_all(cases: &mut Cases) {
+    headings(cases);
+    bodies(cases);
+    unseen(cases);
+    other_salts(cases);
+}
 
 /// Each byte of each heading, changed in three ways.
-pub fn headings(cases: &mut Cases) {
+fn headings(cases: &mut Cases) {
     for index in 0..3 {
         for at in 0..16 {
             for change in [0x01, 0x80, 0xff] {
@@ -18,7 +25,7 @@ pub fn headings(cases: &mut Cases) {
     }
 }
 
-pub fn bodies(cases: &mut Cases) {
+fn bodies(cases: &mut Cases) {
     for index in 0..3 {
         for at in [0, 1, 2, 31, 32, 2_047, 2_048, 4_094, 4_095] {
             let change = if at % 2 == 0 { 0x01 } else { 0x80 };
@@ -28,10 +35,10 @@ pub fn bodies(cases: &mut Cases) {
 }
 
 /// Changes that the sum doesn't see: a byte one less and the next one two
-/// more. In a heading they make another page of it, or a seal, or another
-/// salt. Then bytes swapped that are 32 places apart: between them the sum
-/// turns once around.
-pub fn unseen(cases: &mut Cases) {
+/// more. In a heading they make another page of it, or a commit frame, or
+/// another salt. Then bytes swapped that are 32 places apart: between them the
+/// sum turns once around.
+fn unseen(cases: &mut Cases) {
     let less_and_more = |log: Recipe, at: usize| {
         let before = log.log()[at] - 1;
         let behind = log.log()[at + 1] + 2;
@@ -39,8 +46,8 @@ pub fn unseen(cases: &mut Cases) {
     };
     for at in [0, 1, 2, 31, 100, 3_000, 4_094] {
         // One byte, 1, in a body of zeros.
-        let drawn = Drawn::new(Heading::new(1, 2, CREATED.salt), 4, at + 4_096);
-        let log = CREATED.log().drawn(drawn).page(2, 3, b"");
+        let frame = SeededFrame::new(Heading::new(1, 2, CREATED.salt), 4, at + 4_096);
+        let log = CREATED.log().seeded(frame).page(2, 3, b"");
         cases.add(less_and_more(log, place(0) + 16 + at as usize));
     }
     for heading in [
@@ -73,7 +80,7 @@ pub fn unseen(cases: &mut Cases) {
 
 /// One of three frames, or all, with another salt, else in order. The last
 /// is the log's with its bytes swapped.
-pub fn other_salts(cases: &mut Cases) {
+fn other_salts(cases: &mut Cases) {
     for salt in [0, CREATED.salt] {
         let header = Header { salt, ..CREATED };
         for other in [

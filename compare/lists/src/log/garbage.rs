@@ -1,14 +1,20 @@
 //! Bytes that were never a log.
 
+use splitmix::Random;
+
 use super::headers::CREATED;
 use super::place;
 use super::recipe::Recipe;
 use crate::cases::Cases;
-use crate::frame::{Drawn, Heading};
-use crate::random::Random;
+use crate::frame::{Heading, SeededFrame};
+
+pub fn add_all(cases: &mut Cases) {
+    alone(cases);
+    behind_a_header(cases);
+}
 
 /// Without a header: pseudo-random bytes, a main file's, frames alone.
-pub fn alone(cases: &mut Cases) {
+fn alone(cases: &mut Cases) {
     let mut random = Random::new(8);
     for length in [1, 7, 16, 30, 31, 32, 33, 48, 64, 100, 150, 200] {
         cases.add(Recipe::default().bytes(&random.bytes(length)));
@@ -18,9 +24,9 @@ pub fn alone(cases: &mut Cases) {
     cases.add(main.length(8_192));
     cases.add(Recipe::default().bytes(b"SQLite format 3\0").length(4_096));
     for kind in 0..6 {
-        let frame = Drawn::new(Heading::new(random.u32(), 0, random.u32()), kind, 254);
-        cases.add(Recipe::default().drawn(frame));
-        cases.add(Recipe::default().drawn(frame).drawn(frame).length(5_000));
+        let frame = SeededFrame::new(Heading::new(random.u32(), 0, random.u32()), kind, 254);
+        cases.add(Recipe::default().seeded(frame));
+        cases.add(Recipe::default().seeded(frame).seeded(frame).length(5_000));
     }
     cases.add(Recipe::default().length(place(15)));
     // A header that isn't at the front.
@@ -30,14 +36,14 @@ pub fn alone(cases: &mut Cases) {
 
 /// Pseudo-random bytes where frames should be: few, then zeros up to the end
 /// of a frame; or frames whose heading is replaced.
-pub fn behind_a_header(cases: &mut Cases) {
+fn behind_a_header(cases: &mut Cases) {
     let mut random = Random::new(9);
     for length in [1, 4, 12, 15, 16, 17, 20, 40, 80, 120] {
         let log = CREATED.log().bytes(&random.bytes(length));
         cases.add(log.clone());
         cases.add(log.length(place(1 + length % 4)));
-        let sealed = CREATED.log().page(0, 2, b"");
-        let log = sealed.bytes(&random.bytes(length));
+        let committed = CREATED.log().page(0, 2, b"");
+        let log = committed.bytes(&random.bytes(length));
         cases.add(log.length(place(3)));
     }
     for round in 0..24 {
@@ -45,7 +51,7 @@ pub fn behind_a_header(cases: &mut Cases) {
         let mut log = CREATED.log().page(page, 2, b"good");
         for index in 1..3 {
             let heading = Heading::new(page, 0, log.salt());
-            log = log.drawn(Drawn::new(heading, round % 6, random.u32()));
+            log = log.seeded(SeededFrame::new(heading, round % 6, random.u32()));
             // Some leave the salt as it is.
             let kept = random.pick(&[0, 0, 4, 8]);
             let put = random.bytes(16 - kept);

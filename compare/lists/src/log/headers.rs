@@ -44,14 +44,23 @@ impl Header {
         Recipe::default().bytes(&self.bytes())
     }
 
-    /// With a page and its seal.
+    /// With a page and its commit frame.
     fn two_frames(&self) -> Recipe {
         self.log().page(1, 0, b"one").page(0, 2, b"")
     }
 }
 
+pub fn add_all(cases: &mut Cases) {
+    example(cases);
+    fields(cases);
+    versions_and_page_sizes(cases);
+    damaged_bytes(cases);
+    short_logs(cases);
+    several_faults(cases);
+}
+
 /// Document 01's, with the lengths of its cases.
-pub fn example(cases: &mut Cases) {
+fn example(cases: &mut Cases) {
     let header = Header { salt: 0, ..CREATED };
     let log = header.log().page(1, 0, b"").page(1, 2, b"");
     cases.add(log.clone());
@@ -61,7 +70,7 @@ pub fn example(cases: &mut Cases) {
 }
 
 /// Salt, sequence and clock at their borders.
-pub fn fields(cases: &mut Cases) {
+fn fields(cases: &mut Cases) {
     for number in [1, 255, 256, 65_535, 65_536, 1 << 31, u32::MAX, 0x0102_0304] {
         let salt = number;
         let sequence = number;
@@ -88,7 +97,7 @@ pub fn fields(cases: &mut Cases) {
 
 /// Batches count under every version that is read. Also the good numbers
 /// with their bytes moved.
-pub fn versions_and_page_sizes(cases: &mut Cases) {
+fn versions_and_page_sizes(cases: &mut Cases) {
     let moved = [0x0100, 0x0300, 0x0001_0000, 0x0100_0000, 0x0300_0000];
     for version in (0..=7).chain(moved).chain([255, 257, u32::MAX]) {
         let header = Header { version, ..CREATED };
@@ -113,7 +122,7 @@ pub fn versions_and_page_sizes(cases: &mut Cases) {
 
 /// Each byte changed in three ways; where only the salt is, the frames
 /// aren't good any more.
-pub fn damaged_bytes(cases: &mut Cases) {
+fn damaged_bytes(cases: &mut Cases) {
     let log = CREATED.two_frames();
     for at in 0..32 {
         for change in [0x01, 0x80, 0xff] {
@@ -123,7 +132,7 @@ pub fn damaged_bytes(cases: &mut Cases) {
 }
 
 /// Lengths up to the header's own, of a header and of other bytes.
-pub fn short_logs(cases: &mut Cases) {
+fn short_logs(cases: &mut Cases) {
     for length in 0..=32 {
         cases.add(Recipe::default().bytes(&CREATED.bytes()[..length]));
     }
@@ -135,7 +144,7 @@ pub fn short_logs(cases: &mut Cases) {
 
 /// Length, magic, version and page size, wrong in every combination: the
 /// lowest number is the answer.
-pub fn several_faults(cases: &mut Cases) {
+fn several_faults(cases: &mut Cases) {
     let other = *b"SQLRWAL1";
     for magic in [CREATED.magic, other, *b"SQLRiteF", *b"\0LAWRLQS"] {
         for version in [3, 0, 4] {

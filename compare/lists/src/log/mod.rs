@@ -9,13 +9,13 @@ pub mod at_scale;
 mod batches;
 #[cfg(test)]
 mod by_document;
+mod commit_frames;
 mod cuts;
 mod damaged;
 mod garbage;
 mod headers;
 pub mod oracle;
 mod recipe;
-mod seals;
 mod zeros;
 
 use crate::cases::Cases;
@@ -38,29 +38,13 @@ fn answer(case: &[u8]) -> String {
 
 fn cases() -> Vec<Vec<u8>> {
     let mut cases = Cases::default();
-    headers::example(&mut cases);
-    headers::fields(&mut cases);
-    headers::versions_and_page_sizes(&mut cases);
-    headers::damaged_bytes(&mut cases);
-    headers::short_logs(&mut cases);
-    headers::several_faults(&mut cases);
-    cuts::torn(&mut cases);
-    cuts::filled_up(&mut cases);
-    cuts::off_their_places(&mut cases);
-    damaged::headings(&mut cases);
-    damaged::bodies(&mut cases);
-    damaged::unseen(&mut cases);
-    damaged::other_salts(&mut cases);
-    seals::patterns(&mut cases);
-    seals::pages_and_counts(&mut cases);
-    seals::full_logs(&mut cases);
-    batches::bodies(&mut cases);
-    batches::damaged(&mut cases);
-    batches::versions(&mut cases);
-    zeros::salt_0(&mut cases);
-    zeros::disturbed(&mut cases);
-    garbage::alone(&mut cases);
-    garbage::behind_a_header(&mut cases);
+    headers::add_all(&mut cases);
+    cuts::add_all(&mut cases);
+    damaged::add_all(&mut cases);
+    commit_frames::add_all(&mut cases);
+    batches::add_all(&mut cases);
+    zeros::add_all(&mut cases);
+    garbage::add_all(&mut cases);
     at_random::logs(&mut cases);
     cases.into_vec()
 }
@@ -123,7 +107,7 @@ mod tests {
         assert_eq!(answer(&cases()[0]), example);
     }
 
-    /// Every refusal, every number of frames, with and without a seal.
+    /// Every refusal, every number of frames, with and without a commit frame.
     #[test]
     fn every_answer_comes_often() {
         let mut found = BTreeMap::new();

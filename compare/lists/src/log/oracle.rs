@@ -74,8 +74,8 @@ fn version(log: &[u8]) -> u32 {
         Ok(_) => panic!("4 to 6 are no versions"),
         Err(error) => error.to_string(),
     };
-    let (_, named) = text.split_once(OTHER_VERSION).expect("the version first");
-    let (number, _) = named.split_once(';').expect("then what it reads");
+    let (_, behind) = text.split_once(OTHER_VERSION).expect("the version first");
+    let (number, _) = behind.split_once(';').expect("then what it reads");
     number.parse::<u32>().expect("a number") - 3
 }
 
@@ -83,8 +83,9 @@ fn version(log: &[u8]) -> u32 {
 /// it is a batch that doesn't decode.
 ///
 /// Alone behind the log's header it shows its commit count. With an empty
-/// batch as a seal behind it, it is the one page that the log has, or the
-/// first of two batches. If it doesn't decode, the seal isn't found.
+/// batch as a commit frame behind it, it is the one page that the log has, or
+/// the first of two batches. If it doesn't decode, the commit frame isn't
+/// found.
 fn described(header: &[u8], frame: &[u8]) -> Option<String> {
     let mut alone = open(&[header, frame].concat()).expect("the header is good");
     assert_eq!(alone.frame_count(), 1);
@@ -93,15 +94,15 @@ fn described(header: &[u8], frame: &[u8]) -> Option<String> {
         .append_frame(MVCC_FRAME_MARKER, &empty_batch(), Some(1))
         .expect("the stand-in's files take every store");
 
-    let mut sealed = Wal::open(&path()).expect("the header is good");
-    if sealed.frame_count() == 1 {
+    let mut committed = Wal::open(&path()).expect("the header is good");
+    if committed.frame_count() == 1 {
         return None;
     }
     let mut pages = HashMap::new();
-    let loaded = sealed.load_committed_into(&mut pages);
+    let loaded = committed.load_committed_into(&mut pages);
     loaded.expect("what was found can be read");
     let pages: Vec<_> = pages.into_iter().collect();
-    match (&pages[..], sealed.recovered_mvcc_commits()) {
+    match (&pages[..], committed.recovered_mvcc_commits()) {
         ([(page, body)], [_]) => {
             assert_eq!(body[..], frame[FRAME_HEADER_SIZE..]);
             Some(format!("page {page} {commit_count}"))
@@ -120,9 +121,9 @@ fn empty_batch() -> Box<[u8; PAGE_SIZE]> {
 }
 
 /// `read_page` shows no frame that ends behind the commit point. So the file
-/// is cut under the open log, an unsealed frame added at the cut, and read.
+/// is cut under the open log, an uncommitted frame added at the cut, and read.
 /// The last cut at which it shows has the commit point at the frame's end,
-/// to the byte; if it shows at none, nothing is sealed.
+/// to the byte; if it shows at none, nothing is committed.
 fn commit_point(log: &[u8]) -> usize {
     let mut wal = open(log).expect("it was opened before");
     let mut shows_at = |cut: usize| {

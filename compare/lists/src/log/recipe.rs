@@ -14,7 +14,7 @@
 
 use engine::sql::pager::page::PAGE_SIZE;
 
-use crate::frame::{Drawn, Heading, number};
+use crate::frame::{Heading, SeededFrame, number};
 
 /// Header and 15 frames: the most that the program `loglist` takes.
 pub const LONGEST_LOG: usize = 61_712;
@@ -31,7 +31,7 @@ impl Recipe {
         self.item(0, bytes)
     }
 
-    pub fn drawn(self, frame: Drawn) -> Self {
+    pub fn seeded(self, frame: SeededFrame) -> Self {
         self.item(1, &frame.to_bytes())
     }
 
@@ -81,7 +81,7 @@ impl Recipe {
         self.case.push(kind);
         self.case.extend((bytes.len() as u16).to_le_bytes());
         self.case.extend(bytes);
-        carry_out(&mut self.log, kind, bytes);
+        apply_item(&mut self.log, kind, bytes);
         self
     }
 }
@@ -99,17 +99,17 @@ pub fn build(case: &[u8]) -> Vec<u8> {
     while let [kind, low, high, behind @ ..] = left {
         let length = u16::from_le_bytes([*low, *high]);
         let (bytes, next) = behind.split_at(length.into());
-        carry_out(&mut log, *kind, bytes);
+        apply_item(&mut log, *kind, bytes);
         left = next;
     }
     assert!(left.is_empty(), "half an item");
     log
 }
 
-fn carry_out(log: &mut Vec<u8>, kind: u8, bytes: &[u8]) {
+fn apply_item(log: &mut Vec<u8>, kind: u8, bytes: &[u8]) {
     match kind {
         0 => log.extend(bytes),
-        1 => log.extend(Drawn::from_bytes(bytes).stored()),
+        1 => log.extend(SeededFrame::from_bytes(bytes).stored()),
         2 => {
             let (heading, first) = bytes.split_at(Heading::LENGTH);
             let mut body = [0; PAGE_SIZE];
@@ -161,15 +161,15 @@ mod tests {
     #[test]
     fn frames_have_their_sums() {
         let heading = Heading::new(3, 4, 5);
-        let drawn = Drawn::new(heading, 1, 6);
+        let frame = SeededFrame::new(heading, 1, 6);
         let recipe = Recipe::default().frame(heading, b"body\0\0");
-        let recipe = recipe.drawn(drawn);
+        let recipe = recipe.seeded(frame);
         let mut body = b"body".to_vec();
         body.resize(PAGE_SIZE, 0);
         for (frame, body) in recipe
             .log()
             .chunks(4_112)
-            .zip([&body[..], &drawn.body()[..]])
+            .zip([&body[..], &frame.body()[..]])
         {
             assert_eq!(frame[..12], heading.to_bytes());
             let sum = checksum::by_document(&frame[..12], body);

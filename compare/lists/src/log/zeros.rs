@@ -1,4 +1,4 @@
-//! Zero bytes. Under salt 0 they are good frames of page 0, not sealed.
+//! Zero bytes. Under salt 0 they are good frames of page 0, not committed.
 
 use super::headers::{CREATED, Header};
 use super::place;
@@ -6,7 +6,12 @@ use crate::cases::Cases;
 
 const SALT_0: Header = Header { salt: 0, ..CREATED };
 
-pub fn salt_0(cases: &mut Cases) {
+pub fn add_all(cases: &mut Cases) {
+    salt_0(cases);
+    disturbed(cases);
+}
+
+fn salt_0(cases: &mut Cases) {
     for frames in 0..=15 {
         let end = place(frames);
         for length in [end - 1, end, end + 1, end + 4_000] {
@@ -38,7 +43,7 @@ pub fn salt_0(cases: &mut Cases) {
 }
 
 /// Zeros before and behind other frames, and with one byte that isn't zero.
-pub fn disturbed(cases: &mut Cases) {
+fn disturbed(cases: &mut Cases) {
     for frames in [1, 2, 7] {
         let zeros = SALT_0.log().length(place(frames));
         cases.add(zeros.clone().page(1, 0, b"").page(0, 2, b""));

@@ -1,7 +1,8 @@
 //! Pseudo-random bytes that come near to being text.
 
+use splitmix::Random;
+
 use crate::cases::Cases;
-use crate::random::Random;
 
 /// Bytes at the borders of table 3-7.
 const INTERESTING: [u8; 32] = [

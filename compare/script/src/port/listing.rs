@@ -6,10 +6,10 @@ use lateenbael::sys;
 use super::batch;
 
 /// The longest log that `list_log` takes.
-const LONGEST: usize = 61_712;
+const LONGEST_LOG: usize = 61_712;
 
 pub fn listed(log: &[u8]) -> String {
-    if log.len() <= LONGEST {
+    if log.len() <= LONGEST_LOG {
         whole(log)
     } else {
         by_frames(log)
@@ -45,7 +45,7 @@ fn by_frames(log: &[u8]) -> String {
             lines += &format!("{index} {frame}\n");
         }
     }
-    let last = match wal.sealed {
+    let last = match wal.committed {
         0 => "-".to_string(),
         _ => wal.last_commit_page_count.to_string(),
     };

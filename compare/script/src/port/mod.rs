@@ -1,19 +1,19 @@
 //! The port through the C interface: the proved store in memory, and two
-//! files to which every store that it names is carried.
+//! files on which every write that it names is done.
 
 mod batch;
-mod carry;
 mod listing;
 mod probe;
+mod writer;
 
 use engine::sql::pager::header::DbHeader;
 use lateenbael::{Engine, Refusal, Step, sys};
 use stand_in::world::Salts;
 
 use crate::call::{Edit, Opening};
-use crate::side::{Act, Answer, Area, Cut, Named, Recovered, Refused, Side, State, Stored};
-use carry::{Carrier, Files};
+use crate::side::{Act, Answer, Area, Cut, Performed, Recovered, Refused, Side, State, Write};
 pub use probe::Probe;
+use writer::{Files, Writer};
 
 pub struct Port {
     pub engine: Engine,
@@ -42,47 +42,47 @@ impl Port {
         }
     }
 
-    /// Whether the engine's areas have the files' bytes; a store that was
+    /// Whether the engine's areas have the files' bytes; a write that was
     /// not named would part them. Read-only without a log there is no file.
     pub fn areas_are_the_files(&self) -> bool {
         self.files.get(Area::Main) == Some(self.engine.main_file())
             && (self.files.get(Area::Log)).is_none_or(|log| log == self.engine.log_file())
     }
 
-    fn carry(&mut self, carrier: &mut Carrier, store: Named) -> bool {
-        let area = match store.area {
+    fn write(&mut self, writer: &mut Writer, write: Write) -> bool {
+        let area = match write.area {
             Area::Main => &self.engine.main,
             Area::Log => &self.engine.log,
         };
-        let bytes = &area[store.first..][..store.length];
-        carrier.carry(&mut self.files, store, bytes)
+        let bytes = &area[write.first..][..write.length];
+        writer.write(&mut self.files, write, bytes)
     }
 
-    /// "creation writes": the stores as the Rust makes them, both files
+    /// "creation writes": as the Rust does them, both files
     /// emptied first.
-    fn create(&mut self, carrier: &mut Carrier) -> Answer<usize> {
+    fn create(&mut self, writer: &mut Writer) -> Answer<usize> {
         self.engine.create(self.salts.peek()).map_err(refused)?;
         self.open = true;
-        let on = self.carry(carrier, length(Area::Main, 0, false))
-            && self.carry(carrier, bytes(Area::Main, 0, 4_096, false))
-            && self.carry(carrier, bytes(Area::Main, 4_096, 4_096, true));
+        let on = self.write(writer, length(Area::Main, 0, false))
+            && self.write(writer, bytes(Area::Main, 0, 4_096, false))
+            && self.write(writer, bytes(Area::Main, 4_096, 4_096, true));
         if on {
-            self.carry_new_log(carrier);
+            self.write_new_log(writer);
         }
         Ok(0)
     }
 
     /// The salt is drawn once the log is empty.
-    fn carry_new_log(&mut self, carrier: &mut Carrier) {
-        if self.carry(carrier, length(Area::Log, 0, false)) {
+    fn write_new_log(&mut self, writer: &mut Writer) {
+        if self.write(writer, length(Area::Log, 0, false)) {
             self.salts.draw();
-            self.carry(carrier, bytes(Area::Log, 0, 32, true));
+            self.write(writer, bytes(Area::Log, 0, 32, true));
         }
     }
 
     /// A main file that isn't there has no byte. A file longer than its area
     /// is lent as far as it goes and judged by its length.
-    fn open(&mut self, opening: Opening, carrier: &mut Carrier) -> Answer<usize> {
+    fn open(&mut self, opening: Opening, writer: &mut Writer) -> Answer<usize> {
         let main = self.files.get(Area::Main).unwrap_or_default();
         let log = self.files.get(Area::Log);
         lend(&mut self.engine.main, main);
@@ -99,21 +99,21 @@ impl Port {
             // "cuts the log at the commit point"; DECISIONS, 38.
             (Opening::Clean, Some(_)) => {
                 let point = self.engine.store().wal.len;
-                self.carry(carrier, length(Area::Log, point, true));
+                self.write(writer, length(Area::Log, point, true));
             }
             // "absent means a fresh log"
-            (_, None) => self.carry_new_log(carrier),
+            (_, None) => self.write_new_log(writer),
         }
         Ok(0)
     }
 
-    fn batch(&mut self, body: &[u8], carrier: &mut Carrier) -> Answer<usize> {
-        let store = self.engine.append_mvcc_batch(body).map_err(refused)?;
-        self.carry(carrier, named(store));
+    fn batch(&mut self, body: &[u8], writer: &mut Writer) -> Answer<usize> {
+        let write = self.engine.append_mvcc_batch(body).map_err(refused)?;
+        self.write(writer, write_from(write));
         batch::records(body).map_err(Refused::by)
     }
 
-    fn commit(&mut self, header: DbHeader, carrier: &mut Carrier) -> Answer<usize> {
+    fn commit(&mut self, header: DbHeader, writer: &mut Writer) -> Answer<usize> {
         let salt = self.salts.peek();
         let header = header_for_port(header);
         self.probe.in_one_call(&self.engine, |twin| {
@@ -121,33 +121,33 @@ impl Port {
         });
         let begun = self.engine.begin_commit(header, salt);
         begun.map_err(refused_with_page)?;
-        self.steps(carrier)
+        self.steps(writer)
     }
 
-    fn fold(&mut self, carrier: &mut Carrier) -> Answer<usize> {
+    fn checkpoint(&mut self, writer: &mut Writer) -> Answer<usize> {
         let salt = self.salts.peek();
         self.probe
             .in_one_call(&self.engine, |twin| twin.checkpoint(salt).map_err(refused));
         match self.engine.begin_checkpoint(salt).map_err(refused)? {
-            true => self.steps(carrier),
+            true => self.steps(writer),
             false => Ok(0),
         }
     }
 
-    /// The steps to the end, or to the cut. The salt of a fold is drawn just
-    /// before its log length store.
-    fn steps(&mut self, carrier: &mut Carrier) -> Answer<usize> {
+    /// The steps to the end, or to the cut. The salt of a checkpoint is drawn
+    /// just before its log length is written.
+    fn steps(&mut self, writer: &mut Writer) -> Answer<usize> {
         loop {
             self.probe.is_busy(&mut self.engine);
-            let (store, answer) = match self.engine.next_step().map_err(refused)? {
+            let (write, answer) = match self.engine.next_step().map_err(refused)? {
                 Step::Idle => panic!("what was begun has a next step"),
-                Step::Stored(store) => (named(store), None),
-                Step::Last(store, answer) => (named(store), Some(answer)),
+                Step::Stored(write) => (write_from(write), None),
+                Step::Last(write, answer) => (write_from(write), Some(answer)),
             };
-            if store.is_length() && store.area == Area::Log {
+            if write.is_length() && write.area == Area::Log {
                 self.salts.draw();
             }
-            let on = self.carry(carrier, store);
+            let on = self.write(writer, write);
             if answer.is_some() || !on {
                 return Ok(answer.unwrap_or(0));
             }
@@ -188,21 +188,21 @@ impl Side for Port {
         self.open = false;
     }
 
-    fn store(&mut self, act: Act, cut: Option<Cut>) -> Stored {
-        let mut carrier = Carrier::new(cut);
+    fn perform(&mut self, act: Act, cut: Option<Cut>) -> Performed {
+        let mut writer = Writer::new(cut);
         let answer = match act {
-            Act::Create => self.create(&mut carrier),
-            Act::Open(opening) => self.open(opening, &mut carrier),
-            Act::Batch(body) => self.batch(body, &mut carrier),
-            Act::Commit(header) => self.commit(header, &mut carrier),
-            Act::Fold => self.fold(&mut carrier),
+            Act::Create => self.create(&mut writer),
+            Act::Open(opening) => self.open(opening, &mut writer),
+            Act::Batch(body) => self.batch(body, &mut writer),
+            Act::Commit(header) => self.commit(header, &mut writer),
+            Act::Checkpoint => self.checkpoint(&mut writer),
         };
-        let cut = carrier.cut_store.is_some();
+        let cut = writer.cut_write.is_some();
         self.probe.is_the_same(&self.engine, answer, cut);
-        Stored {
+        Performed {
             answer,
-            stores: carrier.stores,
-            cut: carrier.cut_store,
+            writes: writer.writes,
+            cut: writer.cut_write,
         }
     }
 
@@ -286,20 +286,20 @@ fn refused_with_page((refusal, page): (Refusal, usize)) -> Refused {
     }
 }
 
-fn named(store: lateenbael::Named) -> Named {
-    Named {
-        area: match store.area {
+fn write_from(write: lateenbael::Write) -> Write {
+    Write {
+        area: match write.area {
             lateenbael::Area::Main => Area::Main,
             lateenbael::Area::Log => Area::Log,
         },
-        first: store.at,
-        length: store.len,
-        flush: store.flush,
+        first: write.at,
+        length: write.len,
+        flush: write.flush,
     }
 }
 
-fn bytes(area: Area, first: usize, length: usize, flush: bool) -> Named {
-    Named {
+fn bytes(area: Area, first: usize, length: usize, flush: bool) -> Write {
+    Write {
         area,
         first,
         length,
@@ -307,7 +307,7 @@ fn bytes(area: Area, first: usize, length: usize, flush: bool) -> Named {
     }
 }
 
-fn length(area: Area, length: usize, flush: bool) -> Named {
+fn length(area: Area, length: usize, flush: bool) -> Write {
     bytes(area, length, 0, flush)
 }
 

@@ -1,6 +1,6 @@
 //! Two things that document 01 says of steps and that the Rust, which has
 //! none, cannot tell: between two steps every call but the next step and an
-//! opening is refused with 9 and changes nothing; and a commit or fold in
+//! opening is refused with 9 and changes nothing; and a commit or checkpoint in
 //! one call is its steps run to the end.
 
 use lateenbael::{Engine, Refusal, sys};

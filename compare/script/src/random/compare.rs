@@ -3,7 +3,7 @@
 use std::any::Any;
 use std::panic::{self, AssertUnwindSafe};
 
-use lists::random::Random;
+use splitmix::Random;
 
 use crate::call::Call;
 use crate::port::Port;
@@ -11,7 +11,7 @@ use crate::run::{Outcome, PAGES, Runner};
 use crate::rust::Rust;
 use crate::side::{Area, Side};
 
-/// What is compared besides answers, stores, files, header and state: the
+/// What is compared besides answers, writes, files, header and state: the
 /// readings of all pages or of some, and the batches.
 pub struct Look {
     /// Some, if not all.
@@ -32,7 +32,7 @@ impl Look {
     pub fn drawn(call: &Call, random: &mut Random) -> Self {
         let changes = matches!(
             call,
-            Call::Create | Call::Open(_) | Call::Commit(_) | Call::Fold | Call::Clear
+            Call::Create | Call::Open(_) | Call::Commit(_) | Call::Checkpoint | Call::Clear
         );
         if changes || random.below(16) == 0 {
             return Self::all();
@@ -99,8 +99,8 @@ impl Pair {
         if !port.is_open() {
             return Ok(());
         }
-        let as_named = port.areas_are_the_files();
-        unless_same("the files as the stores were named", &as_named, &true)?;
+        let as_written = port.areas_are_the_files();
+        unless_same("the files as the stores were named", &as_written, &true)?;
         unless_same("header", &port.header(), &rust.header())?;
         unless_same("state", &port.state(), &rust.state())?;
         match &look.pages {

@@ -10,7 +10,7 @@ mod view;
 use std::fmt::Write;
 use std::panic;
 
-use lists::random::Random;
+use splitmix::Random;
 
 use crate::call::Call;
 use compare::{Look, Pair};
@@ -27,7 +27,7 @@ pub struct Difference {
 
 impl Difference {
     /// The list as it can be run again, and the difference.
-    pub fn told(&self) -> String {
+    pub fn report(&self) -> String {
         let mut text = String::new();
         for call in &self.calls {
             writeln!(text, "{call}").expect("a string takes all");
@@ -78,15 +78,15 @@ fn run_list(pair: &mut Pair, seed: u64, most: u64, tally: &mut Tally) -> Result<
 }
 
 /// The list with every call left out that it needn't have. All is looked at
-/// after every call then. A panic is told at the end, not at every try.
+/// after every call then. A panic is found at the end, not at every try.
 fn shrunk(pair: &mut Pair, found: Difference) -> Difference {
     let hook = panic::take_hook();
     panic::set_hook(Box::new(|_| {}));
     let mut what = found.what;
     let calls = shrink::shrunk(found.calls, |calls| {
         let difference = differs(pair, calls);
-        if let Some(told) = &difference {
-            what.clone_from(told);
+        if let Some(now) = &difference {
+            what.clone_from(now);
         }
         difference.is_some()
     });
@@ -127,40 +127,40 @@ mod tests {
     }
 
     #[test]
-    fn every_kind_of_difference_is_told() {
+    fn every_kind_of_difference_is_reported() {
         let state = [Call::Create, Call::State];
-        let told = with_a_fault(&[Call::Create], |pair| pair.port.side.queue_salt(5));
-        assert!(told.starts_with("db.sqlrite-wal"), "{told}");
-        let told = with_a_fault(&state, |pair| {
+        let found = with_a_fault(&[Call::Create], |pair| pair.port.side.queue_salt(5));
+        assert!(found.starts_with("db.sqlrite-wal"), "{found}");
+        let found = with_a_fault(&state, |pair| {
             assert_eq!(pair.port.side.observe_clock(1), 1);
         });
-        assert!(told.contains("clock 1"), "{told}");
-        let told = with_a_fault(&[Call::Create, Call::Read(1)], |pair| {
+        assert!(found.contains("clock 1"), "{found}");
+        let found = with_a_fault(&[Call::Create, Call::Read(1)], |pair| {
             pair.port.side.stage(2, &[1; 4_096]).unwrap();
         });
-        assert!(told.starts_with("state"), "{told}");
-        let told = with_a_fault(&[Call::Create, stage(1, 1), Call::Clear], |pair| {
+        assert!(found.starts_with("state"), "{found}");
+        let found = with_a_fault(&[Call::Create, stage(1, 1), Call::Clear], |pair| {
             pair.port.side.engine.main[5_000] ^= 1;
         });
-        assert!(told.starts_with("the files as"), "{told}");
-        let told = with_a_fault(&[Call::Create, stage(2, 1), Call::Read(3)], |pair| {
+        assert!(found.starts_with("the files as"), "{found}");
+        let found = with_a_fault(&[Call::Create, stage(2, 1), Call::Read(3)], |pair| {
             pair.port.side.engine.staging[9] ^= 1;
         });
-        assert!(told.starts_with("page 2"), "{told}");
-        let told = with_a_fault(&state, |pair| pair.rust.side.close());
-        assert!(told.contains("closed"), "{told}");
+        assert!(found.starts_with("page 2"), "{found}");
+        let found = with_a_fault(&state, |pair| pair.rust.side.close());
+        assert!(found.contains("closed"), "{found}");
     }
 
     /// A page whose staged bytes differ at one side only is a frame more.
     #[test]
     fn stores_are_compared() {
         let header = crate::spec::header(&["2", "1", "4", "0"]).unwrap();
-        let told = with_a_fault(&[Call::Create, Call::Commit(header)], |pair| {
+        let found = with_a_fault(&[Call::Create, Call::Commit(header)], |pair| {
             pair.port.side.stage(1, &[1; 4_096]).unwrap();
             let same = pair.rust.side.read(1).unwrap().to_vec();
             pair.rust.side.stage(1, &same).unwrap();
         });
-        assert!(told.contains("length: 4112, flush: false"), "{told}");
+        assert!(found.contains("length: 4112, flush: false"), "{found}");
     }
 
     #[test]

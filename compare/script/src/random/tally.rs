@@ -8,24 +8,24 @@ use super::view::View;
 use crate::call::{Call, Edit, Opening};
 use crate::port::Probe;
 use crate::run::Outcome;
-use crate::side::{Area, CutStore};
+use crate::side::{Area, CutWrite};
 
 #[derive(Default)]
 pub struct Tally {
     pub calls: u64,
     /// Calls by name and result, and cases.
     found: BTreeMap<String, u64>,
-    /// A plain opening found unsealed frames, which nothing has ended since;
-    /// a commit has sealed them.
-    tail: bool,
-    sealed: bool,
+    /// A plain opening found uncommitted frames, which nothing has ended
+    /// since; a commit has taken them in.
+    uncommitted: bool,
+    committed_since: bool,
 }
 
 impl Tally {
     pub fn begin(&mut self, theme: Theme) {
-        self.case(&format!("list, {theme:?}"));
-        self.tail = false;
-        self.sealed = false;
+        self.case(&format!("list, {}", theme.name()));
+        self.uncommitted = false;
+        self.committed_since = false;
     }
 
     pub fn end(&mut self, probe: &Probe) {
@@ -68,15 +68,15 @@ impl Tally {
             Call::Commit(_) if outcome.result.starts_with("ok") => {
                 self.committed(before, after, outcome);
             }
-            Call::Fold if !outcome.stores.is_empty() => {
-                self.tail = false;
+            Call::Checkpoint if !outcome.writes.is_empty() => {
+                self.uncommitted = false;
                 self.case_if(
                     before.header.page_count == 0,
                     "fold of no page, main length 0",
                 );
             }
             Call::Batches => self.case_if(!outcome.below.is_empty(), "batches, some recovered"),
-            Call::Create => self.tail = false,
+            Call::Create => self.uncommitted = false,
             Call::Edit(edit) => self.edited(edit),
             _ => {}
         }
@@ -89,9 +89,12 @@ impl Tally {
     fn opened(&mut self, opening: Opening, before: &View, after: &View, outcome: &Outcome) {
         let how = opening.to_string();
         let log = after.log.unwrap_or(0);
-        let unsealed = after.commit_point < after.good_end;
+        let has_uncommitted = after.commit_point < after.good_end;
         self.case_if(before.log.is_none(), &format!("open {how}, no log"));
-        self.case_if(unsealed, &format!("open {how}, unsealed frames kept"));
+        self.case_if(
+            has_uncommitted,
+            &format!("open {how}, unsealed frames kept"),
+        );
         self.case_if(
             log > after.good_end,
             &format!("open {how}, torn or bad tail kept"),
@@ -101,25 +104,26 @@ impl Tally {
         self.case_if(after.header.page_count == 0, "open, page count 0");
         self.case_if(after.header.page_count == 1_024, "open, page count 1,024");
         self.case_if(after.state.frames >= 100, "open, 100 frames or more");
-        let fresh = outcome.stores.len() > 1;
+        let fresh = outcome.writes.len() > 1;
         self.case_if(fresh, "open, log made");
         self.case_if(
-            self.tail && self.sealed && !fresh,
+            self.uncommitted && self.committed_since && !fresh,
             "open, after a commit sealed an old tail",
         );
-        self.tail = opening == Opening::ReadWrite && unsealed && log == after.good_end;
-        self.sealed = false;
+        self.uncommitted =
+            opening == Opening::ReadWrite && has_uncommitted && log == after.good_end;
+        self.committed_since = false;
     }
 
     fn committed(&mut self, before: &View, after: &View, outcome: &Outcome) {
-        let frames = outcome.stores.iter();
-        let frames = frames.filter(|store| store.length == 4_112).count();
-        let folded = outcome.result.ends_with("folded");
-        let (kept, count) = (!folded, before.state.frames + frames);
+        let frames = outcome.writes.iter();
+        let frames = frames.filter(|write| write.length == 4_112).count();
+        let checkpointed = outcome.result.ends_with("folded");
+        let (kept, count) = (!checkpointed, before.state.frames + frames);
         self.case_if(kept && count == 99, "commit to 99 frames, kept");
-        self.case_if(folded && count == 100, "commit to 100 frames, folded");
+        self.case_if(checkpointed && count == 100, "commit to 100 frames, folded");
         self.case_if(
-            folded && count > 100,
+            checkpointed && count > 100,
             "commit to more than 100 frames, folded",
         );
         let (old, new) = (before.header.page_count, after.header.page_count);
@@ -135,9 +139,9 @@ impl Tally {
         );
         let torn = before.log.is_some_and(|log| log > before.good_end);
         self.case_if(torn, "commit behind a torn or bad tail");
-        self.case_if(kept && self.tail, "commit seals an old tail");
-        self.sealed |= kept;
-        self.tail &= kept;
+        self.case_if(kept && self.uncommitted, "commit seals an old tail");
+        self.committed_since |= kept;
+        self.uncommitted &= kept;
         let behind = after.state.log_pages > new as usize;
         self.case_if(behind, "commit, pages at or above the count in the log");
         let length = after.log.unwrap_or(0);
@@ -157,18 +161,18 @@ impl Tally {
         self.case(name);
     }
 
-    fn cut(&mut self, call: &Call, cut: &CutStore) {
-        let CutStore { store, bytes, .. } = cut;
-        let kind = match (store.area, store.length) {
+    fn cut(&mut self, call: &Call, cut: &CutWrite) {
+        let CutWrite { write, bytes, .. } = cut;
+        let kind = match (write.area, write.length) {
             (area, 0) => format!("{} length", area.name()),
             (Area::Log, 32) => "log header".to_string(),
             (Area::Log, _) => "frame".to_string(),
-            (Area::Main, _) if store.first == 0 => "main header".to_string(),
+            (Area::Main, _) if write.first == 0 => "main header".to_string(),
             (Area::Main, _) => "main page".to_string(),
         };
         let part = match *bytes {
             0 => "none",
-            bytes if bytes == store.length.max(1) => "whole",
+            bytes if bytes == write.length.max(1) => "whole",
             _ => "part",
         };
         self.case(&format!("cut in {}, {kind}, {part}", call.name()));

@@ -15,7 +15,7 @@ pub struct View {
     /// The files' lengths, if they are there.
     pub main: Option<usize>,
     pub log: Option<usize>,
-    /// Where the log's last seal ends, and its good frames.
+    /// Where the log's last commit frame ends, and its good frames.
     pub commit_point: usize,
     pub good_end: usize,
 }

@@ -7,7 +7,7 @@ use engine::sql::pager::header::{DbHeader, decode_header};
 use engine::sql::pager::page::PAGE_SIZE;
 use lists::{batch, log, refusal};
 
-use super::book::Book;
+use super::model::Model;
 use crate::side::{Answer, Refused};
 
 const LOG_AREA: usize = 4_210_720;
@@ -82,16 +82,16 @@ pub fn of_call(error: &SQLRiteError) -> Refused {
 
 /// "The commit point is the end of the last seal, else 32." The frames are
 /// as many as the Rust counts; "a final undecodable batch frame" is counted
-/// but isn't good, so it seals nothing.
+/// but isn't good, so it is no commit frame.
 pub fn commit_point(log: &[u8], frames: usize) -> usize {
     let places = (0..frames).rev().map(|index| 32 + FRAME * index);
     let last = places
         .into_iter()
-        .find(|place| seals(&log[*place..place + FRAME]));
+        .find(|place| is_commit_frame(&log[*place..place + FRAME]));
     last.map_or(32, |place| place + FRAME)
 }
 
-fn seals(frame: &[u8]) -> bool {
+fn is_commit_frame(frame: &[u8]) -> bool {
     let number = |at: usize| u32::from_le_bytes(frame[at..at + 4].try_into().expect("four bytes"));
     number(4) != 0
         && (number(0) != MVCC_FRAME_MARKER || MvccCommitBatch::decode(&frame[16..]).is_ok())
@@ -99,10 +99,10 @@ fn seals(frame: &[u8]) -> bool {
 
 /// "Area | 1 | a wrong area length" for what isn't a page; "Page | 11 |
 /// staging above 1,023"; "Staging | 12 | 64 other pages are staged".
-pub fn of_staging(book: &Book, page: u32, bytes: &[u8]) -> Answer<()> {
+pub fn of_staging(model: &Model, page: u32, bytes: &[u8]) -> Answer<()> {
     unless(1, bytes.len() != PAGE_SIZE)?;
     unless(11, page >= MOST_PAGES)?;
-    let others = book.staged.keys().filter(|staged| **staged != page);
+    let others = model.staged.keys().filter(|staged| **staged != page);
     unless(12, others.count() >= MOST_STAGED)
 }
 
@@ -130,17 +130,18 @@ fn room(log: usize, frames: usize) -> Answer<()> {
 
 /// "NewHeader | 13 | commit count 0 or above 1,024, version not 4..6";
 /// "Joining, lowest page | 14 | a page, 1 or higher, from old count to below
-/// new count isn't staged"; then 15 for the differing pages and the seal.
-pub fn of_commit(book: &Book, old: DbHeader, new: DbHeader, log: usize) -> Answer<()> {
+/// new count isn't staged"; then 15 for the differing pages and the commit
+/// frame.
+pub fn of_commit(model: &Model, old: DbHeader, new: DbHeader, log: usize) -> Answer<()> {
     let count = new.page_count;
     unless(13, count == 0 || count > MOST_PAGES)?;
     unless(13, !(4..=6).contains(&new.format_version))?;
-    let missing = (old.page_count.max(1)..count).find(|page| !book.staged.contains_key(page));
+    let missing = (old.page_count.max(1)..count).find(|page| !model.staged.contains_key(page));
     if missing.is_some() {
         return Err(Refused {
             number: 14,
             page: missing,
         });
     }
-    room(log, book.differing() + 1)
+    room(log, model.differing() + 1)
 }

@@ -1,8 +1,8 @@
 //! The Rust: the published pager over the stand-in's files. What document 01
 //! adds by design is put before it, by as little as is needed.
 
-mod book;
 mod judge;
+mod model;
 
 use engine::error::{Result, SQLRiteError};
 use engine::mvcc::MvccCommitBatch;
@@ -15,14 +15,14 @@ use stand_in::path::Path;
 use stand_in::world;
 
 use crate::call::{Edit, Opening};
-use crate::side::{Act, Answer, Area, Cut, CutStore, Named, Recovered, Side, State, Stored};
-use book::{Book, Pages};
+use crate::side::{Act, Answer, Area, Cut, CutWrite, Performed, Recovered, Side, State, Write};
+use model::{Model, Pages};
 
 /// One to a thread, since the world is the thread's.
 #[derive(Default)]
 pub struct Rust {
     pager: Option<Pager>,
-    book: Book,
+    model: Model,
 }
 
 fn path(area: Area) -> Path {
@@ -49,13 +49,13 @@ impl Rust {
     fn create(&mut self) -> Answer<usize> {
         let pager = Pager::create(&path(Area::Main)).map_err(|error| judge::of_call(&error))?;
         self.pager = Some(pager);
-        self.book = Book::opened(Pages::new(), &main_file(), 2);
+        self.model = Model::opened(Pages::new(), &main_file(), 2);
         Ok(0)
     }
 
     /// Plain opening is the Rust's. "A clean opening, read-write only, cuts
     /// the log at the commit point": it is judged by a read-only opening,
-    /// which stores nothing; then the log is cut and opened plainly.
+    /// which writes nothing; then the log is cut and opened plainly.
     fn open(&mut self, opening: Opening) -> Answer<usize> {
         let main = main_file();
         judge::before_opening(&main, length_of(Area::Log))?;
@@ -69,7 +69,7 @@ impl Rust {
         };
         let pager = opened(mode, &main)?;
         let count = judge::main_header(&main).map_or(0, |header| header.page_count);
-        self.book = Book::opened(log_pages(), &main, count);
+        self.model = Model::opened(log_pages(), &main, count);
         self.pager = Some(pager);
         Ok(0)
     }
@@ -88,25 +88,25 @@ impl Rust {
         let pager = self.pager.as_mut().expect("a store is open");
         if pager.access_mode() == AccessMode::ReadWrite {
             let log = length_of(Area::Log);
-            judge::of_commit(&self.book, pager.header(), header, log)?;
+            judge::of_commit(&self.model, pager.header(), header, log)?;
         }
         let answer = pager.commit(header);
         let answer = answer.map_err(|error| judge::of_call(&error))?;
-        assert_eq!(answer, self.book.differing(), "the judge's own count");
-        self.book.commit(&header);
-        if Told::by(pager).frames == 0 {
-            self.book.fold(header.page_count);
+        assert_eq!(answer, self.model.differing(), "the judge's own count");
+        self.model.commit(&header);
+        if PagerCounts::of(pager).frames == 0 {
+            self.model.checkpoint(header.page_count);
         }
         Ok(answer)
     }
 
-    fn fold(&mut self) -> Answer<usize> {
+    fn checkpoint(&mut self) -> Answer<usize> {
         let pager = self.pager.as_mut().expect("a store is open");
-        let frames = Told::by(pager).frames;
+        let frames = PagerCounts::of(pager).frames;
         let answer = pager.checkpoint();
         let answer = answer.map_err(|error| judge::of_call(&error))?;
         if frames > 0 {
-            self.book.fold(pager.header().page_count);
+            self.model.checkpoint(pager.header().page_count);
         }
         Ok(answer)
     }
@@ -119,9 +119,9 @@ fn opened(mode: AccessMode, main: &[u8]) -> Answer<Pager> {
     Ok(pager)
 }
 
-/// The one store of a clean opening, and a flush (DECISIONS.md, 38).
+/// The one write of a clean opening, and a flush (DECISIONS.md, 38).
 fn cut_at_commit_point(judged: &Pager) -> Result<()> {
-    let frames = Told::by(judged).frames;
+    let frames = PagerCounts::of(judged).frames;
     let point = world::look_at(&path(Area::Log), |log| {
         judge::commit_point(log.unwrap_or_default(), frames)
     });
@@ -144,19 +144,19 @@ fn log_pages() -> Pages {
     pages
 }
 
-/// What the pager tells of itself for debugging.
-struct Told {
+/// What the pager's debugging text tells.
+struct PagerCounts {
     frames: usize,
     log_pages: usize,
     main_pages: usize,
     staged: usize,
 }
 
-impl Told {
-    fn by(pager: &Pager) -> Self {
+impl PagerCounts {
+    fn of(pager: &Pager) -> Self {
         let text = format!("{pager:?}");
         let number = |name: &str| {
-            let (_, after) = text.split_once(name).expect("the field is told");
+            let (_, after) = text.split_once(name).expect("the field is there");
             let digits = after.split([',', ' ']).next().expect("a number");
             digits.parse().expect("a number")
         };
@@ -210,44 +210,44 @@ impl Side for Rust {
         self.pager = None;
     }
 
-    fn store(&mut self, act: Act, cut: Option<Cut>) -> Stored {
+    fn perform(&mut self, act: Act, cut: Option<Cut>) -> Performed {
         let call = || match act {
             Act::Create => self.create(),
             Act::Open(opening) => self.open(opening),
             Act::Batch(body) => self.batch(body),
             Act::Commit(header) => self.commit(header),
-            Act::Fold => self.fold(),
+            Act::Checkpoint => self.checkpoint(),
         };
         let listed = match cut {
             None => world::list(call),
             Some(cut) => world::list_cut(cut, call),
         };
-        Stored {
+        Performed {
             answer: listed.answer,
-            stores: listed.stores.iter().map(named).collect(),
+            writes: listed.stores.iter().map(write_from).collect(),
             cut: listed.cut.map(|cut| {
-                let store = named(&cut.store);
-                CutStore {
-                    store,
+                let write = write_from(&cut.store);
+                CutWrite {
+                    write,
                     bytes: cut.bytes as usize,
-                    file: length_of(store.area),
+                    file: length_of(write.area),
                 }
             }),
         }
     }
 
     fn stage(&mut self, page: u32, bytes: &[u8]) -> Answer<()> {
-        judge::of_staging(&self.book, page, bytes)?;
-        let bytes = book::page_of(bytes);
+        judge::of_staging(&self.model, page, bytes)?;
+        let bytes = model::page_of(bytes);
         let pager = self.pager.as_mut().expect("a store is open");
         pager.stage_page(page, *bytes);
-        self.book.staged.insert(page, bytes);
+        self.model.staged.insert(page, bytes);
         Ok(())
     }
 
     fn clear(&mut self) {
         self.pager.as_mut().expect("a store is open").clear_staged();
-        self.book.staged.clear();
+        self.model.staged.clear();
     }
 
     fn observe_clock(&mut self, value: u64) -> u64 {
@@ -269,20 +269,28 @@ impl Side for Rust {
     /// others, which no call can reach.
     fn state(&self) -> State {
         let pager = self.open_pager();
-        let told = Told::by(pager);
-        assert_eq!(told.log_pages, self.book.log.len(), "the judge's own book");
+        let counts = PagerCounts::of(pager);
         assert_eq!(
-            told.main_pages,
-            self.book.main.len(),
-            "the judge's own book"
+            counts.log_pages,
+            self.model.log.len(),
+            "the judge's own model"
         );
-        assert_eq!(told.staged, self.book.staged.len(), "the judge's own book");
-        let reachable = self.book.log.keys().filter(|page| **page < 1_024);
+        assert_eq!(
+            counts.main_pages,
+            self.model.main.len(),
+            "the judge's own model"
+        );
+        assert_eq!(
+            counts.staged,
+            self.model.staged.len(),
+            "the judge's own model"
+        );
+        let reachable = self.model.log.keys().filter(|page| **page < 1_024);
         State {
-            frames: told.frames,
+            frames: counts.frames,
             log_pages: reachable.count(),
-            main_pages: told.main_pages,
-            staged: told.staged,
+            main_pages: counts.main_pages,
+            staged: counts.staged,
             clock: pager.clock_high_water(),
         }
     }
@@ -305,12 +313,12 @@ fn recovered(batch: &MvccCommitBatch) -> Recovered {
     }
 }
 
-fn named(store: &world::Store) -> Named {
+fn write_from(store: &world::Store) -> Write {
     let area = match store.file == path(Area::Main) {
         true => Area::Main,
         false => Area::Log,
     };
-    Named {
+    Write {
         area,
         first: store.first as usize,
         length: store.length as usize,

@@ -60,14 +60,14 @@ room c =
 add-t15 : tie.Need-add-t15
 add-t15 c = omega (arith, room c)
 
-add-t17 : tie.Need-add-t17
-add-t17 c = omega (arith, room c)
+add-t18 : tie.Need-add-t18
+add-t18 c = omega (arith, room c)
 
-add-t27 : tie.Need-add-t27
-add-t27 c = omega (arith, room c)
+add-t31 : tie.Need-add-t31
+add-t31 c = omega (arith, room c)
 
-add-t28 : tie.Need-add-t28
-add-t28 c = omega (arith, room c)
+add-t32 : tie.Need-add-t32
+add-t32 c = omega (arith, room c)
 
 returns-6 : tie.Need-returns-6
 returns-6 c =
@@ -83,4 +83,4 @@ returns-6 c =
 pub add-column-spec : {M : Type 1} → statement M
 add-column-spec =
     tie.close
-    (tie.spec (search needs) returns returns-2 (search needs) (search needs) returns-3 (search needs) (search needs) returns-4 returns-5 put-column-requires (search needs) (search needs) add-t15 add-t17 add-t27 add-t28 (search needs) (search needs) returns-6)
+    (tie.spec (search needs) returns returns-2 (search needs) (search needs) returns-3 (search needs) (search needs) returns-4 returns-5 put-column-requires (search needs) (search needs) add-t15 add-t18 add-t31 add-t32 (search needs) (search needs) returns-6)

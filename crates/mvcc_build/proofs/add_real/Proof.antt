@@ -1,5 +1,4 @@
 -- `mvcc_build::add_real` meets its contract. Assumes nothing.
-use Prim.Native.Nat.{_-_}
 use borrow.Author.Needs.{needs}
 use Rattle.mvcc_build.proofs.add_real.Statement.{statement}
 use Rattle.mvcc_build.proofs.add_real.Tie as tie

@@ -1,6 +1,5 @@
 -- `mvcc_build::bits_of` meets its contract. Assumes nothing.
 use mathlib.Core.Path.{sym, ap}
-use Prim.Native.Nat.{_-_}
 use Rattle.mvcc_build.proofs.Laws.{no-nan, is-nan}
 use lib.Ieee.{binary64, toBits}
 use borrow.Author.Needs.{needs}

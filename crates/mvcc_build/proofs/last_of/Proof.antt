@@ -1,6 +1,5 @@
 -- `mvcc_build::last_of` meets its contract. Assumes nothing.
 use borrow.Author.Tests.{eq-eqb, ne-eqb}
-use Prim.Native.Nat.{_-_}
 use Rattle.mvcc_build.proofs.last_of.Statement.{statement}
 use Rattle.mvcc_build.proofs.last_of.Tie as tie
 

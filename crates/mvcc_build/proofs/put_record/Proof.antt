@@ -2,7 +2,6 @@
 use Rattle.mvcc_build.specs.Build.{headBytes}
 use Rattle.mvcc_build.proofs.Laws.{head-stored, kept, length-head}
 use denote.Ref.{now}
-use Prim.Native.Nat.{_-_}
 use mir.ValLaws.{toZ-ofZ}
 use mir.Syntax.{w64}
 use borrow.Author.Needs.{needs}

@@ -1,6 +1,5 @@
 -- `mvcc_build::start` meets its contract. Assumes nothing.
 use denote.Ref.{now}
-use Prim.Native.Nat.{_-_}
 use Rattle.mvcc_build.proofs.Laws.{start-area, start-done}
 use borrow.Author.Needs.{needs}
 use Rattle.mvcc_build.proofs.start.Statement.{statement}

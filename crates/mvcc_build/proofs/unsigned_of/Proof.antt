@@ -1,7 +1,7 @@
 -- `mvcc_build::unsigned_of` meets its contract. Assumes nothing.
 use mathlib.Core.Path.{_≡_}
 use native.Mathlib.Omega.{arith}
-use Prim.Native.Nat.{_-_, _<_, _^_}
+use Prim.Native.Nat.{_<_, _^_}
 use mir.ValLaws.{toZ-ofZ, toZ-pos}
 use mir.Syntax.{w64}
 use mir.Val.{toZ, ofZ}

@@ -2,8 +2,7 @@
 use native.Mathlib.Omega.{arith}
 use mathlib.Core.Path.{_≡_, sym, _∙_}
 use denote.Ref.{now}
-use Prim.Native.Nat.{_-_}
-use Rattle.mvcc_canonical.proofs.Whole.{Decoded, not-decodes, Copy, count-is, end-is, fits, walk, copied, whole, copy-is, way-out, way-long, way-refused, way-done}
+use Rattle.mvcc_canonical.proofs.Whole.{Decoded, Copy, count-is, end-is, fits, walk, copied, whole, copy-is, way-out, way-long, way-refused, way-done}
 use borrow.Author.Needs.{needs}
 use Rattle.mvcc_canonical.proofs.canonicalize.Statement.{statement}
 use Rattle.mvcc_canonical.proofs.canonicalize.Tie as tie
@@ -35,9 +34,10 @@ returns-2 c =
 
 returns-3 : tie.Need-returns-3
 returns-3 c =
-    let a = c .before .before .before .before .before .before .before .args in
-    let k = c .before .before .decode in
-    way-refused (a .body .now) (a .out .now) (c .before .before .before .before .if1 .left) (c .before .before .before .if2 .left) (k .ensures) (not-decodes (a .body .now) (k .result) (k .ensures) (c .before .match .keys2)) (c .told-of .ensures)
+    let k = c .before .before .before in
+    let l = k .before in
+    let a = l .before .before .before .before .args in
+    way-refused (a .body .now) (a .out .now) (l .before .if1 .left) (l .if2 .left) (k .decode .ensures) (c .before .enum-told .given .1) (c .told-of .ensures)
 
 sub-write-zeros : tie.Need-sub-write-zeros
 sub-write-zeros c =
@@ -78,4 +78,4 @@ returns-5 c =
 pub canonicalize-spec : {M : Type 1} → statement M
 canonicalize-spec =
     tie.close
-    (tie.spec returns returns-2 (search needs) (search needs) (search needs) returns-3 (search needs) (search needs) sub-write-zeros (search needs) top-bool-requires (search needs) returns-4 fix-records-requires (search needs) returns-5)
+    (tie.spec returns returns-2 (search needs) (search needs) (search needs) (search needs) returns-3 (search needs) (search needs) sub-write-zeros (search needs) top-bool-requires (search needs) returns-4 fix-records-requires (search needs) returns-5)

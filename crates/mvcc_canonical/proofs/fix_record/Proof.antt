@@ -3,7 +3,7 @@ use native.Mathlib.Omega.{arith}
 use mathlib.Core.Path.{_≡_, ap, _∙_}
 use denote.Ref.{now}
 use borrow.Author.Needs.{needs}
-use Prim.Native.Nat.{ℕ, _+_, _-_}
+use Prim.Native.Nat.{ℕ, _+_}
 use Rattle.le.specs.Le.{field}
 use Rattle.le.proofs.Fields.{field-whole}
 use Rattle.mvcc_canonical.proofs.Walk.{Found, found-at}

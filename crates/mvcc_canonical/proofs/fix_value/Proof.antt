@@ -1,6 +1,5 @@
 -- `mvcc_canonical::fix_value` meets its contract. Assumes nothing.
 use denote.Ref.{now}
-use Prim.Native.Nat.{_-_}
 use Rattle.mvcc_canonical.proofs.Walk.{value-other, value-set, value-far, value-none}
 use Rattle.mvcc.specs.Answer.{taken}
 use borrow.Author.Needs.{needs}

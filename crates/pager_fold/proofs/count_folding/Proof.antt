@@ -5,7 +5,7 @@ use borrow.Author.Needs.{needs}
 use Prim.Native.Nat.{_+_, _-_, _≤_}
 use lib.ListN.{length}
 use Rattle.pager_state.specs.Pages.{pagesFrom}
-use Rattle.pager_fold.specs.FoldStep.{foldsBy}
+use Rattle.pager_state.specs.Pages.{foldsBy}
 use Rattle.pager_state.proofs.Walks.{tally-step}
 use Rattle.pager_fold.proofs.Scan.{seen, scanned, from-one}
 use Rattle.pager_fold.proofs.count_folding.Statement.{statement}

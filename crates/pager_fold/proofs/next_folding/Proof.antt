@@ -5,7 +5,7 @@ use denote.Ref.{now}
 use borrow.Author.Needs.{needs}
 use Prim.Native.Nat.{_-_, _≤_}
 use Rattle.pager_state.specs.Pages.{pagesFrom, firstOf}
-use Rattle.pager_fold.specs.FoldStep.{foldsBy}
+use Rattle.pager_state.specs.Pages.{foldsBy}
 use Rattle.pager_state.proofs.Searches.{pages-hit, pages-miss}
 use Rattle.pager_fold.proofs.Scan.{hit, miss, scanned, past, from-first}
 use Rattle.pager_fold.proofs.next_folding.Statement.{statement}

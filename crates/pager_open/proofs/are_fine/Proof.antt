@@ -1,44 +1,19 @@
-use borrow.Author.Tests.{le-leb, lt-leb, eq-eqb, ne-eqb}
+use mathlib.Core.Path.{sym, _∙_}
+use borrow.Author.Tests.{not-true, not-false}
+use borrow.Author.Needs.{needs}
+use Rattle.pager_state.proofs.Sizes.{files-not, files-are}
 use Rattle.pager_open.proofs.are_fine.Statement.{statement}
 use Rattle.pager_open.proofs.are_fine.Tie as tie
 
 returns : tie.Need-returns
-returns c = rw (ne-eqb _ _ (c .if1 .taken))
+returns c =
+    let a = c .before .before .args in
+    files-not (a .table) (a .log-area) (a .log) (a .main-area) (a .main) _ (sym (c .before .are-files-inside .ensures) ∙ not-true _ (c .if1 .taken))
 
 returns-2 : tie.Need-returns-2
-returns-2 c = rw (eq-eqb _ _ (c .before .if1 .left), ne-eqb _ _ (c .if2 .taken))
-
-returns-3 : tie.Need-returns-3
-returns-3 c = rw (eq-eqb _ _ (c .before .before .if1 .left), eq-eqb _ _ (c .before .if2 .left), lt-leb _ _ (c .if3 .taken))
-
-returns-4 : tie.Need-returns-4
-returns-4 c =
-    rw (
-      eq-eqb _ _ (c .before .before .before .if1 .left),
-      eq-eqb _ _ (c .before .before .if2 .left),
-      le-leb _ _ (c .before .if3 .left),
-      ne-eqb _ _ (c .if4 .taken),
-    )
-
-returns-5 : tie.Need-returns-5
-returns-5 c =
-    rw (
-      eq-eqb _ _ (c .before .before .before .before .if1 .left),
-      eq-eqb _ _ (c .before .before .before .if2 .left),
-      le-leb _ _ (c .before .before .if3 .left),
-      eq-eqb _ _ (c .before .if4 .left),
-      lt-leb _ _ (c .if5 .taken),
-    )
-
-returns-6 : tie.Need-returns-6
-returns-6 c =
-    rw (
-      eq-eqb _ _ (c .before .before .before .before .if1 .left),
-      eq-eqb _ _ (c .before .before .before .if2 .left),
-      le-leb _ _ (c .before .before .if3 .left),
-      eq-eqb _ _ (c .before .if4 .left),
-      le-leb _ _ (c .if5 .left),
-    )
+returns-2 c =
+    let a = c .before .before .args in
+    files-are (a .table) (a .log-area) (a .log) (a .main-area) (a .main) _ (sym (c .before .are-files-inside .ensures) ∙ not-false _ (c .if1 .left))
 
 pub are-fine-spec : {M : Type 1} → statement M
-are-fine-spec = tie.close (tie.spec returns returns-2 returns-3 returns-4 returns-5 returns-6)
+are-fine-spec = tie.close (tie.spec (search needs) returns returns-2)

@@ -7,7 +7,7 @@ use borrow.Author.Tests.{not-true, not-false}
 use lib.ListN.{length}
 use Rattle.wal.specs.Write.{emptyWal}
 use Rattle.pager_state.specs.Opening.{firstHeader, createdPager}
-use Rattle.pager_open.specs.Judging.{lengthsFine}
+use Rattle.pager_state.specs.World.{lengthsFine}
 use Rattle.pager_open.proofs.Opened.{Fine, lengths}
 use Rattle.pager_open.proofs.Created.{create-refused, create-done}
 use Rattle.pager_open.proofs.create.Statement.{statement}

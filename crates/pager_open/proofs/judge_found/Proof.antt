@@ -42,14 +42,5 @@ decided c e k =
 returns-2 : tie.Need-returns-2
 returns-2 c = decided (c .before .before .before) (c .before .enum-told .given .1) (c .refused .ensures)
 
-returns-3 : tie.Need-returns-3
-returns-3 c = decided (c .before .before .before) (c .before .enum-told2 .given .1) (c .refused2 .ensures)
-
-returns-4 : tie.Need-returns-4
-returns-4 c = decided (c .before .before .before) (c .before .enum-told3 .given .1) (c .refused3 .ensures)
-
-returns-5 : tie.Need-returns-5
-returns-5 c = decided (c .before .before .before) (c .before .enum-told4 .given .1) (c .refused4 .ensures)
-
 pub judge-found-spec : {M : Type 1} → statement M
-judge-found-spec = tie.close (tie.spec header-by-requires (search needs) kept-requires (search needs) (search needs) (search needs) (search needs) (search needs) (search needs) (search needs) (search needs) (search needs) returns returns-2 returns-3 returns-4 returns-5)
+judge-found-spec = tie.close (tie.spec header-by-requires (search needs) kept-requires (search needs) (search needs) (search needs) returns returns-2)

@@ -8,7 +8,7 @@ use lib.ListN.{length, length-take}
 use Rattle.pager_state.specs.Stores.{Disk}
 use Rattle.pager_state.specs.Opening.{How}
 use Rattle.pager_open.specs.Given.{howOf, files}
-use Rattle.pager_open.specs.Judging.{lengthsFine}
+use Rattle.pager_state.specs.World.{lengthsFine}
 use Rattle.pager_open.proofs.Opened.{Fine, lengths, area-refused, judged-refused, judged-opened}
 use Rattle.pager_open.proofs.open.Statement.{statement}
 use Rattle.pager_open.proofs.open.Tie as tie
@@ -41,7 +41,7 @@ returns-2 c =
     let a = d₂ .before .before .before .before .before .before .args in
     let how : How = howOf (a .options) in
     let d : Disk = files (now (a .main)) (a .main-len) (now (a .log)) (a .log-len) in
-    judged-refused how d (now (a .table)) (now (a .staging)) (fine d₂) (d₁ .judge .result) (d₁ .judge .ensures) (sym (c .before .is-opened .ensures) ∙ not-true _ (c .if2 .taken))
+    judged-refused how d (now (a .table)) (now (a .staging)) (fine d₂) (d₁ .judge .result) (d₁ .judge .ensures) _ (c .enum-told2 .given .1)
 
 fill-table-requires : tie.Need-fill-table-requires
 fill-table-requires c κs =
@@ -55,14 +55,13 @@ returns-3 c =
     let d₂ = d₁ .before .before .before .before in
     let d₃ = d₂ .before in
     let d₄ = d₃ .before .before .before .before .before in
-    let d₅ = d₄ .before in
-    let d₆ = d₅ .before in
+    let d₆ = d₄ .before .before in
     let d₇ = d₆ .before .before in
     let a = d₇ .before .before .before .before .before .before .args in
     let how : How = howOf (a .options) in
     let d : Disk = files (now (a .main)) (a .main-len) (now (a .log)) (a .log-len) in
     let t = rw (d₃ .part .ensures) at (d₂ .fill-table .ensures) in
-    judged-opened how d (now (a .table)) (now (a .staging)) (fine d₇) (d₆ .judge .result) (d₆ .judge .ensures) (sym (d₅ .is-opened .ensures) ∙ not-false _ (d₄ .if2 .left)) (sizes d₇ .area) t (d₁ .store-log .ensures)
+    judged-opened how d (now (a .table)) (now (a .staging)) (fine d₇) (d₆ .judge .result) (d₆ .judge .ensures) (d₄ .enum-told .given .1) (sizes d₇ .area) t (d₁ .store-log .ensures)
 
 pub open-spec : {M : Type 1} → statement M
-open-spec = tie.close (tie.spec (search needs) (search needs) returns judge-requires (search needs) (search needs) returns-2 (search needs) fill-table-requires (search needs) (search needs) (search needs) returns-3)
+open-spec = tie.close (tie.spec (search needs) (search needs) returns judge-requires (search needs) (search needs) (search needs) returns-2 (search needs) fill-table-requires (search needs) (search needs) (search needs) returns-3)

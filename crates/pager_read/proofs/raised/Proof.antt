@@ -7,7 +7,7 @@ use Rattle.pager_read.proofs.raised.Tie as tie
 returns : tie.Need-returns
 returns c =
     let L = c .before .before in
-    refused (L .before .args .wal) (L .before .args .value) (sym (L .set-clock-high-water .ensures) ∙ c .enum-told .given .1)
+    refused (L .before .args .wal) (L .before .args .value) _ (sym (L .set-clock-high-water .ensures) ∙ c .enum-told .given .1)
 
 returns-2 : tie.Need-returns-2
 returns-2 c =

@@ -34,13 +34,7 @@ returns-5 c =
     let L = c .before .before .before in
     rw (sym (L .find-page .ensures) ∙ c .before .enum-told2 .given .1)
 
-returns-6 : tie.Need-returns-6
-unfolding readPage
-returns-6 c =
-    let L = c .before .before .before in
-    rw (sym (L .find-page .ensures) ∙ c .before .enum-told3 .given .1)
-
 pub read-page-spec : {M : Type 1} → statement M
 read-page-spec =
     tie.close
-    (tie.spec (search needs) (search needs) (search needs) (search needs) (search needs) (search needs) (search needs) (search needs) (search needs) (search needs) (search needs) (search needs) (search needs) returns returns-2 returns-3 returns-4 returns-5 returns-6)
+    (tie.spec (search needs) (search needs) (search needs) (search needs) (search needs) (search needs) (search needs) (search needs) (search needs) (search needs) (search needs) returns returns-2 returns-3 returns-4 returns-5)

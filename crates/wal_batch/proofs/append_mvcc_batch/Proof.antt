@@ -1,15 +1,10 @@
-use mathlib.Core.Path.{_≡_, _∙_}
-use Prim.Native.Nat.{_+_, _-_, _≤_}
+use mathlib.Core.Path.{_∙_}
+use Prim.Native.Nat.{_+_, _≤_}
 use native.Mathlib.Omega.{arith}
 use denote.Ref.{now}
 use borrow.Author.Needs.{needs}
 use borrow.Author.Tests.{le-leb}
-use borrow.Rule.Slice.PartMut.{putMid}
-use Rattle.mvcc_canonical.specs.Canonical.{canonicalNumber}
-use Rattle.mvcc_canonical.specs.declared.Canonical.{Canonical}
-use Rattle.mvcc_canonical.specs.declared.Canonical.the-variants as told
-use Rattle.wal.specs.Write.{withFrame}
-use Rattle.wal_batch.proofs.Ways.{toldAs, refusal-some, Says, way-area, way-length, way-long, way-full, way-refused, way-done}
+use Rattle.wal_batch.proofs.Ways.{way-area, way-length, way-long, way-full, way-refused, way-done}
 use Rattle.wal_batch.proofs.append_mvcc_batch.Statement.{statement}
 use Rattle.wal_batch.proofs.append_mvcc_batch.Tie as tie
 
@@ -41,34 +36,16 @@ returns-4 c =
 room : (c : tie.After-canonicalize) → c .before .before .before .before .before .before .before .before .before .before .before .before .args .wal .len + 4112 ≤ 4210720
 room c = omega (arith, c .before .before .before .before .if4 .left, c .before .before .before .before .before .before .before .if2 .left)
 
--- an answer of writing it that is none
-refused : (c : tie.After-canonicalize) (x : Canonical) → c .canonicalize .result ≡ x → (canonicalNumber x ≡ 0 → ⊥)
-    → Says (now (c .before .before .before .before .before .before .before .before .before .before .before .before .args .log)) (c .before .before .before .before .before .before .before .before .before .before .before .before .args .wal) (now (c .before .before .before .before .before .before .before .before .before .before .before .before .args .body))
-    (toldAs x (withFrame (c .before .before .before .before .before .before .before .before .before .before .before .before .args .wal) 0))
-    (putMid (c .before .before .before .before .before .before .before .before .before .before .before .before .args .wal .len + 16) (c .before .before .before .before .before .before .before .before .before .before .before .before .args .wal .len + 4112 - (c .before .before .before .before .before .before .before .before .before .before .before .before .args .wal .len + 16)) (now (c .before .before .before .before .before .before .before .before .before .before .before .before .args .log)) (c .canonicalize .last .1 .0))
-refused c x e n =
-    let d = c .before .before .before .before .before .before in
+returns-5 : tie.Need-returns-5
+returns-5 c =
+    let k = c .before .before .before .before .before in
+    let d = k .before .before .before .before .before .before in
     let b = d .before .before .before in
     let a = b .before .before .before .args in
-    way-refused (now (a .log)) (a .wal) (now (a .body)) (b .if1 .left) (d .if3 .left) (room c) x e n (c .canonicalize .ensures .0) (c .canonicalize .ensures .1)
-
-returns-5 : tie.Need-returns-5
-returns-5 c = refused (c .before .before .before .before) told.Area (c .enum-told2 .given .1) (λ z. omega arith)
+    way-refused (now (a .log)) (a .wal) (now (a .body)) (b .if1 .left) (d .if3 .left) (room k) (c .before .row .given .1) (k .canonicalize .ensures .0) (k .canonicalize .ensures .1)
 
 returns-6 : tie.Need-returns-6
-returns-6 c = refused (c .before .before .before .before) told.Short (c .enum-told3 .given .1) (λ z. omega arith)
-
-returns-7 : tie.Need-returns-7
-returns-7 c = refused (c .before .before .before .before) told.Magic (c .enum-told4 .given .1) (λ z. omega arith)
-
-returns-8 : tie.Need-returns-8
-returns-8 c =
-    let k = c .before .before .k in
-    rw (c .refused .ensures)
-    (refused (c .before .before .before .before .before .before) (told.Refused (k .given .0 .0)) (k .given .1) (refusal-some (k .given .0 .0)))
-
-returns-9 : tie.Need-returns-9
-returns-9 c =
+returns-6 c =
     let h = c .before .before .before in
     let t = h .before .before .before in
     let k = t .before .before .before .before in
@@ -81,6 +58,4 @@ returns-9 c =
 pub append-mvcc-batch-spec : {M : Type 1} → statement M
 append-mvcc-batch-spec =
     tie.close
-    (tie.spec returns returns-2 returns-3 (search needs) returns-4 (search needs) (search needs) (search needs) (search needs) (search needs) (search needs)
-    (search needs) (search needs) (search needs) returns-5 (search needs) (search needs) returns-6 (search needs) (search needs) returns-7 (search needs)
-    (search needs) (search needs) returns-8 (search needs) (search needs) (search needs) returns-9)
+    (tie.spec returns returns-2 returns-3 (search needs) returns-4 (search needs) (search needs) (search needs) (search needs) (search needs) (search needs) (search needs) (search needs) (search needs) returns-5 (search needs) (search needs) (search needs) returns-6)

@@ -82,20 +82,27 @@ pub fn commit_pages<D: Disk>(store: &mut Store<D>, first: u32, seeds: &[u8]) -> 
     store.commit(with_count(header, count)).unwrap()
 }
 
+/// A store of 7 pages, its log empty after a checkpoint.
+pub fn seven_pages(path: &Path) {
+    let mut store = Store::create_over(path).unwrap();
+    commit_pages(&mut store, 2, &[2, 3, 4, 5, 6]);
+    store.checkpoint().unwrap();
+}
+
 pub fn refusal<T>(answer: Result<T, Error>) -> Option<Refusal> {
     answer.err().and_then(|error| error.refusal())
 }
 
 /// What a store shows: its header and its pages from 1 on.
 #[derive(Debug, PartialEq)]
-pub struct Shown {
+pub struct Contents {
     pub header: DbHeader,
     pub pages: Vec<(u32, Vec<u8>)>,
 }
 
-pub fn shown<D: Disk>(store: &Store<D>) -> Shown {
+pub fn contents<D: Disk>(store: &Store<D>) -> Contents {
     let read = |n| store.read_page(n).unwrap().map(|bytes| (n, bytes.to_vec()));
-    Shown {
+    Contents {
         header: store.header().unwrap(),
         pages: (1..PAGES as u32).filter_map(read).collect(),
     }

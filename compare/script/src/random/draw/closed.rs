@@ -11,7 +11,7 @@ const MARKER: u32 = u32::MAX;
 
 impl Draw {
     pub(super) fn on_no_store(&mut self, view: &View) -> Vec<Call> {
-        if self.openings > 2 && self.one_in(2) {
+        if self.openings > 2 && self.random.one_in(2) {
             self.openings = 0;
             return vec![Call::Create];
         }
@@ -23,7 +23,7 @@ impl Draw {
             }
             69..86 => {
                 let most = if self.theme == Theme::Damage { 3 } else { 1 };
-                let some = self.between(1, most);
+                let some = self.random.between(1, most);
                 let drawn: Vec<_> = (0..some).map(|_| self.edit(view)).collect();
                 edits(drawn).collect()
             }
@@ -46,7 +46,7 @@ impl Draw {
             4..8 => self.log_byte(view),
             8 => self.log_field(),
             9 => {
-                let length = self.between(1, 40);
+                let length = self.random.between(1, 40);
                 Edit::AppendLog(Spec::Inline(self.random.bytes(length)))
             }
             10 => Edit::AppendLog(self.content()),
@@ -103,27 +103,31 @@ impl Draw {
         Edit::Put(Area::Log, at, value.to_le_bytes().to_vec())
     }
 
-    /// A good frame: a page, page 0, a batch; sealing or not.
+    /// A good frame: a page, page 0, a batch; a commit frame or not.
     pub(super) fn frame(&mut self) -> Edit {
         let count = self.random.pick(&[1, 2, 3, 5, 9, 1_024, 1_025]);
-        let seal = self.random.pick(&[0, 0, 0, count]);
+        let commit_count = self.random.pick(&[0, 0, 0, count]);
         match self.random.below(16) {
-            0..7 => Edit::Frame(self.between(1, 12) as u32, seal, self.content()),
+            0..7 => Edit::Frame(
+                self.random.between(1, 12) as u32,
+                commit_count,
+                self.content(),
+            ),
             7 => Edit::Frame(
                 self.random.pick(&[1_023, 1_024, 70_000]),
-                seal,
+                commit_count,
                 self.content(),
             ),
             8..11 => {
                 let header = self.header(count);
-                Edit::Frame(0, seal, Spec::Header(header))
+                Edit::Frame(0, commit_count, Spec::Header(header))
             }
             11 => {
                 let header = self.bad_header(count);
-                Edit::Frame(0, seal, Spec::Header(header))
+                Edit::Frame(0, commit_count, Spec::Header(header))
             }
-            12 => Edit::Frame(0, seal, self.content()),
-            _ => Edit::Frame(MARKER, seal, Spec::Inline(self.body())),
+            12 => Edit::Frame(0, commit_count, self.content()),
+            _ => Edit::Frame(MARKER, commit_count, Spec::Inline(self.body())),
         }
     }
 
@@ -154,7 +158,7 @@ impl Draw {
         let (at, value) = self
             .random
             .pick(&[(20, count), (20, count), (24, any), (28, any)]);
-        if self.one_in(4) {
+        if self.random.one_in(4) {
             let (at, value) = self
                 .random
                 .pick(&[(16, 5u16), (16, 6), (16, 7), (16, 3), (18, 512)]);

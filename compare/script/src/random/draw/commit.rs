@@ -13,20 +13,20 @@ impl Draw {
         match self.random.below(60) {
             0..18 => vec![self.commit_to(count)],
             18..30 => {
-                let more = self.between(1, 4) as u32;
+                let more = self.random.between(1, 4) as u32;
                 self.grow(count, count + more)
             }
             30..39 => {
-                let fewer = self.between(1, count.max(1) as usize);
+                let fewer = self.random.between(1, count.max(1) as usize);
                 vec![self.commit_to(fewer as u32)]
             }
             39..41 => vec![Call::Commit(self.bad_header(count))],
             41..44 => {
-                let more = self.between(1, 70) as u32;
+                let more = self.random.between(1, 70) as u32;
                 vec![self.commit_to(count + more)]
             }
             44 => {
-                let more = self.between(5, 66) as u32;
+                let more = self.random.between(5, 66) as u32;
                 self.grow(count, count + more)
             }
             45 => self.grow(count, 1_025.min(count + 64)),
@@ -41,7 +41,7 @@ impl Draw {
 
     pub(super) fn commit_to(&mut self, page_count: u32) -> Call {
         let header = self.header(page_count);
-        match self.one_in(30) {
+        match self.random.one_in(30) {
             true => Call::Commit(self.bad_header(page_count)),
             false => Call::Commit(DbHeader {
                 page_count,
@@ -58,7 +58,7 @@ impl Draw {
     fn grow(&mut self, old: u32, new: u32) -> Vec<Call> {
         let joining = old.max(1)..new;
         let mut calls: Vec<_> = joining.map(|page| self.stage(page)).collect();
-        if !calls.is_empty() && self.one_in(8) {
+        if !calls.is_empty() && self.random.one_in(8) {
             let left_out = self.random.below(calls.len());
             calls.remove(left_out);
         }
@@ -73,14 +73,14 @@ impl Draw {
         let page = count.saturating_add(self.random.below(5) as u32);
         let staging = self.stage(page);
         let mut calls = vec![staging.clone(), self.commit_to(count)];
-        if self.one_in(2) {
+        if self.random.one_in(2) {
             calls.extend([staging, self.commit_to(count)]);
         }
         calls
     }
 
     pub(super) fn stage_some(&mut self, count: u32, most: usize) -> Vec<Call> {
-        let some = self.between(1, most);
+        let some = self.random.between(1, most);
         (0..some)
             .map(|_| {
                 let page = self.page(count);

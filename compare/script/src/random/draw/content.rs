@@ -78,7 +78,7 @@ impl Draw {
         let body = Spec::Inline(self.body());
         match self.random.below(3) {
             0 => Call::BatchRaw(body),
-            1 if self.one_in(8) => Call::Batch(self.content()),
+            1 if self.random.one_in(8) => Call::Batch(self.content()),
             _ => Call::Batch(body),
         }
     }

@@ -9,7 +9,7 @@ mod themes;
 
 use std::collections::VecDeque;
 
-use lists::random::Random;
+use splitmix::Random;
 
 use super::view::View;
 use crate::call::{Call, Edit};
@@ -25,8 +25,22 @@ pub enum Theme {
     Full,
     /// Many pages.
     Wide,
-    /// Unsealed frames that a plain opening keeps.
-    Tails,
+    /// Uncommitted frames, document 01's old tail, that a plain opening keeps.
+    UncommittedFrames,
+}
+
+impl Theme {
+    /// As a run's counts name it.
+    pub fn name(self) -> &'static str {
+        match self {
+            Self::General => "General",
+            Self::Damage => "Damage",
+            Self::Hundred => "Hundred",
+            Self::Full => "Full",
+            Self::Wide => "Wide",
+            Self::UncommittedFrames => "Tails",
+        }
+    }
 }
 
 pub struct Draw {
@@ -47,7 +61,7 @@ impl Draw {
             55..68 => Theme::Hundred,
             68..77 => Theme::Full,
             77..81 => Theme::Wide,
-            _ => Theme::Tails,
+            _ => Theme::UncommittedFrames,
         };
         let mut draw = Self {
             random,
@@ -82,15 +96,7 @@ impl Draw {
         }
     }
 
-    fn one_in(&mut self, many: usize) -> bool {
-        self.random.below(many) == 0
-    }
-
-    fn between(&mut self, first: usize, last: usize) -> usize {
-        first + self.random.below(last - first + 1)
-    }
-
-    /// A cut after a few stores, or far into a long call.
+    /// A cut after a few writes, or far into a long call.
     fn cut(&mut self, view: &View) -> Call {
         let stores = match self.random.below(16) {
             0..4 => 0,

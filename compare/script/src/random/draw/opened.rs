@@ -7,7 +7,7 @@ use crate::random::view::View;
 impl Draw {
     pub(super) fn on_open_store(&mut self, view: &View) -> Vec<Call> {
         self.openings = 0;
-        if view.read_only && self.one_in(5) {
+        if view.read_only && self.random.one_in(5) {
             return vec![Call::Drop];
         }
         let count = view.header.page_count;
@@ -19,7 +19,7 @@ impl Draw {
             15..17 => self.stage_some(count, 12),
             17..43 => self.commit(view),
             43..52 => vec![self.batch()],
-            52..56 => vec![Call::Fold],
+            52..56 => vec![Call::Checkpoint],
             56..60 => vec![Call::Read(self.page(count))],
             60 => vec![Call::Clear],
             61..64 => vec![self.clock(view)],
@@ -27,7 +27,7 @@ impl Draw {
             68..73 => vec![Call::Drop],
             73..77 => vec![Call::Open(self.opening())],
             77..79 => vec![self.salt()],
-            79 if self.one_in(3) => vec![Call::Create],
+            79 if self.random.one_in(3) => vec![Call::Create],
             79..91 => self.cut_call(view),
             _ => self.of_theme(view),
         }
@@ -38,7 +38,7 @@ impl Draw {
         let near = clock.wrapping_add(self.random.below(3) as u64);
         let any = self.random.u64() >> self.random.below(64);
         let value = [near, near, clock.saturating_sub(1), any, u64::MAX];
-        match self.one_in(12) {
+        match self.random.one_in(12) {
             true => Call::Clock(self.random.pick(&value)),
             false => Call::Clock(near),
         }
@@ -67,7 +67,7 @@ impl Draw {
     fn cut_call(&mut self, view: &View) -> Vec<Call> {
         let mut calls = match self.random.below(20) {
             0..11 => self.commit(view),
-            11..15 => vec![Call::Fold],
+            11..15 => vec![Call::Checkpoint],
             15..17 => vec![self.batch()],
             17 => vec![Call::Open(self.opening())],
             18 => vec![Call::Create],

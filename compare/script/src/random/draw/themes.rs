@@ -13,13 +13,13 @@ const PAGE: usize = 4_096;
 impl Draw {
     pub(super) fn first_calls(&mut self) -> Vec<Call> {
         let mut calls = Vec::new();
-        while self.one_in(3) {
+        while self.random.one_in(3) {
             calls.push(self.salt());
         }
-        if !self.one_in(40) {
+        if !self.random.one_in(40) {
             calls.push(Call::Create);
         }
-        let (often, seldom) = (self.one_in(2), self.one_in(12));
+        let (often, seldom) = (self.random.one_in(2), self.random.one_in(12));
         calls.extend(match self.theme {
             Theme::Wide => self.of_pages(&[65, 300, 1_000, 1_020, 1_023, 1_024, 1_024]),
             Theme::Hundred | Theme::Full if often => self.many_frames(),
@@ -29,15 +29,15 @@ impl Draw {
         calls
     }
 
-    /// Under salt 0 zeros are good frames, of page 0 and unsealed: so a log
+    /// Under salt 0 zeros are good frames, of page 0 and uncommitted: so a log
     /// of some hundred frames is made by its length.
     fn many_frames(&mut self) -> Vec<Call> {
         let frames = match self.theme {
-            Theme::Hundred => self.between(94, 101),
-            _ => self.between(1_015, 1_024),
+            Theme::Hundred => self.random.between(94, 101),
+            _ => self.random.between(1_015, 1_024),
         };
         let length = Edit::Truncate(Area::Log, 32 + FRAME * frames);
-        let opening = match self.one_in(16) {
+        let opening = match self.random.one_in(16) {
             true => Opening::ReadOnly,
             false => Opening::ReadWrite,
         };
@@ -57,13 +57,13 @@ impl Draw {
             Theme::Hundred => self.near_a_hundred(view),
             Theme::Full => self.full(view),
             Theme::Wide => self.wide(view),
-            Theme::Tails => self.tail(view),
+            Theme::UncommittedFrames => self.uncommitted_frames(view),
         }
     }
 
     fn damaged(&mut self, view: &View) -> Vec<Call> {
         let mut calls = vec![Call::Drop];
-        let some = self.between(1, 3);
+        let some = self.random.between(1, 3);
         let drawn: Vec<_> = (0..some).map(|_| self.edit(view)).collect();
         calls.extend(edits(drawn));
         calls.push(Call::Open(self.opening()));
@@ -81,7 +81,7 @@ impl Draw {
             let seed = self.random.u64();
             calls.push(Call::Stage(page, Spec::Seed(seed)));
         }
-        if missing == 64 && self.one_in(4) {
+        if missing == 64 && self.random.one_in(4) {
             calls.push(self.stage(900));
         }
         let count = view.header.page_count.max(1);
@@ -93,8 +93,8 @@ impl Draw {
     /// The log lengthened to some frames below its area's end, or to a byte
     /// beside that, and a commit or batches that fit just so or don't.
     fn full(&mut self, view: &View) -> Vec<Call> {
-        if self.one_in(4) {
-            let batches = self.between(20, 130);
+        if self.random.one_in(4) {
+            let batches = self.random.between(20, 130);
             let batch = self.batch();
             return vec![batch; batches];
         }
@@ -111,7 +111,7 @@ impl Draw {
                     .pick(&[Opening::ReadWrite, Opening::ReadWrite, Opening::Clean]),
             ),
         ];
-        if self.one_in(3) {
+        if self.random.one_in(3) {
             calls.push(self.batch());
         }
         let pages = (room + self.random.below(3)).saturating_sub(1).min(64);
@@ -134,7 +134,7 @@ impl Draw {
 
     /// Many pages staged and committed, up to the last that there can be.
     fn wide(&mut self, view: &View) -> Vec<Call> {
-        let some = self.between(1, 66);
+        let some = self.random.between(1, 66);
         let mut calls: Vec<_> = (0..some)
             .map(|_| {
                 let page = self.random.below(1_024) as u32;
@@ -147,13 +147,13 @@ impl Draw {
         calls
     }
 
-    /// Unsealed frames behind the log's end; opened; another commit, which
+    /// Uncommitted frames behind the log's end; opened; another commit, which
     /// may take them in; opened again.
-    fn tail(&mut self, view: &View) -> Vec<Call> {
+    fn uncommitted_frames(&mut self, view: &View) -> Vec<Call> {
         let count = view.header.page_count;
         let mut calls = vec![Call::Drop];
-        for _ in 0..self.between(1, 3) {
-            let page = self.between(1, count.clamp(2, 40) as usize) as u32;
+        for _ in 0..self.random.between(1, 3) {
+            let page = self.random.between(1, count.clamp(2, 40) as usize) as u32;
             let frame = match self.random.below(5) {
                 0 => self.frame(),
                 1 => Edit::Frame(u32::MAX, 0, Spec::Inline(self.body())),
@@ -170,8 +170,8 @@ impl Draw {
         ])));
         calls.extend(self.stage_some(count, 2));
         calls.push(self.commit_to(count));
-        if self.one_in(5) {
-            calls.push(Call::Fold);
+        if self.random.one_in(5) {
+            calls.push(Call::Checkpoint);
         }
         calls.extend([Call::Drop, Call::Open(self.opening()), Call::Pages]);
         calls

@@ -1,19 +1,19 @@
-//! The plain book, and beside it what refusals and stores depend on by document 01: the log's
+//! The model, and beside it what refusals and writes depend on by document 01: the log's
 //! frames, the pages of log and main file, the clock. From the document alone. All openings are
-//! clean, so behind the commit point the log has nothing but unsealed good frames. (`judge.rs`
+//! clean, so behind the commit point the log has nothing but uncommitted good frames. (`judge.rs`
 //! judges calls by it.)
-use crate::book::{Book, Entry, Header, PAGE, Page};
 use crate::call::{Call, page_bytes};
 use crate::judge::Plan;
-use crate::store::{FRAME, Kind, LOG_HEADER, Store};
+use crate::model::{Entry, Header, Model, PAGE, Page};
+use crate::writes::{FRAME, LOG_HEADER, PlannedWrite, WriteKind};
 use crate::wrong::Wrong;
 use std::collections::{BTreeMap, VecDeque};
 
-/// What refusals and stores depend on beside the book.
+/// What refusals and writes depend on beside the model.
 #[derive(Clone, Debug)]
-pub struct Disk {
+pub struct DiskState {
     pub frames: usize,
-    pub sealed_frames: usize,
+    pub committed_frames: usize,
     pub log_pages: BTreeMap<u32, Page>,
     main_pages: BTreeMap<u32, Page>,
     pub main_count: u32,
@@ -21,12 +21,12 @@ pub struct Disk {
 }
 
 #[derive(Clone, Debug)]
-pub struct Law {
-    pub book: Book,
-    pub disk: Disk,
-    /// The stores still to do: a commit or fold is part done while there are any.
-    pub todo: VecDeque<Store>,
-    /// What the commit or fold under way answers at its end.
+pub struct Expected {
+    pub model: Model,
+    pub disk: DiskState,
+    /// The writes still to do: a commit or checkpoint is part done while there are any.
+    pub todo: VecDeque<PlannedWrite>,
+    /// What the commit or checkpoint under way answers at its end.
     pub number: usize,
     pub clock: u64,
     pub wrong: Wrong,
@@ -47,14 +47,14 @@ pub fn encode_header(header: &Header) -> Page {
     page.into()
 }
 
-impl Disk {
+impl DiskState {
     pub fn log_len(&self) -> usize {
         LOG_HEADER + FRAME * self.frames
     }
 
     /// "The commit point is the end of the last seal, else 32."
     pub fn commit_point(&self) -> usize {
-        LOG_HEADER + FRAME * self.sealed_frames
+        LOG_HEADER + FRAME * self.committed_frames
     }
 
     /// "The main file's pages from 1 to below its own header's count".
@@ -65,19 +65,19 @@ impl Disk {
     }
 }
 
-impl Law {
-    pub fn created(wrong: Wrong) -> Law {
-        let book = Book::created();
-        let disk = Disk {
+impl Expected {
+    pub fn created(wrong: Wrong) -> Expected {
+        let model = Model::created();
+        let disk = DiskState {
             frames: 0,
-            sealed_frames: 0,
+            committed_frames: 0,
             log_pages: BTreeMap::new(),
-            main_pages: book.pages.clone(),
-            main_count: book.header.page_count,
+            main_pages: model.pages.clone(),
+            main_count: model.header.page_count,
             clock: 0,
         };
-        Law {
-            book,
+        Expected {
+            model,
             disk,
             todo: VecDeque::new(),
             number: 0,
@@ -101,25 +101,25 @@ impl Law {
                 .or_else(|| self.disk.main_page(*page))
         };
         let staged = self
-            .book
+            .model
             .staged
             .iter()
             .filter(|(page, bytes)| there(page) != Some(bytes));
         staged.map(|(page, bytes)| (*page, bytes.clone())).collect()
     }
 
-    /// As the book says. It has pages from 1 only: page 0 reads as "staged; .. else log", and in
+    /// As the model says. It has pages from 1 only: page 0 reads as "staged; .. else log", and in
     /// the main file it "never is".
     pub fn read(&self, page: u32) -> Option<&Page> {
         let log = self.disk.log_pages.get(&page).filter(|_| page == 0);
-        self.book.read(page).or(log)
+        self.model.read(page).or(log)
     }
 
     fn enter(&mut self, entry: Entry) {
-        self.wrong.enter(&mut self.book, entry);
+        self.wrong.enter(&mut self.model, entry);
     }
 
-    /// A call that wasn't refused: its stores are still to do.
+    /// A call that wasn't refused: its writes are still to do.
     pub fn start(&mut self, call: &Call, plan: Plan) {
         match call {
             Call::Stage(page, seed, len) => {
@@ -133,82 +133,82 @@ impl Law {
             }
             _ => (),
         }
-        if !plan.stores.is_empty() {
-            self.todo = plan.stores.into();
+        if !plan.writes.is_empty() {
+            self.todo = plan.writes.into();
             self.number = plan.number;
         }
     }
 
     /// "Refused .. : no change."
     pub fn refused(&mut self, call: &Call) {
-        self.wrong.refused(call, &mut self.book);
+        self.wrong.refused(call, &mut self.model);
     }
 
-    /// The next of the stores still to do is whole.
+    /// The next of the writes still to do is whole.
     pub fn whole(&mut self) {
-        let Some(store) = self.todo.pop_front() else {
+        let Some(planned) = self.todo.pop_front() else {
             return;
         };
-        match store.kind {
-            Kind::BatchFrame(batch) => {
+        match planned.kind {
+            WriteKind::BatchFrame(batch) => {
                 self.disk.frames += 1;
                 self.enter(Entry::BatchFrame(batch));
             }
-            Kind::PageFrame => self.disk.frames += 1,
-            Kind::Seal => self.seal(),
-            Kind::MainPage(page) => {
+            WriteKind::PageFrame => self.disk.frames += 1,
+            WriteKind::CommitFrame => self.commit(),
+            WriteKind::MainPage(page) => {
                 let bytes = self.disk.log_pages.get(&page).cloned();
                 self.disk
                     .main_pages
                     .extend(bytes.map(|bytes| (page, bytes)));
             }
-            Kind::MainHeader => self.disk.main_count = self.book.header.page_count,
-            Kind::MainLength => {
-                let count = self.book.header.page_count;
+            WriteKind::MainHeader => self.disk.main_count = self.model.header.page_count,
+            WriteKind::MainLength => {
+                let count = self.model.header.page_count;
                 self.disk.main_pages.retain(|page, _| *page < count);
             }
-            Kind::LogLength => {
+            WriteKind::LogLength => {
                 self.disk.frames = 0;
-                self.disk.sealed_frames = 0;
+                self.disk.committed_frames = 0;
                 self.disk.log_pages.clear();
-                self.enter(Entry::FoldLogLength);
+                self.enter(Entry::CheckpointLogLength);
             }
             // "A raised clock reaches the log header only at a fold".
-            Kind::LogHeader => self.disk.clock = self.clock,
-            Kind::OpeningLength => self.open(),
+            WriteKind::LogHeader => self.disk.clock = self.clock,
+            WriteKind::OpeningLength => self.open(),
         }
     }
 
-    /// The log's pages are "this session's own commits" too, page 0 as the seal has it.
-    fn seal(&mut self) {
+    /// The log's pages are "this session's own commits" too, page 0 as the commit frame has it.
+    fn commit(&mut self) {
         self.disk.frames += 1;
-        self.disk.sealed_frames = self.disk.frames;
+        self.disk.committed_frames = self.disk.frames;
         let differing = self.differing();
         self.disk.log_pages.extend(differing);
-        if let Some(header) = self.book.given {
+        if let Some(header) = self.model.given {
             self.disk.log_pages.insert(0, encode_header(&header));
         }
-        self.enter(Entry::Seal);
+        self.enter(Entry::CommitFrame);
     }
 
     /// "A clean opening cuts the log at the commit point; its frame count is the frames kept, its
     /// clock the log header's."
     pub fn open(&mut self) {
         self.todo.clear();
-        self.disk.frames = self.disk.sealed_frames;
+        self.disk.frames = self.disk.committed_frames;
         self.clock = self.disk.clock;
         self.enter(Entry::CleanOpening);
     }
 
-    /// A clean opening after a cut inside the next store: a main header of which more than its
+    /// A clean opening after a cut inside the next write: a main header of which more than its
     /// first 32 bytes are new counts for the main file's own pages.
-    pub fn opened_after(&self, bytes: usize) -> Law {
-        let mut law = self.clone();
-        let next = self.todo.front().map(|store| &store.kind);
-        if matches!(next, Some(Kind::MainHeader)) && bytes >= LOG_HEADER {
-            law.disk.main_count = law.book.header.page_count;
+    pub fn opened_after(&self, bytes: usize) -> Expected {
+        let mut expected = self.clone();
+        let next = self.todo.front().map(|planned| &planned.kind);
+        if matches!(next, Some(WriteKind::MainHeader)) && bytes >= LOG_HEADER {
+            expected.disk.main_count = expected.model.header.page_count;
         }
-        law.open();
-        law
+        expected.open();
+        expected
     }
 }

@@ -11,13 +11,13 @@ pub type Page = Box<[u8; PAGE_SIZE]>;
 pub type Pages = HashMap<u32, Page>;
 
 #[derive(Default)]
-pub struct Book {
+pub struct Model {
     pub staged: BTreeMap<u32, Page>,
     pub log: Pages,
     pub main: Pages,
 }
 
-impl Book {
+impl Model {
     /// A store that was opened: the log's pages, and the main file with its
     /// own header's page count.
     pub fn opened(log: Pages, main: &[u8], page_count: u32) -> Self {
@@ -45,7 +45,7 @@ impl Book {
             .count()
     }
 
-    /// A commit that is sealed.
+    /// A commit whose commit frame is whole.
     pub fn commit(&mut self, header: &DbHeader) {
         for (page, bytes) in std::mem::take(&mut self.staged) {
             if self.differs(page, &bytes) {
@@ -55,8 +55,8 @@ impl Book {
         self.log.insert(0, Box::new(encode_header(header)));
     }
 
-    /// A fold that had something to store.
-    pub fn fold(&mut self, page_count: u32) {
+    /// A checkpoint that had something to write.
+    pub fn checkpoint(&mut self, page_count: u32) {
         let pages = self.log.drain().filter(|(page, _)| *page != 0);
         self.main.extend(pages);
         self.main.retain(|page, _| *page < page_count);

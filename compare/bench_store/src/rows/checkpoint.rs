@@ -1,4 +1,4 @@
-//! Folds of logs with so many pages.
+//! Checkpoints of logs with so many pages.
 
 use super::{Beside, Folder, assert_agreed, begin, in_words};
 use crate::files;
@@ -53,5 +53,5 @@ fn row(table: &Table, what: &str, sides: (impl Side, impl Side), log: &[u8], bes
 /// The files are put anew before.
 fn sample(side: &mut impl Side, main: &[u8], log: &[u8]) -> f64 {
     begin(side, main, log);
-    each(clock(|| side.fold()), 1)
+    each(clock(|| side.checkpoint()), 1)
 }

@@ -1,53 +1,20 @@
-//! Two disks for trying things out: one that never writes, and one whose power is cut.
-use crate::{Area, Disk, Files};
+//! A disk whose power is cut, for trying things out.
+use crate::{Area, Disk};
 use std::io;
-use std::path::Path;
-
-/// A disk that reads and never writes: it shows what calls would answer.
-pub struct Rehearsal(Files);
-
-impl Rehearsal {
-    /// Over the files of a store that is there.
-    pub fn of(path: &Path) -> io::Result<Rehearsal> {
-        Files::existing(path, true).map(Rehearsal)
-    }
-}
-
-impl Disk for Rehearsal {
-    fn read(&mut self, area: Area, buffer: &mut [u8]) -> io::Result<Option<usize>> {
-        self.0.read(area, buffer)
-    }
-
-    fn create(&mut self, _: Area) -> io::Result<()> {
-        Ok(())
-    }
-
-    fn write_at(&mut self, _: Area, _: usize, _: &[u8]) -> io::Result<()> {
-        Ok(())
-    }
-
-    fn set_len(&mut self, _: Area, _: usize) -> io::Result<()> {
-        Ok(())
-    }
-
-    fn sync(&mut self, _: Area) -> io::Result<()> {
-        Ok(())
-    }
-}
 
 /// A disk whose power goes after so many stored bytes, once it is armed: what comes later is not stored, and every call fails.
 /// A new length counts as one byte; a file's first 32 bytes are stored together or not at all.
-pub struct Cutting<D> {
+pub struct PowerCut<D> {
     disk: D,
     left: Option<u64>,
 }
 
 const UNTORN: usize = 32;
 
-impl<D: Disk> Cutting<D> {
+impl<D: Disk> PowerCut<D> {
     /// Not armed yet.
-    pub fn new(disk: D) -> Cutting<D> {
-        Cutting { disk, left: None }
+    pub fn new(disk: D) -> PowerCut<D> {
+        PowerCut { disk, left: None }
     }
 
     /// The power goes after so many more bytes.
@@ -71,7 +38,7 @@ impl<D: Disk> Cutting<D> {
     }
 }
 
-impl<D: Disk> Disk for Cutting<D> {
+impl<D: Disk> Disk for PowerCut<D> {
     fn read(&mut self, area: Area, buffer: &mut [u8]) -> io::Result<Option<usize>> {
         self.disk.read(area, buffer)
     }

@@ -52,7 +52,7 @@ fn calls_for_a_run(function: &mut Timed) -> u32 {
     calls
 }
 
-fn median(mut times: Vec<f64>) -> f64 {
+pub fn median(mut times: Vec<f64>) -> f64 {
     times.sort_by(f64::total_cmp);
     times[times.len() / 2]
 }

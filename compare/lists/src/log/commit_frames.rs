@@ -1,14 +1,20 @@
-//! Good frames, sealed in every way.
+//! Good frames, committed in every way.
 
 use super::headers::CREATED;
 use super::recipe::Recipe;
 use crate::batch::body::Body;
 use crate::cases::Cases;
-use crate::frame::{Drawn, Heading};
+use crate::frame::{Heading, SeededFrame};
 
-/// Four frames, each a seal or not: different pages, one page, page 0 as
-/// the seal or not, batches between.
-pub fn patterns(cases: &mut Cases) {
+pub fn add_all(cases: &mut Cases) {
+    patterns(cases);
+    pages_and_counts(cases);
+    full_logs(cases);
+}
+
+/// Four frames, each a commit frame or not: different pages, one page, page 0
+/// as the commit frame or not, batches between.
+fn patterns(cases: &mut Cases) {
     let batch = Body::new(5, 1).tombstone("t", 1);
     for pages in [
         [1, 2, 3, 4],
@@ -16,11 +22,11 @@ pub fn patterns(cases: &mut Cases) {
         [0, 1, 0, 2],
         [u32::MAX, 1, u32::MAX, 0],
     ] {
-        for seals in 0..16 {
+        for commits in 0..16 {
             let mut log = CREATED.log();
             for (index, page) in pages.into_iter().enumerate() {
-                let sealed = seals >> index & 1 == 1;
-                let count = if sealed { 9 - index as u32 } else { 0 };
+                let is_commit = commits >> index & 1 == 1;
+                let count = if is_commit { 9 - index as u32 } else { 0 };
                 let body = if page == u32::MAX {
                     batch.as_ref()
                 } else {
@@ -34,7 +40,7 @@ pub fn patterns(cases: &mut Cases) {
 }
 
 /// Page numbers up to the last that is no batch, and commit counts.
-pub fn pages_and_counts(cases: &mut Cases) {
+fn pages_and_counts(cases: &mut Cases) {
     let numbers = [1, 2, 255, 256, 1_023, 1_024, 1_025, 65_536, 1 << 31];
     for number in numbers.into_iter().chain([u32::MAX - 1]) {
         for count in [0, 1] {
@@ -50,22 +56,22 @@ pub fn pages_and_counts(cases: &mut Cases) {
     }
 }
 
-/// 0 to 15 frames: never sealed, sealed at the end, at every frame, at the
-/// first, or two frames before the end.
-pub fn full_logs(cases: &mut Cases) {
+/// 0 to 15 frames: never committed, committed at the end, at every frame, at
+/// the first, or two frames before the end.
+fn full_logs(cases: &mut Cases) {
     for frames in 0..=15u32 {
-        let log = |seal: &dyn Fn(u32) -> u32, frame: &dyn Fn(Recipe, u32, u32) -> Recipe| {
-            (0..frames).fold(CREATED.log(), |log, index| frame(log, index, seal(index)))
+        let log = |count: &dyn Fn(u32) -> u32, frame: &dyn Fn(Recipe, u32, u32) -> Recipe| {
+            (0..frames).fold(CREATED.log(), |log, index| frame(log, index, count(index)))
         };
         let bare = |log: Recipe, index, count| log.page(index % 3, count, b"");
-        let drawn = |log: Recipe, index, count| {
+        let seeded = |log: Recipe, index, count| {
             let heading = Heading::new(index, count, log.salt());
-            log.drawn(Drawn::new(heading, index as u8 % 6, 1_000 + index))
+            log.seeded(SeededFrame::new(heading, index as u8 % 6, 1_000 + index))
         };
         cases.add(log(&|_| 0, &bare));
         cases.add(log(&|index| u32::from(index + 1 == frames), &bare));
-        cases.add(log(&|index| index + 1, &drawn));
-        cases.add(log(&|index| u32::from(index == 0), &drawn));
+        cases.add(log(&|index| index + 1, &seeded));
+        cases.add(log(&|index| u32::from(index == 0), &seeded));
         cases.add(log(&|index| u32::from(index + 3 == frames), &bare));
     }
 }

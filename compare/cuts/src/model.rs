@@ -1,5 +1,5 @@
-//! The plain book of demand 3, written from document 01 alone. Each rule stands below the
-//! document's own sentence. The book never sees a file.
+//! The model: the plain book of demand 3, written from document 01 alone. Each rule stands below
+//! the document's own sentence. The model never sees a file.
 use crate::batch::Batch;
 use std::collections::BTreeMap;
 use std::rc::Rc;
@@ -18,7 +18,7 @@ pub struct Header {
     pub freelist_head: u32,
 }
 
-/// What the book is told: of a call that wasn't refused, or of a store that is whole.
+/// What the model is given: a call that wasn't refused, or a write that is whole.
 #[derive(Clone, Debug)]
 pub enum Entry {
     DropStaging,
@@ -26,21 +26,23 @@ pub enum Entry {
     /// A commit with this header is under way.
     Commit(Header),
     BatchFrame(Rc<Batch>),
-    Seal,
-    FoldLogLength,
+    /// Document 01's seal.
+    CommitFrame,
+    /// Of document 01's fold.
+    CheckpointLogLength,
     CleanOpening,
 }
 
 /// "It holds a header, the header given to the commit under way, pages by number, staged pages,
 /// waiting and sealed batches (commit time and records)."
 #[derive(Clone, Debug)]
-pub struct Book {
+pub struct Model {
     pub header: Header,
     pub given: Option<Header>,
     pub pages: BTreeMap<u32, Page>,
     pub staged: BTreeMap<u32, Page>,
     pub waiting: Vec<Rc<Batch>>,
-    pub sealed: Vec<Rc<Batch>>,
+    pub committed: Vec<Rc<Batch>>,
 }
 
 /// Page 1 of a new store: a heading of 7 bytes (a table's leaf, no next page, nothing used), then
@@ -52,10 +54,10 @@ fn first_page() -> Page {
     page.into()
 }
 
-impl Book {
+impl Model {
     /// "It starts with what creation writes."
-    pub fn created() -> Book {
-        Book {
+    pub fn created() -> Model {
+        Model {
             header: Header {
                 page_count: 2,
                 schema_root: 1,
@@ -66,7 +68,7 @@ impl Book {
             pages: BTreeMap::from([(1, first_page())]),
             staged: BTreeMap::new(),
             waiting: Vec::new(),
-            sealed: Vec::new(),
+            committed: Vec::new(),
         }
     }
 
@@ -75,7 +77,7 @@ impl Book {
         self.staged.get(&page).or_else(|| self.pages.get(&page))
     }
 
-    /// "Refused, Idle, read, clock: no change": of these the book is told nothing.
+    /// "Refused, Idle, read, clock: no change": of these the model is given nothing.
     pub fn enter(&mut self, entry: Entry) {
         match entry {
             // "A call that drops the staging, if the port has one: nothing is staged."
@@ -87,11 +89,11 @@ impl Book {
             Entry::Commit(header) => self.given = Some(header),
             // "Batch frame whole: the batch waits."
             Entry::BatchFrame(batch) => self.waiting.push(batch),
-            Entry::Seal => self.seal(),
+            Entry::CommitFrame => self.commit(),
             // "A fold's log length 32 whole: no batch waits or is sealed."
-            Entry::FoldLogLength => {
+            Entry::CheckpointLogLength => {
                 self.waiting.clear();
-                self.sealed.clear();
+                self.committed.clear();
             }
             // "Clean opening: nothing is staged or waits."
             Entry::CleanOpening => {
@@ -104,7 +106,7 @@ impl Book {
 
     /// "Seal whole: the given header and the staged pages from 1 are entered, pages at or above
     /// the new count dropped, the staging emptied, waiting batches sealed, in order."
-    fn seal(&mut self) {
+    fn commit(&mut self) {
         if let Some(header) = self.given.take() {
             self.header = header;
         }
@@ -113,6 +115,6 @@ impl Book {
             .extend(staged.into_iter().filter(|(page, _)| *page >= 1));
         let count = self.header.page_count;
         self.pages.retain(|page, _| *page < count);
-        self.sealed.append(&mut self.waiting);
+        self.committed.append(&mut self.waiting);
     }
 }
