@@ -84,12 +84,16 @@ count-most h e =
     let a = both-true (leb 1 (countOf h)) (both (leb (countOf h) pageLimit) (isVersion (h .«format_version»))) e in
     leb-true _ _ (both-true (leb (countOf h) pageLimit) (isVersion (h .«format_version»)) (a .1) .0)
 
-pub not-refused : (r : Refusal) → commit.Refused r ≡ commit.Begun → ⊥
+not-refused : (r : Refusal) → commit.Refused r ≡ commit.Begun → ⊥
 not-refused r e = let z : _≡_ {A = ℕ} 0 1 = cc in omega arith
 
-not-accepted : (r : Refusal) (v : Option Refusal) → commit.Refused r ≡ answered commit.Refused commit.Begun v → accepts v ≡ false
-not-accepted r none e = absurd (not-refused r e)
-not-accepted r (some x) e = refl
+-- what a start's answer tells of its judgement
+pub begins : (v : Option Refusal) → commit.Begun ≡ answered commit.Refused commit.Begun v → v ≡ none
+begins v e = resulted commit.Refused commit.Begun commit.Begun not-refused v (sym e) .0
+
+pub refuses : {r : Refusal} (v : Option Refusal) → commit.Refused r ≡ answered commit.Refused commit.Begun v → accepts v ≡ false
+refuses {r} none e = absurd (not-refused r e)
+refuses (some x) e = refl
 
 module _ (g : List ℕ) (w : World) (h : DbHeader) where
   -- the judgement is x, and n pages differ if the commit begins
@@ -176,22 +180,22 @@ module _ (g : List ℕ) (w : World) (h : DbHeader) where
 
   module _ (salt : ℕ) {x : CommitStart} {n : ℕ} (j : Judges x n) where
     -- a refusal
-    refuses : {r : Refusal} → x ≡ commit.Refused r → accepts (commitRefusal g w h) ≡ false
+    refusing : {r : Refusal} → x ≡ commit.Refused r → accepts (commitRefusal g w h) ≡ false
     unfolding commitStart
-    refuses b = not-accepted _ (commitRefusal g w h) (sym b ∙ j .0)
+    refusing b = refuses (commitRefusal g w h) (sym b ∙ j .0)
 
     pub begin-refused : {r : Refusal} → x ≡ commit.Refused r → startedAs x (w .pager) ≡ beginCommit g w h salt
     unfolding beginCommit
-    begin-refused b = rw (j .0, refuses b)
+    begin-refused b = rw (j .0, refusing b)
 
     pub run-refused : {r : Refusal} → x ≡ commit.Refused r → w ≡ commitSealed g w h salt
     unfolding commitSealed
-    run-refused b = rw (refuses b)
+    run-refused b = rw (refusing b)
 
     module _ (b : x ≡ commit.Begun) where
       pub accepted : commitRefusal g w h ≡ none
       unfolding commitStart
-      accepted = resulted commit.Refused commit.Begun commit.Begun not-refused (commitRefusal g w h) (sym (j .0) ∙ b) .0
+      accepted = begins (commitRefusal g w h) (sym b ∙ j .0)
 
       count-told : n ≡ differing g w
       count-told = j .1 ∙ rw accepted
