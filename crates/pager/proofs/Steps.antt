@@ -1,11 +1,14 @@
 -- A step of a commit or of a fold is the step; what the loop over steps keeps.
 use mathlib.Core.Path.{_≡_, refl, sym, ap, _∙_}
 use mathlib.Core.Bool.{Bool, true, false}
-use mathlib.Core.List.{List, [], _++_, append-nil}
+use mathlib.Core.List.{List, [], _∷_, _++_, append-nil}
 use Prim.Native.Nat.{ℕ, suc, _+_, _-_, _<_}
 use native.Mathlib.Omega.{arith}
+use types.Run.{OneOf, miss}
+use denote.Enum.Declared.{tagOf}
 use Rattle.le.specs.Choice.{pick, both}
 use Rattle.le.proofs.Compare.{no-test}
+use Rattle.refusal.specs.declared.Refusal.the-variants as refusal
 use Rattle.header.specs.declared.DbHeader.{DbHeader}
 use Rattle.pager_state.specs.World.{World, fine, stagingFine, busyWith}
 use Rattle.pager_state.specs.Fold.{foldTodo, foldAdvance}
@@ -14,11 +17,26 @@ use Rattle.pager_state.specs.Steps.{stepFine, todo, advance, named, done, answe
 use Rattle.pager_state.specs.declared.Job.{Job}
 use Rattle.pager_state.specs.declared.Job.the-variants as job
 use Rattle.pager_state.specs.declared.StepAnswer.the-variants as step
+use Rattle.pager_state.proofs.Job as J
 use Rattle.pager_state.proofs.Begun.{not-busy}
 use Rattle.pager_state.proofs.Runs.{idle-stays}
 use Rattle.pager_fold.specs.FoldStep.{foldAnswer, foldStepped}
 use Rattle.pager_commit.specs.CommitStep.{commitStepAnswer, commitStepped}
 use Rattle.pager.specs.Jobs.{isCommit}
+
+-- ---- which of the two
+
+-- the kinds but Commit
+abbrev others : List ℕ
+others = 0 ∷ 2 ∷ 3 ∷ 4 ∷ 5 ∷ []
+
+pub no-commit : (j : Job) → OneOf others (tagOf J.the-type j) → false ≡ isCommit j
+no-commit job.Idle k = refl
+no-commit (job.Commit h salt page answer) k = absurd (miss others 1 tt k)
+no-commit (job.Fold salt page answer) k = refl
+no-commit (job.MainLength salt answer) k = refl
+no-commit (job.LogLength salt answer) k = refl
+no-commit (job.LogHeader salt answer) k = refl
 
 -- ---- which stores are left
 
@@ -68,7 +86,7 @@ module _ (g : List ℕ) (w : World) where
       both-first true b e = refl
       both-first false b e = no-test e
 
-  pub no-step : stepFine g w ≡ false → (step.Area ≡ stepAnswer g w) × (w ≡ stepped g w)
+  pub no-step : stepFine g w ≡ false → (step.Refused refusal.Area ≡ stepAnswer g w) × (w ≡ stepped g w)
   unfolding stepAnswer stepped
   no-step f = (rw f, rw f)
 

@@ -1,91 +1,119 @@
--- A commit or fold in one call: what its start comes to, refused or run to the end.
+-- A commit or fold in one call: what its start comes to, refused or run to the end. Assumes nothing.
 use mathlib.Core.Path.{_≡_, refl, sym, ap, _∙_}
-use mathlib.Core.Bool.{Bool, true, false}
-use mathlib.Core.List.{List}
+use mathlib.Core.Bool.{Bool, true, false, not}
+use mathlib.Core.List.{List, [], _∷_}
+use mathlib.Core.Option.{Option, none, some}
 use Prim.Native.Nat.{ℕ, _+_, _-_, _≤_}
 use native.Mathlib.Omega.{arith}
-use Rattle.le.specs.Choice.{pick}
-use Rattle.le.proofs.Compare.{no-test}
+use types.Run.{OneOf, miss}
+use denote.Enum.Declared.{tagOf}
+use Rattle.le.specs.Choice.{pick, both}
+use Rattle.refusal.specs.Refusal.{accepts, answered}
+use Rattle.refusal.specs.declared.Refusal.{Refusal}
 use Rattle.header.specs.declared.DbHeader.{DbHeader}
 use Rattle.pager_state.specs.World.{World}
 use Rattle.pager_state.specs.Pages.{differs}
-use Rattle.pager_state.specs.Steps.{differing, commitStart, isBegun, beginCommit, checkpointStart, isFolding, beginCheckpoint, answerOf, steps, onStore, committedAs, commitAnswer, commitWorld, writtenAs, checkpointAnswer, checkpointWorld}
+use Rattle.pager_state.specs.Steps.{differing, commitRefusal, commitStart, beginCommit, nothingToFold, checkpointRefusal, checkpointStart, checkpointBegins, folding, beginCheckpoint, answerOf, mostSteps, steps, onStore, commitAnswer, commitWorld, checkpointAnswer, checkpointWorld}
 use Rattle.pager_state.specs.declared.CommitStart.{CommitStart}
 use Rattle.pager_state.specs.declared.CommitStart.the-variants as commit
 use Rattle.pager_state.specs.declared.CommitAnswer.{CommitAnswer}
+use Rattle.pager_state.specs.declared.CommitAnswer.the-variants as committed
 use Rattle.pager_state.specs.declared.CheckpointStart.{CheckpointStart}
 use Rattle.pager_state.specs.declared.CheckpointStart.the-variants as checkpoint
 use Rattle.pager_state.specs.declared.CheckpointStarted.{CheckpointStarted}
 use Rattle.pager_state.specs.declared.CheckpointAnswer.{CheckpointAnswer}
+use Rattle.pager_state.specs.declared.CheckpointAnswer.the-variants as written
+use Rattle.pager_state.proofs.CheckpointStart as S
 use Rattle.pager_state.proofs.Searches.{pages-length}
 use Rattle.pager_state.proofs.Runs.{steps-add}
 use Rattle.pager_state.proofs.Answers.{checkpoint-answer}
 use Rattle.pager_commit.specs.CommitStep.{commitSealed}
+use Rattle.pager_commit.proofs.Starting.{begins, refuses}
+use Rattle.pager.specs.Jobs.{committedAs, writtenAs}
 
--- a start that is not begun comes to the same with any number
-refused-alike : (a : CommitStart) (m n : ℕ) → isBegun a ≡ false → committedAs a m ≡ committedAs a n
-refused-alike commit.Begun m n e = no-test (sym e)
-refused-alike commit.Area m n e = refl
-refused-alike commit.Busy m n e = refl
-refused-alike commit.ReadOnly m n e = refl
-refused-alike commit.NewHeader m n e = refl
-refused-alike (commit.Joining p) m n e = refl
-refused-alike commit.LogFull m n e = refl
+-- ---- a commit
 
 -- no more pages differ than there are
 differing-most : (g : List ℕ) (w : World) → differing g w ≤ 1024
 unfolding differing
 differing-most g w = pages-length (differs g w) 0
 
-pub pages-few : (g : List ℕ) (w : World) (h : DbHeader) {m : ℕ} → m ≡ pick (isBegun (commitStart g w h)) (differing g w) 0 → m ≤ 1024
-pages-few g w h {m} e = go (isBegun (commitStart g w h)) e
-  where
-    go : (b : Bool) → m ≡ pick b (differing g w) 0 → m ≤ 1024
-    go true e = rw e (differing-most g w)
-    go false e = omega (arith, e)
+few-by : (b : Bool) (m n : ℕ) → m ≡ pick b n 0 → n ≤ 1024 → m ≤ 1024
+few-by true m n e h = rw e h
+few-by false m n e h = omega (arith, e)
 
--- x is the start's answer, and v the world behind the seal
-module _ (g : List ℕ) (w : World) (h : DbHeader) (salt : ℕ) {x : CommitStart} {v : World} (j : x ≡ commitStart g w h) (f : v ≡ commitSealed g w h salt) where
-  pub commit-refused : {r : CommitAnswer} → isBegun x ≡ false → r ≡ committedAs x 0 → (r ≡ commitAnswer g w h) × (v ≡ commitWorld g w h salt)
-  unfolding commitAnswer commitWorld commitSealed
-  commit-refused e a =
-      let n : isBegun (commitStart g w h) ≡ false = sym (ap isBegun j) ∙ e in
-      (a ∙ rw j (refused-alike (commitStart g w h) 0 _ n), f ∙ rw n)
+-- what the start comes to: n pages differ
+told-by : (v : Option Refusal) (m n : ℕ) → m ≡ pick (accepts v) n 0
+    → committedAs (answered commit.Refused commit.Begun v) m ≡ answered committed.Refused (committed.Committed n) v
+told-by none m n e = ap committed.Committed e
+told-by (some r) m n e = refl
+
+-- x is the start's answer with the pages that differ, and v the world behind the seal
+module _ (g : List ℕ) (w : World) (h : DbHeader) (salt : ℕ) {x : CommitStart} {m : ℕ} {v : World} (j : x ≡ commitStart g w h) (p : m ≡ pick (accepts (commitRefusal g w h)) (differing g w) 0)
+    (f : v ≡ commitSealed g w h salt) where
+  pub pages-few : m ≤ 1024
+  pages-few = few-by (accepts (commitRefusal g w h)) m (differing g w) p (differing-most g w)
+
+  pub commit-told : {r : CommitAnswer} → r ≡ committedAs x m → r ≡ commitAnswer g w h
+  unfolding commitStart commitAnswer
+  commit-told e = e ∙ rw j (told-by (commitRefusal g w h) m (differing g w) p)
+
+  pub commit-refused : {r : Refusal} → x ≡ commit.Refused r → v ≡ commitWorld g w h salt
+  unfolding commitWorld commitSealed commitStart
+  commit-refused e = let n = refuses (commitRefusal g w h) (sym e ∙ j) in f ∙ rw n
 
   -- the steps that are left
-  pub commit-run : {r : CommitAnswer} {m : ℕ} {u : World} → isBegun x ≡ true → m ≡ pick (isBegun (commitStart g w h)) (differing g w) 0 → r ≡ committedAs x m
-      → u ≡ steps g (2200 - (m + 1)) v → (r ≡ commitAnswer g w h) × (u ≡ commitWorld g w h salt)
-  unfolding commitAnswer commitWorld commitSealed
-  commit-run {m = m} e a b s =
-      let n : isBegun (commitStart g w h) ≡ true = sym (ap isBegun j) ∙ e in
-      let d : m ≡ differing g w = a ∙ rw n in
-      let k : m + 1 + (2200 - (m + 1)) ≡ 2200 = omega (arith, pages-few g w h a) in
+  pub commit-run : {u : World} → x ≡ commit.Begun → u ≡ steps g (mostSteps - (m + 1)) v → u ≡ commitWorld g w h salt
+  unfolding commitWorld commitSealed commitStart
+  commit-run e s =
+      let n = begins (commitRefusal g w h) (sym e ∙ j) in
+      let d : m ≡ differing g w = p ∙ rw n in
+      let k : m + 1 + (mostSteps - (m + 1)) ≡ mostSteps = omega (arith, pages-few) in
       let y : v ≡ steps g (m + 1) (onStore w (beginCommit g w h salt .pager)) = f ∙ rw (n, d) in
-      (b ∙ rw (j, d), s ∙ rw (y, n, ← (steps-add g (m + 1) (2200 - (m + 1)) (onStore w (beginCommit g w h salt .pager))), k))
+      s ∙ rw (y, n, ← (steps-add g (m + 1) (mostSteps - (m + 1)) (onStore w (beginCommit g w h salt .pager))), k)
 
-written-alike : (a : CheckpointStart) (m n : ℕ) → isFolding a ≡ false → writtenAs a m ≡ writtenAs a n
-written-alike checkpoint.Begun m n e = no-test (sym e)
-written-alike checkpoint.Nothing m n e = refl
-written-alike checkpoint.Area m n e = refl
-written-alike checkpoint.Busy m n e = refl
-written-alike checkpoint.ReadOnly m n e = refl
+-- ---- a fold
+
+-- the start by its refusal and by whether there is nothing to fold
+abbrev started : Option Refusal → Bool → CheckpointStart
+started v e = answered checkpoint.Refused (pick e checkpoint.Nothing checkpoint.Begun) v
+
+written-by : (v : Option Refusal) (e : Bool) (m n : ℕ) → (both (accepts v) (not e) ≡ true → m ≡ n)
+    → writtenAs (started v e) m ≡ answered written.Refused (written.Written (pick e 0 n)) v
+written-by none true m n k = refl
+written-by none false m n k = ap written.Written (k refl)
+written-by (some r) e m n k = refl
+
+begun-by : (v : Option Refusal) (e : Bool) → checkpoint.Begun ≡ started v e → both (accepts v) (not e) ≡ true
+begun-by none true k = let z : _≡_ {A = ℕ} 0 1 = cc in absurd (omega arith)
+begun-by none false k = refl
+begun-by (some r) e k = let z : _≡_ {A = ℕ} 0 1 = cc in absurd (omega arith)
+
+-- the places of the answers but Begun
+abbrev others : List ℕ
+others = 1 ∷ 2 ∷ []
+
+others-by : (v : Option Refusal) (e : Bool) → OneOf others (tagOf S.the-type (started v e)) → both (accepts v) (not e) ≡ false
+others-by none true k = refl
+others-by none false k = absurd (miss others 0 tt k)
+others-by (some r) e k = refl
 
 module _ (g : List ℕ) (w : World) (salt : ℕ) {b : CheckpointStarted} (k : b ≡ beginCheckpoint g w salt) where
-  fold-is : b .answer ≡ checkpointStart g w
-  unfolding beginCheckpoint
+  fold-is : b .answer ≡ started (checkpointRefusal g w) (nothingToFold w)
+  unfolding beginCheckpoint checkpointStart
   fold-is = ap (λ (x : CheckpointStarted). x .answer) k
 
-  pub fold-refused : {r : CheckpointAnswer} → isFolding (b .answer) ≡ false → r ≡ writtenAs (b .answer) 0
-      → (r ≡ checkpointAnswer g w) × (onStore w (b .pager) ≡ checkpointWorld g w salt)
-  unfolding checkpointAnswer checkpointWorld beginCheckpoint
-  fold-refused e f =
-      let n : isFolding (checkpointStart g w) ≡ false = sym (ap isFolding fold-is) ∙ e in
-      (f ∙ rw fold-is (written-alike (checkpointStart g w) 0 _ n), rw k (rw n))
+  pub fold-told : {r : CheckpointAnswer} {m : ℕ} → m ≡ answerOf (b .pager .job) → r ≡ writtenAs (b .answer) m → r ≡ checkpointAnswer g w
+  unfolding checkpointAnswer
+  fold-told {m = m} a e =
+      let n : checkpointBegins g w ≡ true → m ≡ folding w =
+      λ (z : checkpointBegins g w ≡ true). a ∙ ap (λ (x : CheckpointStarted). answerOf (x .pager .job)) k ∙ checkpoint-answer g w salt z in
+      e ∙ rw fold-is (written-by (checkpointRefusal g w) (nothingToFold w) m (folding w) n)
 
-  pub fold-run : {r : CheckpointAnswer} {m : ℕ} {v : World} → isFolding (b .answer) ≡ true → m ≡ answerOf (b .pager .job) → r ≡ writtenAs (b .answer) m
-      → v ≡ steps g 2200 (onStore w (b .pager)) → (r ≡ checkpointAnswer g w) × (v ≡ checkpointWorld g w salt)
-  unfolding checkpointAnswer checkpointWorld
-  fold-run e a f s =
-      let n : isFolding (checkpointStart g w) ≡ true = sym (ap isFolding fold-is) ∙ e in
-      let d = a ∙ ap (λ (x : CheckpointStarted). answerOf (x .pager .job)) k ∙ checkpoint-answer g w salt n in
-      (f ∙ rw (fold-is, d), s ∙ rw (k, n))
+  pub fold-refused : OneOf others (tagOf S.the-type (b .answer)) → onStore w (b .pager) ≡ checkpointWorld g w salt
+  unfolding checkpointWorld beginCheckpoint
+  fold-refused o = let n = others-by (checkpointRefusal g w) (nothingToFold w) (rw fold-is at o) in rw (k, n)
+
+  pub fold-run : {v : World} → b .answer ≡ checkpoint.Begun → v ≡ steps g mostSteps (onStore w (b .pager)) → v ≡ checkpointWorld g w salt
+  unfolding checkpointWorld
+  fold-run e s = let n = begun-by (checkpointRefusal g w) (nothingToFold w) (sym e ∙ fold-is) in s ∙ rw (k, n)

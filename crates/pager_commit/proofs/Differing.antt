@@ -14,23 +14,19 @@ use Rattle.le.specs.Choice.{pick, both}
 use Rattle.le.proofs.Tests.{le-or-lt, eq-or-not}
 use Rattle.le.proofs.Compare.{both-true}
 use Rattle.pager_state.specs.World.{World}
-use Rattle.pager_state.specs.Overlay.{findIn, stagedPages, slotOf, isStaged, stagedBytes, committedBytes}
-use Rattle.pager_state.specs.Pages.{pagesFrom, firstOf, differs, lacks}
+use Rattle.pager_state.specs.Overlay.{findIn, stagedPages, slotOf, isStaged, stagedBytes, committedIn}
+use Rattle.pager_state.specs.Pages.{pagesFrom, firstOf, differsIn, differs, lacks}
 use Rattle.pager_state.specs.declared.Staged.{Staged}
 use Rattle.pager_state.proofs.Searches.{pages-hit, pages-miss, lowest, pages-same}
 use Rattle.pager_state.proofs.Slots.{find-there}
 use Rattle.pager_state.proofs.Walks.{none-found, pages-skip, none-is, first-before, pages-more}
-use Rattle.pager_commit.specs.CommitStep.{isIn, committedIn, slotDiffers, differsIn, countsAt}
+use Rattle.pager_commit.specs.CommitStep.{isIn, slotDiffers, countsAt}
 
 both-false : (b : Bool) → both b false ≡ false
 both-false true = refl
 both-false false = refl
 
 -- ---- differing pages, by the staging, the table and the areas
-
-pub differs-by : (g : List ℕ) (w : World) (p : ℕ) → pagesFrom (differsIn (w .pager .staged) g (w .table) (w .log) (w .main)) p ≡ pagesFrom (differs g w) p
-unfolding differs differsIn slotDiffers committedBytes committedIn stagedBytes
-differs-by g w p = refl
 
 staged-by : (s : Staged) (p : ℕ) → pagesFrom (isIn (take (s .count) (s .pages))) p ≡ pagesFrom (isStaged s) p
 unfolding isIn isStaged slotOf
@@ -66,14 +62,17 @@ module _ (s : Staged) (g t l m : List ℕ) where
   abbrev pub D : ℕ → Bool
   D = differsIn s g t l m
 
+  -- by its slot
+  pub differs-slot : (n : ℕ) → D n ≡ both (isStaged s n) (slotDiffers g t l m n (slotOf s n))
+  unfolding differsIn slotDiffers stagedBytes
+  differs-slot n = refl
+
   not-staged : (n : ℕ) → isStaged s n ≡ false → D n ≡ false
-  unfolding differsIn
-  not-staged n e = rw e
+  not-staged n e = differs-slot n ∙ rw e
 
   -- of a staged page its slot tells
   pub differs-at : (q index : ℕ) {r : Bool} → isStaged s q ≡ true → index ≡ slotOf s q → r ≡ slotDiffers g t l m q index → D q ≡ r
-  unfolding differsIn
-  differs-at q index e f a = rw (e, a, f)
+  differs-at q index e f a = differs-slot q ∙ rw (e, a, f)
 
   -- ---- from staged page to staged page
 
@@ -187,8 +186,8 @@ module _ (s : Staged) (g t l m : List ℕ) where
   upto-all n false e = refl
 
   upto-is : (i n : ℕ) → i ≡ length (stagedPages s) → Upto i n ≡ D n
-  unfolding differsIn isStaged
-  upto-is i n e = rw e (upto-all n (isStaged s n) refl)
+  unfolding isStaged
+  upto-is i n e = rw (e, differs-slot n) (upto-all n (isStaged s n) refl)
 
   pub count-all : (i : ℕ) → i ≡ length (stagedPages s) → length (pagesFrom (Upto i) 0) ≡ length (pagesFrom D 0)
   count-all i e = ap length (pages-same (Upto i) D 0 (λ n a b. upto-is i n e))

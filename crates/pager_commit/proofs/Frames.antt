@@ -2,17 +2,17 @@
 use mathlib.Core.Path.{_≡_, refl, sym, ap, _∙_}
 use mathlib.Core.Bool.{Bool, true, false}
 use mathlib.Core.List.{List, [], _∷_}
-use mathlib.Core.Logic.{_⊎_, ⊎-elim}
 use Prim.Native.Nat.{ℕ, suc, _+_, _-_, _*_, _≤_, _<_}
 use native.Mathlib.Numerals.{add-one}
 use native.Mathlib.Omega.{arith}
 use borrow.Author.Tests.{eq-eqb, ne-eqb, le-leb, leb-true}
-use denote.Enum.Declared.{tagOf}
 use lib.Dec.{leb}
 use lib.ListN.{length, length-take, length-drop}
 use Rattle.le.specs.Choice.{pick}
 use Rattle.le.proofs.Stores.{store-put}
 use Rattle.page.specs.Page.{frontPage}
+use Rattle.refusal.specs.declared.Refusal.{Refusal}
+use Rattle.refusal.specs.declared.Refusal.the-variants as refusal
 use Rattle.header.specs.Header.{headerFields, encodeHeader}
 use Rattle.header.specs.declared.DbHeader.{DbHeader}
 use Rattle.header.proofs.Encoding.{length-headerFields, length-encodeHeader}
@@ -23,13 +23,12 @@ use Rattle.wal.specs.Write.{withFrame, hasRoom, appendAnswer, appendAfter}
 use Rattle.wal.specs.declared.Wal.{Wal}
 use Rattle.wal.specs.declared.FrameAppended.{FrameAppended}
 use Rattle.wal.specs.declared.FrameAppended.the-variants as appended
-use Rattle.wal.proofs.FrameAppended as F
 use Rattle.pager_state.specs.World.{World, world, countOf, busyWith, withJob, withWal}
-use Rattle.pager_state.specs.Overlay.{pageFrom, slotOf, stagedBytes, frameOf, inLog, onMain, logBytes}
+use Rattle.pager_state.specs.Overlay.{pageFrom, slotOf, stagedBytes, frameOf, inLog, onMain, logBytes, committedIn}
 use Rattle.pager_state.specs.Stores.{Act, Put, Other, placeOf, inside, diskOf}
 use Rattle.pager_state.specs.Pages.{pagesFrom, differs}
 use Rattle.pager_state.specs.Fold.{foldTodo, pagesTodo}
-use Rattle.pager_state.specs.Commit.{saltOf, entered, frameAct, framed, sealAct, jobAfter, sealedPager, sealedWorld, framesTodo, framesAdvance}
+use Rattle.pager_state.specs.Commit.{saltOf, entered, frameAct, framed, sealAct, jobAfter, sealedWith, sealedPager, sealedWorld, framesTodo, framesAdvance}
 use Rattle.pager_state.specs.Steps.{namedBy, named, done}
 use Rattle.pager_state.specs.declared.FileKind.the-variants as file
 use Rattle.pager_state.specs.declared.Job.{Job}
@@ -38,7 +37,7 @@ use Rattle.pager_state.specs.declared.Pager.{Pager}
 use Rattle.pager_state.specs.declared.StepAnswer.{StepAnswer}
 use Rattle.pager_state.specs.declared.StepAnswer.the-variants as step
 use Rattle.pager_state.proofs.Stored.{put-end}
-use Rattle.pager_commit.specs.CommitStep.{committedIn, sealedWith, framePut, sealPut}
+use Rattle.pager_commit.specs.CommitStep.{framePut, sealPut}
 
 -- ---- the bytes that a page was committed with
 
@@ -72,8 +71,8 @@ frame-stored l v q body n b o =
     rw (eq-eqb (length body) 4096 b) (store-put l (v .len) (encodeFrame q 0 (v .header .salt) body) j)
 
 -- a frame that has room is appended
-pub not-full : {A : Type 0} (r : FrameAppended) (v : Wal) → r ≡ appended.Appended v → (tagOf F.the-type r ≡ 1) ⊎ (tagOf F.the-type r ≡ 2) → A
-not-full r v e k = let z : tagOf F.the-type r ≡ 0 = ap (tagOf F.the-type) e in ⊎-elim (λ (n : tagOf F.the-type r ≡ 1). absurd (omega arith)) (λ (n : tagOf F.the-type r ≡ 2). absurd (omega arith)) k
+pub not-full : {A : Type 0} {r : FrameAppended} {v : Wal} {x : Refusal} → r ≡ appended.Appended v → r ≡ appended.Refused x → A
+not-full e f = let z : _≡_ {A = ℕ} 0 1 = cc in absurd (omega arith)
 
 pub appended-is : (r : FrameAppended) (u v : Wal) → r ≡ appended.Appended v → r ≡ appended.Appended u → u ≡ v
 appended-is r u v e f = cc
@@ -113,7 +112,7 @@ module _ (g : List ℕ) (h : DbHeader) (salt answer p : ℕ) (w : World) (q inde
       rw (body-is, z)
 
   pub frame-told : {a : StepAnswer}
-      → a ≡ pick (hasRoom (w .pager .wal)) (step.Stored (placeOf (Put Other file.Log (w .pager .wal .len) (encodeFrame q 0 (saltOf w) body) false))) step.Area
+      → a ≡ pick (hasRoom (w .pager .wal)) (step.Stored (placeOf (Put Other file.Log (w .pager .wal .len) (encodeFrame q 0 (saltOf w) body) false))) (step.Refused refusal.Area)
       → a ≡ named answer (framesTodo g h salt answer (pagesFrom (differs g w) p) w)
   unfolding framesTodo named
   frame-told f =
@@ -174,7 +173,7 @@ module _ (g : List ℕ) (h : DbHeader) (salt answer p : ℕ) (w : World) (e : pa
   job-is = refl
 
   pub seal-told : {a : StepAnswer}
-      → a ≡ pick (hasRoom (w .pager .wal)) (pick (busyWith (jobAfter after salt answer)) (step.Stored (placeOf (sealAct h w))) (step.Last (placeOf (sealAct h w)) answer)) step.Area
+      → a ≡ pick (hasRoom (w .pager .wal)) (pick (busyWith (jobAfter after salt answer)) (step.Stored (placeOf (sealAct h w))) (step.Last (placeOf (sealAct h w)) answer)) (step.Refused refusal.Area)
       → a ≡ named answer (framesTodo g h salt answer (pagesFrom (differs g w) p) w)
   unfolding framesTodo named
   seal-told f =
@@ -183,8 +182,8 @@ module _ (g : List ℕ) (h : DbHeader) (salt answer p : ℕ) (w : World) (e : pa
       f
       ∙ sym
       (ap (λ (l : List ℕ). named answer (framesTodo g h salt answer l w)) e
-      ∙ ap (λ (b : Bool). pick b (namedBy answer (sealAct h w) (foldTodo (v .pager .job) v)) step.Area) seal-room
-      ∙ ap (λ (x : StepAnswer). pick (hasRoom (w .pager .wal)) x step.Area)
+      ∙ ap (λ (b : Bool). pick b (namedBy answer (sealAct h w) (foldTodo (v .pager .job) v)) (step.Refused refusal.Area)) seal-room
+      ∙ ap (λ (x : StepAnswer). pick (hasRoom (w .pager .wal)) x (step.Refused refusal.Area))
       (ap (λ (j : Job). namedBy answer (sealAct h w) (foldTodo j v)) job-is ∙ sym s))
 
   sealed-by : {r : Pager} {t l : List ℕ} → r ≡ sealedWith h salt answer after (w .pager) → t ≡ entered (w .table) 0 (w .pager .wal .len)

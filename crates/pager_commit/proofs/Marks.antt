@@ -13,15 +13,16 @@ use Rattle.le.specs.Choice.{pick, both}
 use Rattle.le.specs.Le.{put}
 use Rattle.le.proofs.Tests.{eq-or-not}
 use Rattle.le.proofs.Compare.{both-true}
-use Rattle.pager_state.specs.Overlay.{findIn, stagedPages, slotOf, isStaged, frameOf, inLog, onMain, entry, logBytes}
+use Rattle.pager_state.specs.Overlay.{findIn, stagedPages, slotOf, isStaged, frameOf, inLog, onMain, entry, logBytes, committedIn}
+use Rattle.pager_state.specs.Pages.{differsIn}
 use Rattle.pager_state.specs.Commit.{entered}
 use Rattle.pager_state.specs.Steps.{standsBefore, allBefore}
 use Rattle.pager_state.specs.declared.Staged.{Staged}
 use Rattle.pager_state.proofs.Entries.{frame-other, log-other, main-other, part-before}
 use Rattle.pager_state.proofs.Slots.{find-there, find-most}
 use Rattle.pager_state.proofs.Before.{before-staged}
-use Rattle.pager_commit.specs.CommitStep.{isIn, committedIn, slotDiffers, differsIn, countsAt, Marking}
-use Rattle.pager_commit.proofs.Differing.{counts-told}
+use Rattle.pager_commit.specs.CommitStep.{isIn, slotDiffers, countsAt, Marking}
+use Rattle.pager_commit.proofs.Differing.{differs-slot, counts-told}
 
 -- ---- a frame more
 
@@ -50,8 +51,10 @@ module _ {g m : List ℕ} {s : Staged} {len : ℕ} {t l marks : List ℕ} {page 
   differs-still n c d false o = refl
 
   same-after : (n : ℕ) → q + 1 ≤ n → n < 1024 → isIn marks n ≡ differsIn s g (entered t q at) (put l at bs) m n
-  unfolding differsIn
-  same-after n c d = k .same n (omega (arith, h, c)) d ∙ sym (differs-still n c d (isStaged s n) refl)
+  same-after n c d =
+      k .same n (omega (arith, h, c)) d
+      ∙ differs-slot s g t l m n
+      ∙ sym (differs-slot s g (entered t q at) (put l at bs) m n ∙ differs-still n c d (isStaged s n) refl)
 
   still-after : (n : ℕ) → q + 1 ≤ n → n < 1024 → isStaged s n ≡ true → standsBefore (entered t q at) n len ≡ true
   still-after n c d e =
@@ -149,9 +152,9 @@ module _ (s : Staged) (g t l m : List ℕ) where
     counts-own n h d = rw (lt-ltb n 1024 h, eq-eqb (slotOf s n) (slotOf s n) refl, d)
 
     has-mark : (n : ℕ) → n < 1024 → differsIn s g t l m n ≡ true → isIn L n ≡ true
-    unfolding isIn differsIn
+    unfolding isIn
     has-mark n h d =
-        let c = both-true (isStaged s n) (slotDiffers g t l m n (slotOf s n)) d in
+        let c = both-true (isStaged s n) (slotDiffers g t l m n (slotOf s n)) (sym (differs-slot s g t l m n) ∙ d) in
         let p = slot-has n (c .0) in
         let o = slot-in n (c .0) in
         let y : getD L (slotOf s n) 0 ≡ n = mark-in (slotOf s n) o ∙ rw (p, counts-own n h (c .1)) in

@@ -13,9 +13,9 @@ use Rattle.wal.specs.Write.{withFrame, hasRoom}
 use Rattle.wal.specs.declared.Wal.{Wal}
 use Rattle.pager_state.specs.World.{World, world, countOf, withJob, withWal}
 use Rattle.pager_state.specs.Overlay.{pageFrom, findIn, slotOf}
-use Rattle.pager_state.specs.Pages.{pagesFrom, differs}
+use Rattle.pager_state.specs.Pages.{pagesFrom, differsIn, differs}
 use Rattle.pager_state.specs.Fold.{foldTodo, foldAdvance}
-use Rattle.pager_state.specs.Commit.{entered, framesTodo, framesAdvance, commitTodo, commitAdvance}
+use Rattle.pager_state.specs.Commit.{entered, sealedWith, framesTodo, framesAdvance, commitTodo, commitAdvance}
 use Rattle.pager_state.specs.Steps.{todo, advance, done, stepFine, stepped, steps}
 use Rattle.pager_state.specs.declared.Job.{Job}
 use Rattle.pager_state.specs.declared.Job.the-variants as job
@@ -24,8 +24,7 @@ use Rattle.pager_state.specs.declared.Staged.{Staged}
 use Rattle.pager_state.proofs.Made.{Fine, ready-fine, fine-ready}
 use Rattle.pager_state.proofs.Runs.{steps-add}
 use Rattle.pager_state.proofs.Searches.{First, pages-same}
-use Rattle.pager_commit.specs.CommitStep.{isIn, differsIn, sealedWith, framePut, sealPut, Marking, FramesRun}
-use Rattle.pager_commit.proofs.Differing.{differs-by}
+use Rattle.pager_commit.specs.CommitStep.{isIn, framePut, sealPut, Marking, FramesRun}
 use Rattle.pager_commit.proofs.Marks.{marking-frame}
 use Rattle.pager_commit.proofs.Frames.{frame-stepped, seal-stepped}
 
@@ -68,7 +67,7 @@ module _ (g m : List ℕ) (s : Staged) (u : Wal) (t l : List ℕ) where
     run-frame q index {v″} {t″} {l″} ng e i b o fv ft fl p h salt n es ev f =
         let w : World = world (withJob (withWal p v) (job.Commit h salt page n)) t′ l′ m in
         let a = still-fine g p v (job.Commit h salt page n) t l t′ l′ m f nt nl nv in
-        let d : (x : ℕ) → pagesFrom (differsIn s g t′ l′ m) x ≡ pagesFrom (differs g w) x = λ x. rw (← es) (differs-by g w x) in
+        let d : (x : ℕ) → pagesFrom (differsIn s g t′ l′ m) x ≡ pagesFrom (differs g w) x = λ x. rw (← es) refl in
         let c : pagesFrom (differs g w) page ≡ q ∷ pagesFrom (differs g w) (suc q) = rw (← d page, ← d (suc q)) e in
         let x : index ≡ slotOf (p .staged) q = rw es i in
         let y =
@@ -132,5 +131,5 @@ module _ (g m : List ℕ) (p : Pager) (h : DbHeader) (salt n : ℕ) (t l : List 
   run-sealed {q} {v″} {t″} {l″} nt nl nv e o fv fq ft fl =
       let w : World = world (withJob (withWal p v) (job.Commit h salt page n)) t′ l′ m in
       let a = still-fine g p v (job.Commit h salt page n) t l t′ l′ m f nt nl nv in
-      let y = seal-stepped g h salt n page w (sym (differs-by g w page) ∙ e) {r = q} {t = t″} {l = l″} (rw (o, fq, fv)) (rw (o, ft)) (rw (o, fl)) in
+      let y = seal-stepped g h salt n page w e {r = q} {t = t″} {l = l″} (rw (o, fq, fv)) (rw (o, ft)) (rw (o, fl)) in
       y ∙ sym (commit-stepped g w h salt page n refl a) ∙ ap (stepped g) (r p h salt n refl refl f) ∙ sym (steps-more g k _)

@@ -1,7 +1,5 @@
-use mathlib.Core.Path.{sym, _∙_}
 use denote.Ref.{now}
 use borrow.Author.Needs.{needs}
-use borrow.Author.Tests.{not-true, not-false}
 use Rattle.pager_state.specs.World.{world}
 use Rattle.pager_state.proofs.Made.{ready-fine}
 use Rattle.pager_commit.proofs.Starting.{run-refused, run-begun, begun-told, begun-room, marked-all}
@@ -15,7 +13,7 @@ returns c =
     let W = world (a .pager) (now (a .table)) (now (a .log)) (now (a .main)) in
     let j = c3 .judge .ensures in
     rw (c .ran .ensures)
-    ((j .0, (j .1 .0, run-refused (now (a .staging)) W (a .new-header) (a .salt) (j .0, j .1 .0) (sym (c .before .before .is-begun .ensures) ∙ not-true _ (c .before .if1 .taken)))))
+    ((j .0, (j .1 .0, run-refused (now (a .staging)) W (a .new-header) (a .salt) (j .0, j .1 .0) (c .before .enum-told2 .given .1))))
 
 run-frames-requires : tie.Need-run-frames-requires
 run-frames-requires c κs =
@@ -25,7 +23,7 @@ run-frames-requires c κs =
     let g = now (a .staging) in
     let W = world (a .pager) (now (a .table)) (now (a .log)) (now (a .main)) in
     let j = c7 .judge .ensures in
-    let s = sym (c5 .before .is-begun .ensures) ∙ not-false _ (c5 .if1 .left) in
+    let s = c5 .enum-told .given .1 in
     let k = j .1 .1 s in
     let r = ready-fine g W (begun-told g W (a .new-header) (a .salt) (j .0, j .1 .0) s .right) in
     (k .0, (r .0 .table, (r .0 .files .log .area, (r .1, begun-room g W (a .new-header) (a .salt) (j .0, j .1 .0) s (k .1)))))
@@ -39,13 +37,11 @@ returns-2 c =
     let g = now (a .staging) in
     let W = world (a .pager) (now (a .table)) (now (a .log)) (now (a .main)) in
     let j = c13 .judge .ensures in
-    let s = sym (c11 .before .is-begun .ensures) ∙ not-false _ (c11 .if1 .left) in
+    let s = c11 .enum-told .given .1 in
     let k = j .1 .1 s .1 in
     let f = begun-told g W (a .new-header) (a .salt) (j .0, j .1 .0) s .right in
     rw (c .ran2 .ensures)
-    ((j .0, (j .1 .0, run-begun g W (a .new-header) (a .salt) (j .0, j .1 .0) _ s (marked-all g W (a .new-header) (a .salt) (j .0, j .1 .0) k) (c5 .run-frames .ensures (now (a .main)) f k))))
+    ((j .0, (j .1 .0, run-begun g W (a .new-header) (a .salt) (j .0, j .1 .0) s _ (marked-all g W (a .new-header) (a .salt) (j .0, j .1 .0) k) (c5 .run-frames .ensures (now (a .main)) f k))))
 
 pub commit-frames-spec : {M : Type 1} → statement M
-commit-frames-spec =
-    tie.close
-    (tie.spec (search needs) (search needs) (search needs) (search needs) (search needs) returns run-frames-requires (search needs) (search needs) (search needs) returns-2)
+commit-frames-spec = tie.close (tie.spec (search needs) (search needs) (search needs) (search needs) (search needs) (search needs) returns run-frames-requires (search needs) (search needs) (search needs) returns-2)

@@ -6,7 +6,6 @@ use Rattle.pager_commit.proofs.Frames.{frame-told, frame-stepped, seal-
 use Rattle.pager_state.specs.World.{world}
 use Rattle.pager_state.proofs.Searches.{lowest}
 use Rattle.pager_state.proofs.Walks.{none-found}
-use Rattle.pager_commit.proofs.Differing.{differs-by}
 use borrow.Author.Needs.{needs}
 use Rattle.pager_commit.proofs.frames_step.Statement.{statement}
 use Rattle.pager_commit.proofs.frames_step.Tie as tie
@@ -28,7 +27,7 @@ returns c =
     let g = now (c17 .args .staging) in
     let f = c9 .next-differing .ensures in
     let q = c9 .next-differing .result .page in
-    let d : q ≡ firstOf (pagesFrom (differs g W) (c17 .args .page)) = f .0 ∙ ap firstOf (differs-by g W (c17 .args .page)) in
+    let d : q ≡ firstOf (pagesFrom (differs g W) (c17 .args .page)) = f .0 in
     let e = lowest (differs g W) (c17 .args .page) q d (c7 .if1 .taken) .split in
     let i = f .1 .0 (c7 .if1 .taken) in
     let s = c4 .frame-step .ensures in (
@@ -51,7 +50,7 @@ returns-2 c =
     let g = now (c17 .args .staging) in
     let f = c9 .next-differing .ensures in
     let q = c9 .next-differing .result .page in
-    let d : q ≡ firstOf (pagesFrom (differs g W) (c17 .args .page)) = f .0 ∙ ap firstOf (differs-by g W (c17 .args .page)) in
+    let d : q ≡ firstOf (pagesFrom (differs g W) (c17 .args .page)) = f .0 in
     let e = none-found (differs g W) (c17 .args .page) q d (c7 .if1 .left) in
     let s = c4 .seal-step .ensures in (
       seal-told g (c17 .args .header) (c17 .args .salt) (c17 .args .answer) (c17 .args .page) W e (s .0),

@@ -9,7 +9,7 @@ use Rattle.header.specs.declared.DbHeader.{DbHeader}
 use Rattle.pager_state.specs.World.{World, world, fine, busy, readOnly}
 use Rattle.pager_state.specs.Steps.{stepFine, tableFits, headerGood}
 use Rattle.pager_state.proofs.Made.{ready-fine}
-use Rattle.pager_commit.proofs.Starting.{not-begun, start-area, start-busy, start-table, areas, start-read-only, start-header, count-most, start-joining, Passed, start-full, start-begun}
+use Rattle.pager_commit.proofs.Starting.{start-area, start-busy, start-table, areas, start-read-only, start-header, count-most, start-joining, Passed, start-full, start-begun}
 use borrow.Author.Needs.{needs}
 use Rattle.pager_commit.proofs.judge.Statement.{statement}
 use Rattle.pager_commit.proofs.judge.Tie as tie
@@ -64,26 +64,26 @@ returns : tie.Need-returns
 unfolding fine
 returns c =
     let s = c .before .before .before .before .before .before .before in
-    not-begun (g s) (W s) (h s) refl (start-area (g s) (W s) (h s) (sym (c .before .before .are-fine .ensures) ∙ not-true _ (c .before .if1 .taken))) (c .refused .ensures)
+    start-area (g s) (W s) (h s) (sym (c .before .before .are-fine .ensures) ∙ not-true _ (c .before .if1 .taken)) (c .refused .ensures)
 
 returns-2 : tie.Need-returns-2
 returns-2 c =
     let p = c .before .before .before in
     let s = s₁ p in
-    not-begun (g s) (W s) (h s) refl (start-busy (g s) (W s) (h s) (lengths p) (sym (c .before .before .is-busy .ensures) ∙ c .before .if2 .taken)) (c .refused2 .ensures)
+    start-busy (g s) (W s) (h s) (lengths p) (sym (c .before .before .is-busy .ensures) ∙ c .before .if2 .taken) (c .refused2 .ensures)
 
 returns-3 : tie.Need-returns-3
 returns-3 c =
     let p = c .before .before .before .before .before in
     let s = s₂ p in
-    not-begun (g s) (W s) (h s) refl (start-table (g s) (W s) (h s) (lengths (p .before .before)) (rests p) (sym (c .before .before .all-stand-before .ensures) ∙ not-true _ (c .before .if3 .taken))) (c .refused3 .ensures)
+    start-table (g s) (W s) (h s) (lengths (p .before .before)) (rests p) (sym (c .before .before .all-stand-before .ensures) ∙ not-true _ (c .before .if3 .taken)) (c .refused3 .ensures)
 
 returns-4 : tie.Need-returns-4
 returns-4 c =
     let p = c .before .before .before in
     let q = p .before .before .before .before in
     let s = s₃ p in
-    not-begun (g s) (W s) (h s) refl (start-read-only (g s) (W s) (h s) (lengths (q .before .before)) (rests q) (fits p) (sym (c .before .before .is-read-only .ensures) ∙ c .before .if4 .taken)) (c .refused4 .ensures)
+    start-read-only (g s) (W s) (h s) (lengths (q .before .before)) (rests q) (fits p) (sym (c .before .before .is-read-only .ensures) ∙ c .before .if4 .taken) (c .refused4 .ensures)
 
 returns-5 : tie.Need-returns-5
 returns-5 c =
@@ -91,7 +91,7 @@ returns-5 c =
     let q = p .before .before in
     let r = q .before .before .before .before in
     let s = s₄ p in
-    not-begun (g s) (W s) (h s) refl (start-header (g s) (W s) (h s) (lengths (r .before .before)) (rests r) (fits q) (writes p) (sym (c .before .before .is-header-good .ensures) ∙ not-true _ (c .before .if5 .taken))) (c .refused5 .ensures)
+    start-header (g s) (W s) (h s) (lengths (r .before .before)) (rests r) (fits q) (writes p) (sym (c .before .before .is-header-good .ensures) ∙ not-true _ (c .before .if5 .taken)) (c .refused5 .ensures)
 
 first-lacking-requires : tie.Need-first-lacking-requires
 first-lacking-requires c κs = count-most (h (s₅ (c .before))) (good (c .before))
@@ -103,7 +103,7 @@ returns-6 c =
     let r = q .before .before in
     let t = r .before .before .before .before in
     let s = s₅ p in
-    not-begun (g s) (W s) (h s) refl (start-joining (g s) (W s) (h s) (lengths (t .before .before)) (rests t) (fits r) (writes q) (good p) (c .before .before .first-lacking .ensures) (c .before .if6 .taken)) (c .refused6 .ensures)
+    start-joining (g s) (W s) (h s) (lengths (t .before .before)) (rests t) (fits r) (writes q) (good p) (c .before .before .first-lacking .ensures) (c .before .if6 .taken) (c .refused6 .ensures)
 
 -- ---- room
 
@@ -146,7 +146,7 @@ returns-7 : tie.Need-returns-7
 returns-7 c =
     let m = c .before .before .before .before in
     let s = s₅ (m .before .before .before .before) in
-    not-begun (g s) (W s) (h s) refl (start-full (g s) (W s) (h s) (passed m) (c .before .if7 .taken)) (c .refused7 .ensures)
+    start-full (g s) (W s) (h s) (passed m) (c .before .if7 .taken) (c .refused7 .ensures)
 
 returns-8 : tie.Need-returns-8
 returns-8 c =

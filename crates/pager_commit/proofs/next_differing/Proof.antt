@@ -2,8 +2,7 @@ use native.Mathlib.Omega.{arith}
 use mathlib.Core.Path.{_≡_, refl, sym, ap, _∙_}
 use denote.Ref.{now}
 use Prim.Native.Nat.{_-_}
-use Rattle.pager_state.specs.Pages.{pagesFrom, firstOf}
-use Rattle.pager_commit.specs.CommitStep.{differsIn}
+use Rattle.pager_state.specs.Pages.{pagesFrom, firstOf, differsIn}
 use Rattle.pager_commit.proofs.Differing.{found-staged, none-differs, staged-from, differs-here, same-here}
 use Rattle.pager_state.proofs.Searches.{pages-end}
 use Rattle.pager_state.proofs.Held.{slots}

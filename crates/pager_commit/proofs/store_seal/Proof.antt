@@ -18,10 +18,10 @@ enter-requires c κs =
 -- there is room, so the seal is appended
 returns : tie.Need-returns
 returns c =
-    let a = c .before .before .before in
+    let a = c .before .before .before .before in
     let d = a .before .before .before .before .before .before .before .before .before .before in
     let s = seal-stored (now (d .args .log)) (d .args .wal) (d .args .header) (d .pre .1 .0) (d .pre .1 .1) (a .before .before .before .encode-fields .ensures) (a .append-page-zero .ensures .0) (a .append-page-zero .ensures .1) in
-    not-full (a .append-page-zero .result) (withFrame (d .args .wal) (countOf (d .args .header))) (s .0) (c .match .keys2)
+    not-full (s .0) (c .enum-told .given .1)
 
 returns-2 : tie.Need-returns-2
 returns-2 c =
@@ -31,4 +31,4 @@ returns-2 c =
     (appended-is (a .append-page-zero .result) _ (withFrame (d .args .wal) (countOf (d .args .header))) (s .0) (c .before .appended .given .1), (a .before .before .before .before .before .before .enter .ensures, s .1))
 
 pub store-seal-spec : {M : Type 1} → statement M
-store-seal-spec = tie.close (tie.spec enter-requires (search needs) (search needs) (search needs) (search needs) (search needs) (search needs) returns (search needs) (search needs) returns-2)
+store-seal-spec = tie.close (tie.spec enter-requires (search needs) (search needs) (search needs) (search needs) (search needs) (search needs) (search needs) returns (search needs) (search needs) returns-2)
