@@ -5,12 +5,14 @@ ghost use mathlib.Core.List.{List, _++_};
 ghost use Prim.Native.Nat.{ℕ, _+_, _*_, _≤_, _<_, min, max};
 ghost use lib.Dec.{leb, eqb};
 ghost use lib.ListN.{length, take, drop, getD, replicate};
+ghost use Rattle.wal.specs.Recovery.{walArea};
+ghost use Rattle.page.specs.Page.{pageSize};
 ghost use Rattle.le.specs.Choice.{pick, both};
 ghost use Rattle.header.specs.Header.{encodeHeader};
-ghost use Rattle.wal.specs.Header.{encodeWalHeader};
+ghost use Rattle.wal.specs.Header.{headerSize, encodeWalHeader};
 ghost use Rattle.wal.specs.Write.{emptyWal, truncatedHeader};
 ghost use Rattle.le.specs.Le.{put};
-ghost use Rattle.pager_state.specs.World.{world, headerOf, countOf, withJob, withWal};
+ghost use Rattle.pager_state.specs.World.{world, headerOf, countOf, withJob, withWal, pageLimit, mainArea};
 ghost use Rattle.pager_state.specs.Overlay.{logBytes, mainAt};
 ghost use Rattle.pager_state.specs.Stores.{Put, SetLen, Other, placeOf, grown, putFile};
 ghost use Rattle.pager_state.specs.Pages.{pagesFrom, firstOf, foldsBy, folds};
@@ -115,7 +117,7 @@ fn next_folding(count: u32, table: &[u32], page: usize) -> usize
 }
 
 fn tally(n: u32, yes: bool) -> u32
-    requires { ⌜ n < 1024 ⌝ }
+    requires { ⌜ n < pageLimit ⌝ }
     ensures { λ r. ⌜ r ≡ pick yes (n + 1) n ⌝ }
 {
     if yes { n + 1 } else { n }
@@ -156,7 +158,9 @@ fn reached(len: usize, end: usize) -> usize
 // Stores bytes in a file of `len` bytes, with zeros before them where they start past its end; answers its length.
 fn store_bytes(area: &mut [u8], len: usize, at: usize, bytes: &[u8]) -> usize
     requires { ⌜ at + length (now bytes) ≤ length (now area) ⌝ }
-    ensures { λ r. ⌜ (r ≡ putFile (fileOf (now (area .entry)) len) at (now (bytes .entry)) .len) × (now (area .exit) ≡ putFile (fileOf (now (area .entry)) len) at (now (bytes .entry)) .area) ⌝ }
+    ensures { λ r. ⌜
+        (let f = putFile (fileOf (now (area .entry)) len) at (now (bytes .entry)) in (r ≡ f .len) × (now (area .exit) ≡ f .area))
+        ⌝ }
 {
     grow(area, len, at);
     le::write_bytes(area, at, bytes);
@@ -165,7 +169,7 @@ fn store_bytes(area: &mut [u8], len: usize, at: usize, bytes: &[u8]) -> usize
 
 // Stores the main header where it lies; answers the file's length.
 fn store_header(main: &mut [u8], len: usize, header: DbHeader) -> usize
-    requires { ⌜ 4096 ≤ length (now main) ⌝ }
+    requires { ⌜ pageSize ≤ length (now main) ⌝ }
     ensures { λ r. ⌜ (r ≡ headerPut (now (main .entry)) len header .len) × (now (main .exit) ≡ headerPut (now (main .entry)) len header .area) ⌝ }
 {
     header::encode_header(header, &mut main[..PAGE_SIZE]);
@@ -269,9 +273,14 @@ fn page_step(
     log: &[u8],
     main: &mut [u8],
 ) -> Stepped
-    requires { ⌜ (page < 1024) × (length (now main) ≡ 4194304) ⌝ }
-    ensures { λ r. ⌜ r .answer ≡ StepAnswer.Stored (placeOf (Put Other FileKind.Main (mainAt page) (logBytes (now (table .entry)) (now (log .entry)) page) last)) ⌝ }
-    ensures { λ r. ⌜ r .pager ≡ withMain pager (pagePut (now (main .entry)) (pager .storage .len) (now (table .entry)) (now (log .entry)) page .len) (pager .storage .header) (Job.Fold salt (page + 1) answer) ⌝ }
+    requires { ⌜ (page < pageLimit) × (length (now main) ≡ mainArea) ⌝ }
+    ensures { λ r. ⌜
+        r .answer ≡ StepAnswer.Stored (placeOf (Put Other FileKind.Main (mainAt page) (logBytes (now (table .entry)) (now (log .entry)) page) last))
+        ⌝ }
+    ensures { λ r. ⌜
+        (let f = pagePut (now (main .entry)) (pager .storage .len) (now (table .entry)) (now (log .entry)) page in
+        r .pager ≡ withMain pager (f .len) (pager .storage .header) (Job.Fold salt (page + 1) answer))
+        ⌝ }
     ensures { λ _. ⌜ now (main .exit) ≡ pagePut (now (main .entry)) (pager .storage .len) (now (table .entry)) (now (log .entry)) page .area ⌝ }
 {
     let at = PAGE_SIZE * page;
@@ -299,9 +308,11 @@ fn page_step(
 
 // Stores the main header.
 fn header_step(pager: Pager, salt: u32, answer: usize, main: &mut [u8]) -> Stepped
-    requires { ⌜ 4096 ≤ length (now main) ⌝ }
+    requires { ⌜ pageSize ≤ length (now main) ⌝ }
     ensures { λ r. ⌜ r .answer ≡ StepAnswer.Stored (placeOf (Put Other FileKind.Main 0 (encodeHeader (headerOf pager)) false)) ⌝ }
-    ensures { λ r. ⌜ r .pager ≡ withMain pager (headerPut (now (main .entry)) (pager .storage .len) (headerOf pager) .len) (headerOf pager) (Job.MainLength salt answer) ⌝ }
+    ensures { λ r. ⌜
+        r .pager ≡ withMain pager (headerPut (now (main .entry)) (pager .storage .len) (headerOf pager) .len) (headerOf pager) (Job.MainLength salt answer)
+        ⌝ }
     ensures { λ _. ⌜ now (main .exit) ≡ headerPut (now (main .entry)) (pager .storage .len) (headerOf pager) .area ⌝ }
 {
     let header = pager.current_header;
@@ -330,9 +341,15 @@ fn pages_step(
     log: &[u8],
     main: &mut [u8],
 ) -> Stepped
-    requires { ⌜ length (now main) ≡ 4194304 ⌝ }
-    ensures { λ r. ⌜ r .answer ≡ named answer (pagesTodo salt answer (pagesFrom (folds (world pager (now (table .entry)) (now (log .entry)) (now (main .entry)))) page) (world pager (now (table .entry)) (now (log .entry)) (now (main .entry)))) ⌝ }
-    ensures { λ r. ⌜ world (r .pager) (now (table .entry)) (now (log .entry)) (now (main .exit)) ≡ pagesAdvance salt answer (pagesFrom (folds (world pager (now (table .entry)) (now (log .entry)) (now (main .entry)))) page) (world pager (now (table .entry)) (now (log .entry)) (now (main .entry))) ⌝ }
+    requires { ⌜ length (now main) ≡ mainArea ⌝ }
+    ensures { λ r. ⌜
+        (let w = world pager (now (table .entry)) (now (log .entry)) (now (main .entry)) in
+        r .answer ≡ named answer (pagesTodo salt answer (pagesFrom (folds w) page) w))
+        ⌝ }
+    ensures { λ r. ⌜
+        (let w = world pager (now (table .entry)) (now (log .entry)) (now (main .entry)) in
+        world (r .pager) (now (table .entry)) (now (log .entry)) (now (main .exit)) ≡ pagesAdvance salt answer (pagesFrom (folds w) page) w)
+        ⌝ }
 {
     let header = pager.current_header;
     let count = header.page_count;
@@ -346,10 +363,10 @@ fn pages_step(
 
 // Sets the main file's length.
 fn length_step(pager: Pager, salt: u32, answer: usize, main: &mut [u8]) -> Stepped
-    requires { ⌜ (countOf (headerOf pager) ≤ 1024) × (length (now main) ≡ 4194304) ⌝ }
-    ensures { λ r. ⌜ r .answer ≡ StepAnswer.Stored (placeOf (SetLen Other FileKind.Main (4096 * countOf (headerOf pager)) true)) ⌝ }
-    ensures { λ r. ⌜ r .pager ≡ withMain pager (4096 * countOf (headerOf pager)) (pager .storage .header) (Job.LogLength salt answer) ⌝ }
-    ensures { λ _. ⌜ now (main .exit) ≡ grown (fileOf (now (main .entry)) (pager .storage .len)) (4096 * countOf (headerOf pager)) ⌝ }
+    requires { ⌜ (countOf (headerOf pager) ≤ pageLimit) × (length (now main) ≡ mainArea) ⌝ }
+    ensures { λ r. ⌜ r .answer ≡ StepAnswer.Stored (placeOf (SetLen Other FileKind.Main (pageSize * countOf (headerOf pager)) true)) ⌝ }
+    ensures { λ r. ⌜ r .pager ≡ withMain pager (pageSize * countOf (headerOf pager)) (pager .storage .header) (Job.LogLength salt answer) ⌝ }
+    ensures { λ _. ⌜ now (main .exit) ≡ grown (fileOf (now (main .entry)) (pager .storage .len)) (pageSize * countOf (headerOf pager)) ⌝ }
 {
     let header = pager.current_header;
     let to = PAGE_SIZE * widen(header.page_count);
@@ -371,10 +388,10 @@ fn length_step(pager: Pager, salt: u32, answer: usize, main: &mut [u8]) -> Stepp
 
 // Sets the log's length to its header's.
 fn empty_step(pager: Pager, salt: u32, answer: usize, log: &mut [u8]) -> Stepped
-    requires { ⌜ 32 ≤ length (now log) ⌝ }
+    requires { ⌜ headerSize ≤ length (now log) ⌝ }
     ensures { λ r. ⌜ r .answer ≡ StepAnswer.Stored (placeOf logLengthAct) ⌝ }
     ensures { λ r. ⌜ r .pager ≡ withJob (withoutFrames pager) (Job.LogHeader salt answer) ⌝ }
-    ensures { λ _. ⌜ now (log .exit) ≡ grown (fileOf (now (log .entry)) (pager .wal .len)) 32 ⌝ }
+    ensures { λ _. ⌜ now (log .exit) ≡ grown (fileOf (now (log .entry)) (pager .wal .len)) headerSize ⌝ }
 {
     let wal = pager.wal;
     grow(log, wal.len, WAL_HEADER_SIZE);
@@ -393,8 +410,10 @@ fn empty_step(pager: Pager, salt: u32, answer: usize, log: &mut [u8]) -> Stepped
 
 // Stores the log's header; the table then tells of the main file alone.
 fn last_step(pager: Pager, salt: u32, answer: usize, table: &mut [u32], log: &mut [u8]) -> Stepped
-    requires { ⌜ (length (now log) ≡ 4210720) × (pager .wal .len ≤ 4210720) ⌝ }
-    ensures { λ r. ⌜ r .answer ≡ StepAnswer.Last (placeOf (Put Other FileKind.Log 0 (encodeWalHeader (truncatedHeader (pager .wal .header) salt)) true)) answer ⌝ }
+    requires { ⌜ (length (now log) ≡ walArea) × (pager .wal .len ≤ walArea) ⌝ }
+    ensures { λ r. ⌜
+        r .answer ≡ StepAnswer.Last (placeOf (Put Other FileKind.Log 0 (encodeWalHeader (truncatedHeader (pager .wal .header) salt)) true)) answer
+        ⌝ }
     ensures { λ r. ⌜ r .pager ≡ withJob (withWal pager (emptyWal (truncatedHeader (pager .wal .header) salt))) Job.Idle ⌝ }
     ensures { λ _. ⌜ now (table .exit) ≡ foldedFrom (countOf (headerOf pager)) 0 (now (table .entry)) ⌝ }
     ensures { λ _. ⌜ now (log .exit) ≡ put (now (log .entry)) 0 (encodeWalHeader (truncatedHeader (pager .wal .header) salt)) ⌝ }
@@ -424,7 +443,10 @@ fn last_step(pager: Pager, salt: u32, answer: usize, table: &mut [u32], log: &mu
 // Does the next store of a fold that is part done, and no other.
 pub fn fold_step(pager: Pager, table: &mut [u32], log: &mut [u8], main: &mut [u8]) -> Stepped
     ensures { λ r. ⌜ r .answer ≡ foldAnswer (world pager (now (table .entry)) (now (log .entry)) (now (main .entry))) ⌝ }
-    ensures { λ r. ⌜ world (r .pager) (now (table .exit)) (now (log .exit)) (now (main .exit)) ≡ foldStepped (world pager (now (table .entry)) (now (log .entry)) (now (main .entry))) ⌝ }
+    ensures { λ r. ⌜
+        (let w = world pager (now (table .entry)) (now (log .entry)) (now (main .entry)) in
+        world (r .pager) (now (table .exit)) (now (log .exit)) (now (main .exit)) ≡ foldStepped w)
+        ⌝ }
 {
     if !pager_state::is_fine(pager, table.len(), log.len(), main.len()) {
         return Stepped {

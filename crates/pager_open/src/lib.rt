@@ -8,13 +8,14 @@ ghost use lib.Dec.{leb};
 ghost use lib.ListN.{length};
 ghost use Rattle.le.specs.Choice.{pick};
 ghost use Rattle.le.specs.Le.{put};
-ghost use Rattle.page.specs.Page.{emptyTablePage};
+ghost use Rattle.page.specs.Page.{emptyTablePage, pageSize};
 ghost use Rattle.header.specs.Header.{encodeHeader};
-ghost use Rattle.wal.specs.Header.{decodeWalHeader};
-ghost use Rattle.wal.specs.Recovery.{chunks, recovered, walOf};
+ghost use Rattle.wal.specs.Header.{headerSize, decodeWalHeader};
+ghost use Rattle.wal.specs.Recovery.{chunks, recovered, walOf, walArea};
 ghost use Rattle.wal.specs.Write.{emptyWal, createdHeader, headed};
-ghost use Rattle.pager_state.specs.World.{lengthsFine};
+ghost use Rattle.pager_state.specs.World.{lengthsFine, pageLimit};
 ghost use Rattle.pager_state.specs.Overlay.{entry};
+ghost use Rattle.pager_state.specs.Stores.{File};
 ghost use Rattle.pager_state.specs.Commit.{entered};
 ghost use Rattle.pager_state.specs.Opening.{hasPage, tableOf, opensAs, firstHeader, create, createTable, createLog, createMain, writes, foundIn, foundFresh, mainHeader, judgedLog, recounted, headerBy, openingOf, openPager, openedAnswer, openTable, openLogArea, noPager};
 ghost use Rattle.pager_state.specs.Opened.{Refused};
@@ -95,7 +96,7 @@ fn main_entry(header: DbHeader, n: usize) -> u32
 
 // Makes the table that of a store without frames.
 fn clear_table(table: &mut [u32], main_header: DbHeader)
-    requires { ⌜ length (now table) ≡ 1024 ⌝ }
+    requires { ⌜ length (now table) ≡ pageLimit ⌝ }
     ensures { λ _. ⌜ now (table .exit) ≡ tableOf «main_header» [] ⌝ }
 {
     let mut n = 0;
@@ -118,7 +119,7 @@ fn enter_frame(table: &mut [u32], page_num: u32, at: usize)
 
 // Fills the table from the sealed frames' headings, each over those before it.
 fn fill_table(table: &mut [u32], file: &[u8], main_header: DbHeader)
-    requires { ⌜ (length (now table) ≡ 1024) × (length (now file) ≤ 4210720) ⌝ }
+    requires { ⌜ (length (now table) ≡ pageLimit) × (length (now file) ≤ walArea) ⌝ }
     ensures { λ _. ⌜ now (table .exit) ≡ tableOf «main_header» (chunks (now (file .entry))) ⌝ }
 {
     clear_table(table, main_header);
@@ -132,7 +133,7 @@ fn fill_table(table: &mut [u32], file: &[u8], main_header: DbHeader)
 
 // An open log that ends with its last seal.
 fn sealed_wal(header: WalHeader, end: usize, last: LastCommit) -> Wal
-    requires { ⌜ 32 ≤ end ⌝ }
+    requires { ⌜ headerSize ≤ end ⌝ }
     ensures { λ r. ⌜ r ≡ sealedWal header end last ⌝ }
 {
     Wal {
@@ -160,7 +161,7 @@ fn empty_wal(salt: u32) -> Wal
 
 // The log cut at its commit point.
 fn cut_at_commit(wal: Wal) -> Wal
-    requires { ⌜ 32 ≤ wal .«last_commit_offset» ⌝ }
+    requires { ⌜ headerSize ≤ wal .«last_commit_offset» ⌝ }
     ensures { λ r. ⌜ r ≡ keptWal true wal ⌝ }
 {
     let header = wal.header;
@@ -170,7 +171,7 @@ fn cut_at_commit(wal: Wal) -> Wal
 
 // The log as it is then open: a clean opening cuts it, a plain one keeps the tail.
 fn kept(wal: Wal, clean: bool) -> Wal
-    requires { ⌜ 32 ≤ wal .«last_commit_offset» ⌝ }
+    requires { ⌜ headerSize ≤ wal .«last_commit_offset» ⌝ }
     ensures { λ r. ⌜ r ≡ keptWal clean wal ⌝ }
 {
     if clean {
@@ -259,7 +260,7 @@ fn is_barred(options: OpenOptions) -> bool
 
 // Whether a header's pages lie within a length.
 fn covers(len: usize, header: DbHeader) -> bool
-    ensures { λ r. ⌜ r ≡ leb (4096 * header .«page_count») len ⌝ }
+    ensures { λ r. ⌜ r ≡ leb (pageSize * header .«page_count») len ⌝ }
 {
     PAGE_SIZE * (header.page_count as usize) <= len
 }
@@ -323,7 +324,7 @@ fn judge_found(
     main_header: DbHeader,
     options: OpenOptions,
 ) -> PagerOpened
-    requires { ⌜ (wal ≡ walOf (length (now file)) (recovered (now file))) × (32 ≤ length (now file)) ⌝ }
+    requires { ⌜ (wal ≡ walOf (length (now file)) (recovered (now file))) × (headerSize ≤ length (now file)) ⌝ }
     ensures { λ r. ⌜ r ≡ openedAnswer (judgedFound (howOf options) «main_len» «main_header» (foundIn (options .clean) (now (file .entry)))) ⌝ }
 {
     match header_by(file, wal, main_header) {
@@ -345,8 +346,12 @@ fn judge_log(
     main_header: DbHeader,
     options: OpenOptions,
 ) -> PagerOpened
-    requires { ⌜ length (now file) ≤ 4210720 ⌝ }
-    ensures { λ r. ⌜ r ≡ openedAnswer (judgedLog (decodeWalHeader (now (file .entry))) (judgedFound (howOf options) «main_len» «main_header» (foundIn (options .clean) (now (file .entry))))) ⌝ }
+    requires { ⌜ length (now file) ≤ walArea ⌝ }
+    ensures { λ r. ⌜
+        (let o = howOf options in
+        let x = foundIn (options .clean) (now (file .entry)) in
+        r ≡ openedAnswer (judgedLog (decodeWalHeader (now (file .entry))) (judgedFound o «main_len» «main_header» x)))
+        ⌝ }
 {
     match Wal::open(file) {
         WalOpened::Opened(wal) => judge_found(file, wal, main_len, main_header, options),
@@ -373,8 +378,10 @@ fn judge_behind(
     main_header: DbHeader,
     options: OpenOptions,
 ) -> PagerOpened
-    requires { ⌜ «log_len» ≤ 4210720 ⌝ }
-    ensures { λ r. ⌜ r ≡ openedAnswer (judgedBehind (howOf options) «main_len» (record { area = now (log .entry); len = «log_len» }) «main_header») ⌝ }
+    requires { ⌜ «log_len» ≤ walArea ⌝ }
+    ensures { λ r. ⌜
+        (let f : File = record { area = now (log .entry); len = «log_len» } in r ≡ openedAnswer (judgedBehind (howOf options) «main_len» f «main_header»))
+        ⌝ }
 {
     if !covers(main_len, main_header) {
         return refused(Refusal::MainShort);
@@ -409,7 +416,7 @@ fn judge(
     main_len: usize,
     options: OpenOptions,
 ) -> PagerOpened
-    requires { ⌜ «log_len» ≤ 4210720 ⌝ }
+    requires { ⌜ «log_len» ≤ walArea ⌝ }
     ensures { λ r. ⌜ r ≡ openedAnswer (judgedFiles (howOf options) (files (now (main .entry)) «main_len» (now (log .entry)) «log_len»)) ⌝ }
 {
     match read_header(main, main_len) {
@@ -420,7 +427,10 @@ fn judge(
 
 // Stores a fresh log's header where there is no log and it may be written.
 fn store_log(log: &mut [u8], options: OpenOptions)
-    ensures { λ _. ⌜ now (log .exit) ≡ pick (options .«log_exists») (now (log .entry)) (pick (writes (options .«access_mode»)) (headed (now (log .entry)) (createdHeader (options .salt))) (now (log .entry))) ⌝ }
+    ensures { λ _. ⌜
+        (let l = now (log .entry) in
+        now (log .exit) ≡ pick (options .«log_exists») l (pick (writes (options .«access_mode»)) (headed l (createdHeader (options .salt))) l))
+        ⌝ }
 {
     if options.log_exists {
         return;
@@ -441,9 +451,21 @@ fn open(
     log_len: usize,
     options: OpenOptions,
 ) -> PagerOpened
-    ensures { λ r. ⌜ r ≡ openedAnswer (openPager (howOf options) (now (table .entry)) (files (now (main .entry)) «main_len» (now (log .entry)) «log_len») (now (staging .entry))) ⌝ }
-    ensures { λ r. ⌜ now (table .exit) ≡ openTable (howOf options) (now (table .entry)) (files (now (main .entry)) «main_len» (now (log .entry)) «log_len») (now (staging .entry)) ⌝ }
-    ensures { λ r. ⌜ now (log .exit) ≡ openLogArea (howOf options) (now (table .entry)) (files (now (main .entry)) «main_len» (now (log .entry)) «log_len») (now (staging .entry)) ⌝ }
+    ensures { λ r. ⌜
+        (let d = files (now (main .entry)) «main_len» (now (log .entry)) «log_len» in
+        let o = howOf options in
+        r ≡ openedAnswer (openPager o (now (table .entry)) d (now (staging .entry))))
+        ⌝ }
+    ensures { λ r. ⌜
+        (let d = files (now (main .entry)) «main_len» (now (log .entry)) «log_len» in
+        let o = howOf options in
+        now (table .exit) ≡ openTable o (now (table .entry)) d (now (staging .entry)))
+        ⌝ }
+    ensures { λ r. ⌜
+        (let d = files (now (main .entry)) «main_len» (now (log .entry)) «log_len» in
+        let o = howOf options in
+        now (log .exit) ≡ openLogArea o (now (table .entry)) d (now (staging .entry)))
+        ⌝ }
 {
     if !are_fine(
         table.len(),
@@ -479,9 +501,21 @@ pub fn open_with_mode(
     log_exists: bool,
     salt: u32,
 ) -> PagerOpened
-    ensures { λ r. ⌜ r ≡ openedAnswer (openPager (how false «access_mode» «log_exists» salt) (now (table .entry)) (files (now (main .entry)) «main_len» (now (log .entry)) «log_len») (now (staging .entry))) ⌝ }
-    ensures { λ r. ⌜ now (table .exit) ≡ openTable (how false «access_mode» «log_exists» salt) (now (table .entry)) (files (now (main .entry)) «main_len» (now (log .entry)) «log_len») (now (staging .entry)) ⌝ }
-    ensures { λ r. ⌜ now (log .exit) ≡ openLogArea (how false «access_mode» «log_exists» salt) (now (table .entry)) (files (now (main .entry)) «main_len» (now (log .entry)) «log_len») (now (staging .entry)) ⌝ }
+    ensures { λ r. ⌜
+        (let d = files (now (main .entry)) «main_len» (now (log .entry)) «log_len» in
+        let o = how false «access_mode» «log_exists» salt in
+        r ≡ openedAnswer (openPager o (now (table .entry)) d (now (staging .entry))))
+        ⌝ }
+    ensures { λ r. ⌜
+        (let d = files (now (main .entry)) «main_len» (now (log .entry)) «log_len» in
+        let o = how false «access_mode» «log_exists» salt in
+        now (table .exit) ≡ openTable o (now (table .entry)) d (now (staging .entry)))
+        ⌝ }
+    ensures { λ r. ⌜
+        (let d = files (now (main .entry)) «main_len» (now (log .entry)) «log_len» in
+        let o = how false «access_mode» «log_exists» salt in
+        now (log .exit) ≡ openLogArea o (now (table .entry)) d (now (staging .entry)))
+        ⌝ }
 {
     let options = OpenOptions {
         clean: false,
@@ -504,9 +538,21 @@ pub fn open_clean(
     log_exists: bool,
     salt: u32,
 ) -> PagerOpened
-    ensures { λ r. ⌜ r ≡ openedAnswer (openPager (how true «access_mode» «log_exists» salt) (now (table .entry)) (files (now (main .entry)) «main_len» (now (log .entry)) «log_len») (now (staging .entry))) ⌝ }
-    ensures { λ r. ⌜ now (table .exit) ≡ openTable (how true «access_mode» «log_exists» salt) (now (table .entry)) (files (now (main .entry)) «main_len» (now (log .entry)) «log_len») (now (staging .entry)) ⌝ }
-    ensures { λ r. ⌜ now (log .exit) ≡ openLogArea (how true «access_mode» «log_exists» salt) (now (table .entry)) (files (now (main .entry)) «main_len» (now (log .entry)) «log_len») (now (staging .entry)) ⌝ }
+    ensures { λ r. ⌜
+        (let d = files (now (main .entry)) «main_len» (now (log .entry)) «log_len» in
+        let o = how true «access_mode» «log_exists» salt in
+        r ≡ openedAnswer (openPager o (now (table .entry)) d (now (staging .entry))))
+        ⌝ }
+    ensures { λ r. ⌜
+        (let d = files (now (main .entry)) «main_len» (now (log .entry)) «log_len» in
+        let o = how true «access_mode» «log_exists» salt in
+        now (table .exit) ≡ openTable o (now (table .entry)) d (now (staging .entry)))
+        ⌝ }
+    ensures { λ r. ⌜
+        (let d = files (now (main .entry)) «main_len» (now (log .entry)) «log_len» in
+        let o = how true «access_mode» «log_exists» salt in
+        now (log .exit) ≡ openLogArea o (now (table .entry)) d (now (staging .entry)))
+        ⌝ }
 {
     let options = OpenOptions {
         clean: true,
@@ -519,8 +565,8 @@ pub fn open_clean(
 
 // Stores the header's page and an empty table page behind it.
 fn store_pages(main: &mut [u8], header: DbHeader)
-    requires { ⌜ 8192 ≤ length (now main) ⌝ }
-    ensures { λ _. ⌜ now (main .exit) ≡ put (put (now (main .entry)) 0 (encodeHeader header)) 4096 emptyTablePage ⌝ }
+    requires { ⌜ 2 * pageSize ≤ length (now main) ⌝ }
+    ensures { λ _. ⌜ now (main .exit) ≡ put (put (now (main .entry)) 0 (encodeHeader header)) pageSize emptyTablePage ⌝ }
 {
     header::encode_header(header, &mut main[0..PAGE_SIZE]);
     page::TablePage::empty(&mut main[PAGE_SIZE..2 * PAGE_SIZE]);

@@ -57,7 +57,10 @@ fn stage(
     bytes: &[u8],
 ) -> StagedIn
     ensures { λ r. ⌜ r .answer ≡ stageAnswer busy (slots count (now (pages .entry))) (now (staging .entry)) «page_num» (now (bytes .entry)) ⌝ }
-    ensures { λ r. ⌜ slots (r .count) (now (pages .exit)) ≡ stagedAfter busy (slots count (now (pages .entry))) (now (staging .entry)) «page_num» (now (bytes .entry)) ⌝ }
+    ensures { λ r. ⌜
+        (let s = slots count (now (pages .entry)) in
+        slots (r .count) (now (pages .exit)) ≡ stagedAfter busy s (now (staging .entry)) «page_num» (now (bytes .entry)))
+        ⌝ }
     ensures { λ _. ⌜ now (staging .exit) ≡ stagingAfter busy (slots count (now (pages .entry))) (now (staging .entry)) «page_num» (now (bytes .entry)) ⌝ }
 {
     if staging.len() != STAGING_AREA {
@@ -93,9 +96,18 @@ pub fn stage_in(
     staging: &mut [u8],
     bytes: &[u8],
 ) -> StagedIn
-    ensures { λ r. ⌜ r .answer ≡ stageAnswer (not (eqb job 0)) (slots «staged_count» (now (staged .entry))) (now (staging .entry)) «page_num» (now (bytes .entry)) ⌝ }
-    ensures { λ r. ⌜ slots (r .count) (now (staged .exit)) ≡ stagedAfter (not (eqb job 0)) (slots «staged_count» (now (staged .entry))) (now (staging .entry)) «page_num» (now (bytes .entry)) ⌝ }
-    ensures { λ _. ⌜ now (staging .exit) ≡ stagingAfter (not (eqb job 0)) (slots «staged_count» (now (staged .entry))) (now (staging .entry)) «page_num» (now (bytes .entry)) ⌝ }
+    ensures { λ r. ⌜
+        (let s = slots «staged_count» (now (staged .entry)) in
+        r .answer ≡ stageAnswer (not (eqb job 0)) s (now (staging .entry)) «page_num» (now (bytes .entry)))
+        ⌝ }
+    ensures { λ r. ⌜
+        (let s = slots «staged_count» (now (staged .entry)) in
+        slots (r .count) (now (staged .exit)) ≡ stagedAfter (not (eqb job 0)) s (now (staging .entry)) «page_num» (now (bytes .entry)))
+        ⌝ }
+    ensures { λ _. ⌜
+        (let s = slots «staged_count» (now (staged .entry)) in
+        now (staging .exit) ≡ stagingAfter (not (eqb job 0)) s (now (staging .entry)) «page_num» (now (bytes .entry)))
+        ⌝ }
 {
     stage(job != 0, page_num, staged_count, staged, staging, bytes)
 }

@@ -5,7 +5,7 @@ ghost use Prim.Native.Nat.{_+_, min, max};
 ghost use lib.Dec.{eqb};
 ghost use lib.ListN.{length, take};
 ghost use Rattle.le.specs.Choice.{pick, both};
-ghost use Rattle.pager_state.specs.World.{stagingArea, busyWith, readOnlyBy, inArea, filesFine, fineIn, fineBy, withJob, withWal};
+ghost use Rattle.pager_state.specs.World.{stagingArea, stagedLimit, busyWith, readOnlyBy, inArea, filesFine, fineIn, fineBy, withJob, withWal};
 ghost use Rattle.pager_state.specs.Overlay.{pageFrom, findIn, slotOf, frameOf, onMain};
 use header::DbHeader;
 use page::PAGE_SIZE;
@@ -383,8 +383,8 @@ fn weight(hit: bool, w: u16) -> u16
 // 64 less the index of the first p among 64 numbers, or 0. Every number is looked at: with no way out in between the compiler
 // compares several at once.
 fn find_of_64(s: &[u16], p: u16) -> u16
-    requires { ⌜ length (now s) ≡ 64 ⌝ }
-    ensures { λ r. ⌜ findIn (now (s .entry)) p + r ≡ 64 ⌝ }
+    requires { ⌜ length (now s) ≡ stagedLimit ⌝ }
+    ensures { λ r. ⌜ findIn (now (s .entry)) p + r ≡ stagedLimit ⌝ }
 {
     let mut best: u16 = 0;
     let mut left: u16 = 64;
