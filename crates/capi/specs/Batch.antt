@@ -5,8 +5,9 @@ use lib.Dec.{eqb}
 use lib.IntN.{ℤ, pos}
 use lib.Ieee.{binary64, toBits}
 use Rattle.le.specs.Choice.{pick}
-use Rattle.mvcc.specs.Answer.{Answer, taken, refused, refusal}
-use Rattle.mvcc.specs.Fields.{batchNumber}
+use Rattle.refusal.specs.Refusal.{number}
+use Rattle.refusal.specs.declared.Refusal.{Refusal}
+use Rattle.mvcc.specs.Answer.{Answer, taken, refused}
 use Rattle.mvcc.specs.declared.TextPlace.{TextPlace}
 use Rattle.mvcc.specs.declared.Value.{Value}
 use Rattle.mvcc.specs.declared.Value.the-variants as value
@@ -18,12 +19,13 @@ use Rattle.mvcc.specs.declared.BatchDecoded.{BatchDecoded}
 use Rattle.mvcc.specs.declared.BatchDecoded.the-variants as batch
 use Rattle.mvcc.specs.declared.ElementBits.{ElementBits}
 use Rattle.mvcc.specs.declared.ElementBits.the-variants as bits
-use Rattle.mvcc_build.specs.Build.{addedNumber}
 use Rattle.mvcc_build.specs.declared.Last.{Last}
 use Rattle.mvcc_build.specs.declared.Last.the-variants as last
 use Rattle.mvcc_build.specs.declared.BatchBuilder.{BatchBuilder}
 use Rattle.mvcc_build.specs.declared.Added.{Added}
 use Rattle.mvcc_build.specs.declared.Added.the-variants as added
+use Rattle.mvcc_canonical.specs.declared.Canonical.{Canonical}
+use Rattle.mvcc_canonical.specs.declared.Canonical.the-variants as canonical
 use Rattle.capi.specs.declared.batch.BatchNumbers.{BatchNumbers}
 use Rattle.capi.specs.declared.batch.RecordNumbers.{RecordNumbers}
 use Rattle.capi.specs.declared.batch.ValueNumbers.{ValueNumbers}
@@ -34,15 +36,13 @@ use Rattle.capi.specs.declared.batch.Building.{Building}
 
 -- ---- a batch and its records
 
-abbrev pub noBatch : ℕ → BatchNumbers
-noBatch n = record { refusal = n; «commit_ts» = 0; records = 0; end = 0 }
+abbrev pub noBatch : Refusal → BatchNumbers
+noBatch r = record { refusal = number r; «commit_ts» = 0; records = 0; end = 0 }
 
 -- what decoding a body answers
 abbrev pub batchNumbers : BatchDecoded → BatchNumbers
 batchNumbers (batch.Batch b) = record { refusal = 0; «commit_ts» = b .«commit_ts»; records = b .records; end = b .end }
-batchNumbers batch.Short = noBatch (batchNumber batch.Short)
-batchNumbers batch.Magic = noBatch (batchNumber batch.Magic)
-batchNumbers (batch.Refused k) = noBatch (refusal k)
+batchNumbers (batch.Refused r) = noBatch r
 
 -- "op (1: 0 tombstone, 1 present)"
 abbrev pub opNumber : VersionPayload → ℕ
@@ -75,7 +75,7 @@ recordNumbers (taken r at) =
       first = firstNumber (r .payload);
     }
 recordNumbers (refused k) =
-    record { refusal = refusal k; op = 0; next = 0; table = noPlace; rowid = pos 0; count = 0; first = 0 }
+    record { refusal = number k; op = 0; next = 0; table = noPlace; rowid = pos 0; count = 0; first = 0 }
 
 -- ---- values and columns
 
@@ -102,17 +102,22 @@ valueNumbers (value.Vector start count) = valueOf 5 0 (pos 0) 0 (record { start 
 -- what reading a value at a cursor answers
 abbrev pub valueTold : Answer Value → ValueAnswer
 valueTold (taken v at) = record { refusal = 0; next = at; value = valueNumbers v }
-valueTold (refused k) = record { refusal = refusal k; next = 0; value = noValue }
+valueTold (refused k) = record { refusal = number k; next = 0; value = noValue }
 
 -- what reading a column at a cursor answers
 abbrev pub columnNumbers : Answer Column → ColumnNumbers
 columnNumbers (taken c at) = record { refusal = 0; next = at; name = c .name; value = valueNumbers (c .value) }
-columnNumbers (refused k) = record { refusal = refusal k; next = 0; name = noPlace; value = noValue }
+columnNumbers (refused k) = record { refusal = number k; next = 0; name = noPlace; value = noValue }
 
 -- an element of a vector
 abbrev pub elementNumbers : ElementBits → ElementNumbers
 elementNumbers (bits.Bits n) = record { found = 1; bits = n }
 elementNumbers bits.Beyond = record { found = 0; bits = 0 }
+
+-- what writing a body's canonical form answers
+abbrev pub canonicalAs : Canonical → ℕ
+canonicalAs canonical.Done = 0
+canonicalAs (canonical.Refused r) = number r
 
 -- ---- a batch being built
 
@@ -134,14 +139,10 @@ columnsOf (last.Open counted columns) = columns
 abbrev pub buildingOf : BatchBuilder → Building
 buildingOf b = record { refusal = 0; at = b .at % 4294967296; counted = countedOf (b .last); records = b .records; columns = columnsOf (b .last) }
 
-abbrev pub refusedBy : ℕ → Building
-refusedBy n = record { refusal = n; at = 0; counted = 0; records = 0; columns = 0 }
+abbrev pub refusedBy : Refusal → Building
+refusedBy r = record { refusal = number r; at = 0; counted = 0; records = 0; columns = 0 }
 
 -- what an addition answers: the batch after it, or the number alone, and the caller goes on with the batch before it
 abbrev pub toldAs : Added → Building
 toldAs (added.Done b) = buildingOf b
-toldAs added.Area = refusedBy (addedNumber added.Area)
-toldAs added.Truncated = refusedBy (addedNumber added.Truncated)
-toldAs added.Text = refusedBy (addedNumber added.Text)
-toldAs added.Fit = refusedBy (addedNumber added.Fit)
-toldAs added.NoRecord = refusedBy (addedNumber added.NoRecord)
+toldAs (added.Refused r) = refusedBy r

@@ -1,13 +1,13 @@
 -- What the calls of the log and of the two headers answer, in numbers: 0 or document 01's number of the refusal, beside which all
 -- else is 0. Open logs go over as `walOf` has them and are taken as `walIn` has them.
 use Prim.Native.Nat.{ℕ}
+use Rattle.refusal.specs.Refusal.{number}
+use Rattle.refusal.specs.declared.Refusal.{Refusal}
 use Rattle.frame.specs.declared.FrameHeader.{FrameHeader}
-use Rattle.header.specs.Header.{decodeRefusal}
+use Rattle.header.specs.declared.HeaderEncoded.{HeaderEncoded}
+use Rattle.header.specs.declared.HeaderEncoded.the-variants as encoded
 use Rattle.header.specs.declared.HeaderDecoded.{HeaderDecoded}
 use Rattle.header.specs.declared.HeaderDecoded.the-variants as header
-use Rattle.wal.specs.Header.{decodeRefusal as walHeaderRefusal}
-use Rattle.wal.specs.Recovery.{openRefusal}
-use Rattle.wal.specs.Write.{createRefusal, truncateRefusal, appendRefusal, clockRefusal}
 use Rattle.wal.specs.declared.WalHeader.{WalHeader}
 use Rattle.wal.specs.declared.WalHeaderDecoded.{WalHeaderDecoded}
 use Rattle.wal.specs.declared.WalHeaderDecoded.the-variants as decoded
@@ -28,10 +28,8 @@ use Rattle.wal.specs.declared.PagePlace.{PagePlace}
 use Rattle.wal.specs.declared.PagePlace.the-variants as place
 use Rattle.wal.specs.declared.BatchFound.{BatchFound}
 use Rattle.wal.specs.declared.BatchFound.the-variants as batch
-use Rattle.wal_batch.specs.Batch.{batchRefusal}
 use Rattle.wal_batch.specs.declared.BatchAppended.{BatchAppended}
 use Rattle.wal_batch.specs.declared.BatchAppended.the-variants as batched
-use Rattle.log_listing.specs.Answer.{listRefusal}
 use Rattle.log_listing.specs.declared.Listed.{Listed}
 use Rattle.log_listing.specs.declared.Listed.the-variants as listed
 use Rattle.capi_numbers.specs.Numbers.{noHeader, walOf}
@@ -61,46 +59,35 @@ noWal =
       «last_commit_page_count» = 0;
     }
 
-abbrev pub logRefused : ℕ → WalAnswer
-logRefused n = record { refusal = n; wal = noWal }
+abbrev pub logRefused : Refusal → WalAnswer
+logRefused r = record { refusal = number r; wal = noWal }
 
 abbrev pub logGiven : Wal → WalAnswer
 logGiven w = record { refusal = 0; wal = walOf w }
 
 abbrev pub createdAs : WalCreated → WalAnswer
 createdAs (created.Created w) = logGiven w
-createdAs created.Area = logRefused (createRefusal created.Area)
+createdAs (created.Refused r) = logRefused r
 
 abbrev pub openedAs : WalOpened → WalAnswer
 openedAs (opened.Opened w) = logGiven w
-openedAs opened.Area = logRefused (openRefusal opened.Area)
-openedAs opened.Short = logRefused (openRefusal opened.Short)
-openedAs opened.Magic = logRefused (openRefusal opened.Magic)
-openedAs opened.Version = logRefused (openRefusal opened.Version)
-openedAs opened.PageSize = logRefused (openRefusal opened.PageSize)
+openedAs (opened.Refused r) = logRefused r
 
 abbrev pub appendedAs : FrameAppended → WalAnswer
 appendedAs (appended.Appended w) = logGiven w
-appendedAs appended.Area = logRefused (appendRefusal appended.Area)
-appendedAs appended.LogFull = logRefused (appendRefusal appended.LogFull)
+appendedAs (appended.Refused r) = logRefused r
 
 abbrev pub batchedAs : BatchAppended → WalAnswer
 batchedAs (batched.Appended w) = logGiven w
-batchedAs batched.Area = logRefused (batchRefusal batched.Area)
-batchedAs batched.Short = logRefused (batchRefusal batched.Short)
-batchedAs batched.Magic = logRefused (batchRefusal batched.Magic)
-batchedAs batched.LogFull = logRefused (batchRefusal batched.LogFull)
-batchedAs batched.Truncated = logRefused (batchRefusal batched.Truncated)
-batchedAs batched.Tag = logRefused (batchRefusal batched.Tag)
-batchedAs batched.Text = logRefused (batchRefusal batched.Text)
+batchedAs (batched.Refused r) = logRefused r
 
 abbrev pub truncatedAs : WalTruncated → WalAnswer
 truncatedAs (truncated.Truncated w) = logGiven w
-truncatedAs truncated.Area = logRefused (truncateRefusal truncated.Area)
+truncatedAs (truncated.Refused r) = logRefused r
 
 abbrev pub clockAs : ClockSet → WalAnswer
 clockAs (clock.Set w) = logGiven w
-clockAs clock.Clock = logRefused (clockRefusal clock.Clock)
+clockAs (clock.Refused r) = logRefused r
 
 -- ---- what stands in a log
 
@@ -123,26 +110,24 @@ batchAs batch.Nothing = record { refusal = 0; found = 0; index = 0; offset = 0 }
 -- how many bytes a listing has
 abbrev pub listedAs : Listed → ListAnswer
 listedAs (listed.Bytes n) = record { refusal = 0; len = n }
-listedAs listed.Area = record { refusal = listRefusal listed.Area; len = 0 }
+listedAs (listed.Refused r) = record { refusal = number r; len = 0 }
 
 -- ---- headers
 
-abbrev pub walHeaderRefused : ℕ → WalHeaderAnswer
-walHeaderRefused n = record { refusal = n; header = noWalHeader }
+abbrev pub walHeaderRefused : Refusal → WalHeaderAnswer
+walHeaderRefused r = record { refusal = number r; header = noWalHeader }
 
 abbrev pub walHeaderAs : WalHeaderDecoded → WalHeaderAnswer
 walHeaderAs (decoded.Header h) = record { refusal = 0; header = h }
-walHeaderAs decoded.Short = walHeaderRefused (walHeaderRefusal decoded.Short)
-walHeaderAs decoded.Magic = walHeaderRefused (walHeaderRefusal decoded.Magic)
-walHeaderAs decoded.Version = walHeaderRefused (walHeaderRefusal decoded.Version)
-walHeaderAs decoded.PageSize = walHeaderRefused (walHeaderRefusal decoded.PageSize)
+walHeaderAs (decoded.Refused r) = walHeaderRefused r
 
-abbrev pub headerRefused : ℕ → HeaderAnswer
-headerRefused n = record { refusal = n; header = noHeader }
+abbrev pub encodedAs : HeaderEncoded → ℕ
+encodedAs encoded.Done = 0
+encodedAs (encoded.Refused r) = number r
+
+abbrev pub headerRefused : Refusal → HeaderAnswer
+headerRefused r = record { refusal = number r; header = noHeader }
 
 abbrev pub headerAs : HeaderDecoded → HeaderAnswer
 headerAs (header.Header h) = record { refusal = 0; header = h }
-headerAs header.Short = headerRefused (decodeRefusal header.Short)
-headerAs header.Magic = headerRefused (decodeRefusal header.Magic)
-headerAs header.Version = headerRefused (decodeRefusal header.Version)
-headerAs header.PageSize = headerRefused (decodeRefusal header.PageSize)
+headerAs (header.Refused r) = headerRefused r

@@ -3,19 +3,17 @@ ghost use mathlib.Core.Path.{_≡_};
 ghost use mathlib.Core.Bool.{not};
 ghost use mathlib.Core.List.{[]};
 ghost use lib.Dec.{eqb};
-ghost use Rattle.mvcc.specs.Answer.{refusal};
 ghost use Rattle.mvcc.specs.Batch.{null, integer, real, text, bool, tombstone, present};
 ghost use Rattle.mvcc.specs.Decode.{valueAt, columnAt, recordAt, batchOf};
 ghost use Rattle.mvcc.specs.Vector.{bitsAt};
 ghost use Rattle.mvcc_build.specs.Build.{started, startedBytes, recordAdded, recordBytes, column, columnAdded, columnBytes, vectorAdded, vectorBytes};
-ghost use Rattle.mvcc_canonical.specs.Canonical.{canonicalNumber, canonicalized, canonicalBytes};
-ghost use Rattle.capi.specs.Batch.{noBatch, batchNumbers, opNumber, countNumber, firstNumber, noPlace, recordNumbers, valueOf, noValue, flagNumber, valueNumbers, valueTold, columnNumbers, elementNumbers, lastIn, builderIn, countedOf, columnsOf, buildingOf, refusedBy, toldAs};
+ghost use Rattle.mvcc_canonical.specs.Canonical.{canonicalized, canonicalBytes};
+ghost use Rattle.capi.specs.Batch.{noBatch, batchNumbers, opNumber, countNumber, firstNumber, noPlace, recordNumbers, valueOf, noValue, flagNumber, valueNumbers, valueTold, columnNumbers, elementNumbers, canonicalAs, lastIn, builderIn, countedOf, columnsOf, buildingOf, refusedBy, toldAs};
 use mvcc::BatchDecoded;
 use mvcc::ColumnField;
 use mvcc::ElementBits;
 use mvcc::MvccCommitBatch;
 use mvcc::RecordField;
-use mvcc::Refusal;
 use mvcc::TextPlace;
 use mvcc::Value;
 use mvcc::ValueField;
@@ -24,6 +22,7 @@ use mvcc_build::Added;
 use mvcc_build::BatchBuilder;
 use mvcc_build::Last;
 use mvcc_canonical::Canonical;
+use refusal::Refusal;
 
 // A batch: its records start at 18, and decoding ended at `end`.
 #[repr(C)]
@@ -82,21 +81,11 @@ pub struct ElementNumbers {
     pub bits: u32,
 }
 
-fn refusal_of(k: Refusal) -> u32
-    ensures { λ r. ⌜ r ≡ refusal k ⌝ }
-{
-    match k {
-        Refusal::Truncated => 17,
-        Refusal::Tag => 18,
-        Refusal::Text => 19,
-    }
-}
-
-fn no_batch(refusal: u32) -> BatchNumbers
-    ensures { λ r. ⌜ r ≡ noBatch refusal ⌝ }
+fn no_batch(row: Refusal) -> BatchNumbers
+    ensures { λ r. ⌜ r ≡ noBatch row ⌝ }
 {
     BatchNumbers {
-        refusal,
+        refusal: refusal::number(row),
         commit_ts: 0,
         records: 0,
         end: 0,
@@ -114,9 +103,7 @@ pub extern "C" fn lateenbael_mvcc_decode(body: &[u8]) -> BatchNumbers
             records: b.records,
             end: b.end,
         },
-        BatchDecoded::Short => no_batch(2),
-        BatchDecoded::Magic => no_batch(3),
-        BatchDecoded::Refused(k) => no_batch(refusal_of(k)),
+        BatchDecoded::Refused(row) => no_batch(row),
     }
 }
 
@@ -172,8 +159,8 @@ pub extern "C" fn lateenbael_mvcc_decode_record(body: &[u8], at: usize) -> Recor
                 first: first_of(payload),
             }
         }
-        RecordField::Refused(k) => RecordNumbers {
-            refusal: refusal_of(k),
+        RecordField::Refused(row) => RecordNumbers {
+            refusal: refusal::number(row),
             op: 0,
             next: 0,
             table: no_place(),
@@ -238,8 +225,8 @@ pub extern "C" fn lateenbael_mvcc_decode_value(body: &[u8], at: usize) -> ValueA
             next,
             value: numbers_of(v),
         },
-        ValueField::Refused(k) => ValueAnswer {
-            refusal: refusal_of(k),
+        ValueField::Refused(row) => ValueAnswer {
+            refusal: refusal::number(row),
             next: 0,
             value: no_value(),
         },
@@ -261,8 +248,8 @@ pub extern "C" fn lateenbael_mvcc_decode_column(body: &[u8], at: usize) -> Colum
                 value: numbers_of(value),
             }
         }
-        ColumnField::Refused(k) => ColumnNumbers {
-            refusal: refusal_of(k),
+        ColumnField::Refused(row) => ColumnNumbers {
+            refusal: refusal::number(row),
             next: 0,
             name: no_place(),
             value: no_value(),
@@ -285,24 +272,15 @@ pub extern "C" fn lateenbael_mvcc_vector_bits(
     }
 }
 
-fn canonical_number(c: Canonical) -> u32
-    ensures { λ r. ⌜ r ≡ canonicalNumber c ⌝ }
-{
-    match c {
-        Canonical::Done => 0,
-        Canonical::Area => 1,
-        Canonical::Short => 2,
-        Canonical::Magic => 3,
-        Canonical::Refused(k) => refusal_of(k),
-    }
-}
-
 #[no_mangle]
 pub extern "C" fn lateenbael_mvcc_canonicalize(body: &[u8], out: &mut [u8]) -> u32
-    ensures { λ r. ⌜ r ≡ canonicalNumber (canonicalized (now (body .entry)) (now (out .entry))) ⌝ }
+    ensures { λ r. ⌜ r ≡ canonicalAs (canonicalized (now (body .entry)) (now (out .entry))) ⌝ }
     ensures { λ _. ⌜ now (out .exit) ≡ canonicalBytes (now (body .entry)) (now (out .entry)) ⌝ }
 {
-    canonical_number(mvcc_canonical::canonicalize(body, out))
+    match mvcc_canonical::canonicalize(body, out) {
+        Canonical::Done => 0,
+        Canonical::Refused(row) => refusal::number(row),
+    }
 }
 
 // ---- building
@@ -378,11 +356,11 @@ fn building_of(b: BatchBuilder) -> Building
     }
 }
 
-fn refused(n: u32) -> Building
-    ensures { λ r. ⌜ r ≡ refusedBy n ⌝ }
+fn refused(row: Refusal) -> Building
+    ensures { λ r. ⌜ r ≡ refusedBy row ⌝ }
 {
     Building {
-        refusal: n,
+        refusal: refusal::number(row),
         at: 0,
         counted: 0,
         records: 0,
@@ -395,11 +373,7 @@ fn told(k: Added) -> Building
 {
     match k {
         Added::Done(b) => building_of(b),
-        Added::Area => refused(1),
-        Added::Truncated => refused(17),
-        Added::Text => refused(19),
-        Added::Fit => refused(20),
-        Added::NoRecord => refused(21),
+        Added::Refused(row) => refused(row),
     }
 }
 

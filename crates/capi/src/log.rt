@@ -2,7 +2,7 @@
 ghost use mathlib.Core.Path.{_≡_};
 ghost use Rattle.le.specs.Answers.{refusal, storedOf};
 ghost use Rattle.le.specs.Le.{store};
-ghost use Rattle.header.specs.Header.{encodeRefusal, encodeAnswer, encodeAfter, decodeHeader};
+ghost use Rattle.header.specs.Header.{encodeAnswer, encodeAfter, decodeHeader};
 ghost use Rattle.wal.specs.Header.{encodeWalHeader, decodeWalHeader};
 ghost use Rattle.wal.specs.Recovery.{openLog};
 ghost use Rattle.wal.specs.Read.{frameIn, findPage, nextBatch};
@@ -10,7 +10,7 @@ ghost use Rattle.wal.specs.Write.{createAnswer, createAfter, truncateAnswer, tr
 ghost use Rattle.wal_batch.specs.Batch.{batchAnswer, batchAfter};
 ghost use Rattle.log_listing.specs.Answer.{listedAnswer, listedAfter};
 ghost use Rattle.capi_numbers.specs.Numbers.{walIn};
-ghost use Rattle.capi.specs.Log.{noWalHeader, logRefused, logGiven, createdAs, openedAs, appendedAs, batchedAs, truncatedAs, clockAs, frameAs, placeAs, batchAs, listedAs, walHeaderRefused, walHeaderAs, headerRefused, headerAs};
+ghost use Rattle.capi.specs.Log.{noWalHeader, logRefused, logGiven, createdAs, openedAs, appendedAs, batchedAs, truncatedAs, clockAs, frameAs, placeAs, batchAs, listedAs, walHeaderRefused, walHeaderAs, encodedAs, headerRefused, headerAs};
 use capi_answers::BatchPlace;
 use capi_answers::HeaderAnswer;
 use capi_answers::PageAnswer;
@@ -23,6 +23,7 @@ use header::HeaderDecoded;
 use header::HeaderEncoded;
 use le::Stored;
 use log_listing::Listed;
+use refusal::Refusal;
 use wal::BatchFound;
 use wal::ClockSet;
 use wal::FrameAppended;
@@ -75,11 +76,11 @@ fn no_wal_header() -> WalHeader
     }
 }
 
-fn refused(refusal: u32) -> WalAnswer
-    ensures { λ r. ⌜ r ≡ logRefused refusal ⌝ }
+fn refused(row: Refusal) -> WalAnswer
+    ensures { λ r. ⌜ r ≡ logRefused row ⌝ }
 {
     WalAnswer {
-        refusal,
+        refusal: refusal::number(row),
         wal: WalNumbers {
             header: no_wal_header(),
             len: 0,
@@ -108,7 +109,7 @@ pub extern "C" fn lateenbael_wal_create(log: &mut [u8], salt: u32) -> WalAnswer
 {
     match wal::create(log, salt) {
         WalCreated::Created(wal) => given(wal),
-        WalCreated::Area => refused(1),
+        WalCreated::Refused(row) => refused(row),
     }
 }
 
@@ -118,11 +119,7 @@ pub extern "C" fn lateenbael_wal_open(file: &[u8]) -> WalAnswer
 {
     match Wal::open(file) {
         WalOpened::Opened(wal) => given(wal),
-        WalOpened::Area => refused(1),
-        WalOpened::Short => refused(2),
-        WalOpened::Magic => refused(3),
-        WalOpened::Version => refused(4),
-        WalOpened::PageSize => refused(5),
+        WalOpened::Refused(row) => refused(row),
     }
 }
 
@@ -139,8 +136,7 @@ pub extern "C" fn lateenbael_wal_append_frame(
 {
     match wal::append_frame(log, wal_in(wal), page_num, content, commit_page_count) {
         FrameAppended::Appended(wal) => given(wal),
-        FrameAppended::Area => refused(1),
-        FrameAppended::LogFull => refused(15),
+        FrameAppended::Refused(row) => refused(row),
     }
 }
 
@@ -155,13 +151,7 @@ pub extern "C" fn lateenbael_wal_append_mvcc_batch(
 {
     match wal_batch::append_mvcc_batch(log, wal_in(wal), body) {
         BatchAppended::Appended(wal) => given(wal),
-        BatchAppended::Area => refused(1),
-        BatchAppended::Short => refused(2),
-        BatchAppended::Magic => refused(3),
-        BatchAppended::LogFull => refused(15),
-        BatchAppended::Truncated => refused(17),
-        BatchAppended::Tag => refused(18),
-        BatchAppended::Text => refused(19),
+        BatchAppended::Refused(row) => refused(row),
     }
 }
 
@@ -172,7 +162,7 @@ pub extern "C" fn lateenbael_wal_truncate(log: &mut [u8], wal: WalNumbers, salt:
 {
     match wal::truncate(log, wal_in(wal), salt) {
         WalTruncated::Truncated(wal) => given(wal),
-        WalTruncated::Area => refused(1),
+        WalTruncated::Refused(row) => refused(row),
     }
 }
 
@@ -182,7 +172,7 @@ pub extern "C" fn lateenbael_wal_set_clock_high_water(wal: WalNumbers, value: u6
 {
     match wal::set_clock_high_water(wal_in(wal), value) {
         ClockSet::Set(wal) => given(wal),
-        ClockSet::Clock => refused(16),
+        ClockSet::Refused(row) => refused(row),
     }
 }
 
@@ -262,7 +252,10 @@ pub extern "C" fn lateenbael_list_log(file: &[u8], out: &mut [u8]) -> ListAnswer
 {
     match log_listing::list_log(file, out) {
         Listed::Bytes(len) => ListAnswer { refusal: 0, len },
-        Listed::Area => ListAnswer { refusal: 1, len: 0 },
+        Listed::Refused(row) => ListAnswer {
+            refusal: refusal::number(row),
+            len: 0,
+        },
     }
 }
 
@@ -277,11 +270,11 @@ pub extern "C" fn lateenbael_encode_wal_header(header: WalHeader, log: &mut [u8]
     }
 }
 
-fn no_log_header(refusal: u32) -> WalHeaderAnswer
-    ensures { λ r. ⌜ r ≡ walHeaderRefused refusal ⌝ }
+fn no_log_header(row: Refusal) -> WalHeaderAnswer
+    ensures { λ r. ⌜ r ≡ walHeaderRefused row ⌝ }
 {
     WalHeaderAnswer {
-        refusal,
+        refusal: refusal::number(row),
         header: no_wal_header(),
     }
 }
@@ -292,29 +285,26 @@ pub extern "C" fn lateenbael_decode_wal_header(log: &[u8]) -> WalHeaderAnswer
 {
     match wal::decode_wal_header(log) {
         WalHeaderDecoded::Header(header) => WalHeaderAnswer { refusal: 0, header },
-        WalHeaderDecoded::Short => no_log_header(2),
-        WalHeaderDecoded::Magic => no_log_header(3),
-        WalHeaderDecoded::Version => no_log_header(4),
-        WalHeaderDecoded::PageSize => no_log_header(5),
+        WalHeaderDecoded::Refused(row) => no_log_header(row),
     }
 }
 
 #[no_mangle]
 pub extern "C" fn lateenbael_encode_header(header: DbHeader, buf: &mut [u8]) -> u32
-    ensures { λ r. ⌜ r ≡ encodeRefusal (encodeAnswer (now (buf .entry))) ⌝ }
+    ensures { λ r. ⌜ r ≡ encodedAs (encodeAnswer (now (buf .entry))) ⌝ }
     ensures { λ _. ⌜ now (buf .exit) ≡ encodeAfter header (now (buf .entry)) ⌝ }
 {
     match header::encode_header(header, buf) {
         HeaderEncoded::Done => 0,
-        HeaderEncoded::Short => 2,
+        HeaderEncoded::Refused(row) => refusal::number(row),
     }
 }
 
-fn no_header(refusal: u32) -> HeaderAnswer
-    ensures { λ r. ⌜ r ≡ headerRefused refusal ⌝ }
+fn no_header(row: Refusal) -> HeaderAnswer
+    ensures { λ r. ⌜ r ≡ headerRefused row ⌝ }
 {
     HeaderAnswer {
-        refusal,
+        refusal: refusal::number(row),
         header: DbHeader {
             page_count: 0,
             schema_root_page: 0,
@@ -330,9 +320,6 @@ pub extern "C" fn lateenbael_decode_header(buf: &[u8]) -> HeaderAnswer
 {
     match header::decode_header(buf) {
         HeaderDecoded::Header(header) => HeaderAnswer { refusal: 0, header },
-        HeaderDecoded::Short => no_header(2),
-        HeaderDecoded::Magic => no_header(3),
-        HeaderDecoded::Version => no_header(4),
-        HeaderDecoded::PageSize => no_header(5),
+        HeaderDecoded::Refused(row) => no_header(row),
     }
 }

@@ -8,16 +8,9 @@ returns : tie.Need-returns
 returns c = ap batchNumbers (sym (c .before .b .given .1) ∙ c .before .before .before .decode .ensures)
 
 returns-2 : tie.Need-returns-2
-returns-2 c = c .no-batch .ensures ∙ ap batchNumbers (sym (c .before .enum-told .given .1) ∙ c .before .before .before .decode .ensures)
-
-returns-3 : tie.Need-returns-3
-returns-3 c = c .no-batch2 .ensures ∙ ap batchNumbers (sym (c .before .enum-told2 .given .1) ∙ c .before .before .before .decode .ensures)
-
-returns-4 : tie.Need-returns-4
-returns-4 c =
-    rw (c .before .refusal-of .ensures) at (c .no-batch3 .ensures) ∙ ap batchNumbers (sym (c .before .before .before .k .given .1) ∙ c .before .before .before .before .before .decode .ensures)
+returns-2 c = c .no-batch .ensures ∙ ap batchNumbers (sym (c .before .before .row .given .1) ∙ c .before .before .before .before .decode .ensures)
 
 pub lateenbael-mvcc-decode-spec : {M : Type 1} → statement M
 lateenbael-mvcc-decode-spec =
     tie.close
-    (tie.spec (search needs) (search needs) (search needs) (search needs) (search needs) (search needs) (search needs) (search needs) (search needs) returns returns-2 returns-3 returns-4)
+    (tie.spec (search needs) (search needs) (search needs) (search needs) returns returns-2)

@@ -11,7 +11,7 @@ returns c =
 
 returns-2 : tie.Need-returns-2
 returns-2 c =
-    rw (c .no-value .ensures, c .before .no-place .ensures, c .before .before .refusal-of .ensures) (ap columnNumbers (ap columnAnswer (sym (c .before .before .before .before .k .given .1)) ∙ c .before .before .before .before .before .before .decode-column .ensures))
+    rw (c .no-value .ensures, c .before .no-place .ensures, c .before .before .number .ensures) (ap columnNumbers (ap columnAnswer (sym (c .before .before .before .before .row .given .1)) ∙ c .before .before .before .before .before .before .decode-column .ensures))
 
 pub lateenbael-mvcc-decode-column-spec : {M : Type 1} → statement M
 lateenbael-mvcc-decode-column-spec =

@@ -16,7 +16,7 @@ returns c =
 
 returns-2 : tie.Need-returns-2
 returns-2 c =
-    rw (c .no-place .ensures, c .before .refusal-of .ensures) (ap recordNumbers (ap recordAnswer (sym (c .before .before .before .k .given .1)) ∙ c .before .before .before .before .before .decode-record .ensures))
+    rw (c .no-place .ensures, c .before .number .ensures) (ap recordNumbers (ap recordAnswer (sym (c .before .before .before .row2 .given .1)) ∙ c .before .before .before .before .before .decode-record .ensures))
 
 pub lateenbael-mvcc-decode-record-spec : {M : Type 1} → statement M
 lateenbael-mvcc-decode-record-spec =

@@ -11,7 +11,7 @@ returns c =
 
 returns-2 : tie.Need-returns-2
 returns-2 c =
-    rw (c .no-value .ensures, c .before .refusal-of .ensures) (ap valueTold (ap valueAnswer (sym (c .before .before .before .k .given .1)) ∙ c .before .before .before .before .before .decode-value .ensures))
+    rw (c .no-value .ensures, c .before .number .ensures) (ap valueTold (ap valueAnswer (sym (c .before .before .before .row .given .1)) ∙ c .before .before .before .before .before .decode-value .ensures))
 
 pub lateenbael-mvcc-decode-value-spec : {M : Type 1} → statement M
 lateenbael-mvcc-decode-value-spec =

@@ -9,18 +9,9 @@ returns : tie.Need-returns
 returns c = told headerAs refl (c .before .header .given .1) (c .before .before .before .decode-header .ensures)
 
 returns-2 : tie.Need-returns-2
-returns-2 c = told headerAs (c .no-header .ensures) (c .before .enum-told .given .1) (c .before .before .before .decode-header .ensures)
-
-returns-3 : tie.Need-returns-3
-returns-3 c = told headerAs (c .no-header2 .ensures) (c .before .enum-told2 .given .1) (c .before .before .before .decode-header .ensures)
-
-returns-4 : tie.Need-returns-4
-returns-4 c = told headerAs (c .no-header3 .ensures) (c .before .enum-told3 .given .1) (c .before .before .before .decode-header .ensures)
-
-returns-5 : tie.Need-returns-5
-returns-5 c = told headerAs (c .no-header4 .ensures) (c .before .enum-told4 .given .1) (c .before .before .before .decode-header .ensures)
+returns-2 c = told headerAs (c .no-header .ensures) (c .before .before .row .given .1) (c .before .before .before .before .decode-header .ensures)
 
 pub lateenbael-decode-header-spec : {M : Type 1} → statement M
 lateenbael-decode-header-spec =
     tie.close
-    (tie.spec (search needs) (search needs) (search needs) (search needs) (search needs) (search needs) (search needs) (search needs) (search needs) (search needs) returns returns-2 returns-3 returns-4 returns-5)
+    (tie.spec (search needs) (search needs) (search needs) (search needs) returns returns-2)

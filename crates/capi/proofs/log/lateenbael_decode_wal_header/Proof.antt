@@ -9,18 +9,9 @@ returns : tie.Need-returns
 returns c = told walHeaderAs refl (c .before .header .given .1) (c .before .before .before .decode-wal-header .ensures)
 
 returns-2 : tie.Need-returns-2
-returns-2 c = told walHeaderAs (c .no-log-header .ensures) (c .before .enum-told .given .1) (c .before .before .before .decode-wal-header .ensures)
-
-returns-3 : tie.Need-returns-3
-returns-3 c = told walHeaderAs (c .no-log-header2 .ensures) (c .before .enum-told2 .given .1) (c .before .before .before .decode-wal-header .ensures)
-
-returns-4 : tie.Need-returns-4
-returns-4 c = told walHeaderAs (c .no-log-header3 .ensures) (c .before .enum-told3 .given .1) (c .before .before .before .decode-wal-header .ensures)
-
-returns-5 : tie.Need-returns-5
-returns-5 c = told walHeaderAs (c .no-log-header4 .ensures) (c .before .enum-told4 .given .1) (c .before .before .before .decode-wal-header .ensures)
+returns-2 c = told walHeaderAs (c .no-log-header .ensures) (c .before .before .row .given .1) (c .before .before .before .before .decode-wal-header .ensures)
 
 pub lateenbael-decode-wal-header-spec : {M : Type 1} → statement M
 lateenbael-decode-wal-header-spec =
     tie.close
-    (tie.spec (search needs) (search needs) (search needs) (search needs) (search needs) (search needs) (search needs) (search needs) (search needs) (search needs) returns returns-2 returns-3 returns-4 returns-5)
+    (tie.spec (search needs) (search needs) (search needs) (search needs) returns returns-2)

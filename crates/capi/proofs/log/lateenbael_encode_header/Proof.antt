@@ -1,6 +1,6 @@
 use mathlib.Core.Path.{refl}
 use Rattle.capi.proofs.Exported.{told}
-use Rattle.header.specs.Header.{encodeRefusal}
+use Rattle.capi.specs.Log.{encodedAs}
 use borrow.Author.Needs.{needs}
 use Rattle.capi.proofs.log.lateenbael_encode_header.Statement.{statement}
 use Rattle.capi.proofs.log.lateenbael_encode_header.Tie as tie
@@ -8,14 +8,14 @@ use Rattle.capi.proofs.log.lateenbael_encode_header.Tie as tie
 returns : tie.Need-returns
 returns c =
     let h = c .before .before .before .before .encode-header .ensures in
-    (told encodeRefusal refl (c .enum-told .given .1) (h .0), h .1)
+    (told encodedAs refl (c .enum-told .given .1) (h .0), h .1)
 
 returns-2 : tie.Need-returns-2
 returns-2 c =
-    let h = c .before .before .before .before .encode-header .ensures in
-    (told encodeRefusal refl (c .enum-told2 .given .1) (h .0), h .1)
+    let h = c .before .before .before .before .before .before .encode-header .ensures in
+    (told encodedAs (c .number .ensures) (c .before .before .row .given .1) (h .0), h .1)
 
 pub lateenbael-encode-header-spec : {M : Type 1} → statement M
 lateenbael-encode-header-spec =
     tie.close
-    (tie.spec (search needs) (search needs) (search needs) (search needs) returns (search needs) returns-2)
+    (tie.spec (search needs) (search needs) (search needs) (search needs) (search needs) returns (search needs) returns-2)

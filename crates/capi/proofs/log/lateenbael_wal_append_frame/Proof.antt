@@ -11,15 +11,10 @@ returns c =
 
 returns-2 : tie.Need-returns-2
 returns-2 c =
-    let h = rw (c .before .before .before .before .before .before .wal-in .ensures) at (c .before .before .before .before .before .append-frame .ensures) in
-    (told appendedAs (c .refused .ensures) (c .before .enum-told .given .1) (h .0), h .1)
-
-returns-3 : tie.Need-returns-3
-returns-3 c =
-    let h = rw (c .before .before .before .before .before .before .wal-in .ensures) at (c .before .before .before .before .before .append-frame .ensures) in
-    (told appendedAs (c .refused2 .ensures) (c .before .enum-told2 .given .1) (h .0), h .1)
+    let h = rw (c .before .before .before .before .before .before .before .wal-in .ensures) at (c .before .before .before .before .before .before .append-frame .ensures) in
+    (told appendedAs (c .refused .ensures) (c .before .before .row .given .1) (h .0), h .1)
 
 pub lateenbael-wal-append-frame-spec : {M : Type 1} → statement M
 lateenbael-wal-append-frame-spec =
     tie.close
-    (tie.spec (search needs) (search needs) (search needs) (search needs) (search needs) (search needs) (search needs) (search needs) (search needs) returns (search needs) returns-2 (search needs) returns-3)
+    (tie.spec (search needs) (search needs) (search needs) (search needs) (search needs) (search needs) (search needs) returns (search needs) returns-2)

@@ -11,8 +11,8 @@ returns c =
 
 returns-2 : tie.Need-returns-2
 returns-2 c =
-    let h = c .before .before .before .before .before .create .ensures in
-    (told createdAs (c .refused .ensures) (c .before .enum-told .given .1) (h .0), h .1)
+    let h = c .before .before .before .before .before .before .create .ensures in
+    (told createdAs (c .refused .ensures) (c .before .before .row .given .1) (h .0), h .1)
 
 pub lateenbael-wal-create-spec : {M : Type 1} → statement M
 lateenbael-wal-create-spec =

@@ -11,8 +11,8 @@ returns c =
 
 returns-2 : tie.Need-returns-2
 returns-2 c =
-    let h = rw (c .before .before .before .before .wal-in .ensures) at (c .before .before .before .set-clock-high-water .ensures) in
-    told clockAs (c .refused .ensures) (c .before .enum-told .given .1) h
+    let h = rw (c .before .before .before .before .before .wal-in .ensures) at (c .before .before .before .before .set-clock-high-water .ensures) in
+    told clockAs (c .refused .ensures) (c .before .before .row .given .1) h
 
 pub lateenbael-wal-set-clock-high-water-spec : {M : Type 1} → statement M
 lateenbael-wal-set-clock-high-water-spec =

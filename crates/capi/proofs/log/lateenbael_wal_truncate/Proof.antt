@@ -11,8 +11,8 @@ returns c =
 
 returns-2 : tie.Need-returns-2
 returns-2 c =
-    let h = rw (c .before .before .before .before .before .before .wal-in .ensures) at (c .before .before .before .before .before .truncate .ensures) in
-    (told truncatedAs (c .refused .ensures) (c .before .enum-told .given .1) (h .0), h .1)
+    let h = rw (c .before .before .before .before .before .before .before .wal-in .ensures) at (c .before .before .before .before .before .before .truncate .ensures) in
+    (told truncatedAs (c .refused .ensures) (c .before .before .row .given .1) (h .0), h .1)
 
 pub lateenbael-wal-truncate-spec : {M : Type 1} → statement M
 lateenbael-wal-truncate-spec =
