@@ -24,7 +24,7 @@ use Rattle.wal.specs.declared.Wal.{Wal}
 use Rattle.wal.proofs.Frames.{page-encoded, count-encoded, good-page}
 use Rattle.pager_state.specs.World.{World}
 use Rattle.pager_state.specs.Overlay.{isStaged, stagedBytes, committedBytes}
-use Rattle.pager_state.specs.Pages.{pagesFrom, differs}
+use Rattle.pager_state.specs.Pages.{pagesFrom, differsIn, differs}
 use Rattle.pager_state.specs.Stores.{Disk, diskOf, Other, stored, putFile}
 use Rattle.pager_state.specs.Fold.{foldTodo, foldAdvance}
 use Rattle.pager_state.specs.Commit.{saltOf, frameAct, framed, framesTodo, framesAdvance, commitTodo, commitAdvance}
@@ -69,7 +69,7 @@ module _ (g : List ℕ) (w : World) (b : Book) (z : List ℕ) (h : DbHeader) (sa
   v = framed g h salt answer n w
 
   is-staged : isStaged (w .pager .staged) n ≡ true
-  unfolding differs
+  unfolding differsIn
   is-staged = both-true (isStaged (w .pager .staged) n) _ (first .holds) .0
 
   bytes-long : length bytes ≡ 4096
@@ -153,7 +153,7 @@ module _ (g : List ℕ) (w : World) (b : Book) (z : List ℕ) (h : DbHeader) (sa
       page-view held-after table-after m hm ∙ rw main-after (view-other m e) ∙ sym (page-view (c .held) (c .table) m hm)
 
   differs-other : (m : ℕ) → m < 1024 → (m ≡ n → ⊥) → differs g v m ≡ differs g w m
-  unfolding differs framed
+  unfolding differsIn framed
   differs-other m hm e =
       let q : committedBytes v m ≡ committedBytes w m = committed-bytes v m ∙ ap (λ (x : Option (List ℕ)). orGive x []) (other-page m hm e) ∙ sym (committed-bytes w m) in
       ap (λ (x : List ℕ). both (isStaged (w .pager .staged) m) (not (sameBytes (stagedBytes (w .pager .staged) g m) x))) q

@@ -5,12 +5,9 @@ use mathlib.Core.List.{List, []}
 use mathlib.Core.Option.{Option, none, some}
 use Prim.Native.Nat.{ℕ, _+_, _*_, _^_, max, _≤_, _<_}
 use native.Mathlib.Omega.{arith}
-use borrow.Author.Tests.{eqb-true, ne-eqb}
-use lib.Dec.{leb, eqb}
+use borrow.Author.Tests.{ne-eqb}
 use lib.ListN.{length, take}
-use Rattle.le.specs.Choice.{both}
 use Rattle.le.specs.Le.{put}
-use Rattle.le.proofs.Compare.{both-true}
 use Rattle.le.proofs.Stores.{length-put, take-put, part-put}
 use Rattle.page.specs.Page.{emptyTablePage}
 use Rattle.page.proofs.Written.{length-emptyTablePage}
@@ -24,7 +21,7 @@ use Rattle.wal.specs.Write.{emptyWal, createdHeader}
 use Rattle.wal.proofs.Encoding.{length-encodeWalHeader}
 use Rattle.wal.proofs.Writing.{created-written}
 use Rattle.wal.proofs.Laid.{joined}
-use Rattle.pager_state.specs.World.{world, countOf, tableFine, logFine, mainFine, stagingFine}
+use Rattle.pager_state.specs.World.{world, countOf}
 use Rattle.pager_state.specs.Overlay.{pageFrom}
 use Rattle.pager_state.specs.Opening.{placeFrom, tableOf, opensAs, firstHeader, logStores, createStores, emptyFile, createdDisk, createdPager, createFine, createTable, createLog, createMain}
 use Rattle.pager_state.specs.Stores.{File, Disk, storedAll, putFile, lenFile}
@@ -33,24 +30,13 @@ use Rattle.history.specs.Run.{start}
 use Rattle.history.proofs.Files.{lasting, put-file, len-file, page-same}
 use Rattle.history.proofs.Disk.{viewOf, headerOver, OnDisk, log-alone}
 use Rattle.history.proofs.Rest.{Resting}
-use Rattle.history.proofs.Opening.{rests}
+use Rattle.history.proofs.Opening.{rests, fine-sized}
 use Rattle.history.proofs.Reopening.{InvRun}
+use Rattle.history.specs.Demand3.{Sized}
 
 module _ (t l m g : List ℕ) (salt : ℕ) (ok : createFine t l m g ≡ true) (small : salt < 2 ^ 32) where
-  record Sizes : Type 0 where
-    table : length t ≡ 1024
-    log : length l ≡ 4210720
-    main : length m ≡ 4194304
-    staging : length g ≡ 262144
-
-  sizes : Sizes
-  sizes =
-      let a = both-true (tableFine t) (both (logFine 0 l) (both (mainFine 0 m) (stagingFine g))) ok in
-      let b = both-true (logFine 0 l) (both (mainFine 0 m) (stagingFine g)) (a .1) in
-      let c = both-true (mainFine 0 m) (stagingFine g) (b .1) in
-      let d = both-true (eqb (length l) 4210720) (leb 0 4210720) (b .0) in
-      let e = both-true (eqb (length m) 4194304) (leb 0 4194304) (c .0) in
-      record { table = eqb-true _ _ (a .0); log = eqb-true _ _ (d .0); main = eqb-true _ _ (e .0); staging = eqb-true _ _ (c .1) }
+  sizes : Sized (record { table = t; staging = g; log = l; main = m })
+  sizes = fine-sized (record { table = t; staging = g; log = l; main = m }) 0 0 ok
 
   abbrev head : List ℕ
   head = encodeHeader firstHeader

@@ -20,9 +20,9 @@ use Rattle.wal.specs.declared.WalHeader.{WalHeader}
 use Rattle.pager_state.specs.World.{World, countOf, headerOf}
 use Rattle.pager_state.specs.Overlay.{pageFrom, inLog, logBytes}
 use Rattle.pager_state.specs.Opening.{hasPage}
-use Rattle.pager_state.specs.Pages.{pagesFrom, folds}
+use Rattle.pager_state.specs.Pages.{pagesFrom, foldsBy, folds}
 use Rattle.pager_state.specs.Stores.{Disk, diskOf, stored, cutStore}
-use Rattle.pager_state.specs.Fold.{pageAct, paged, pagesTodo, pagesAdvance, foldTodo, foldAdvance}
+use Rattle.pager_state.specs.Fold.{pageAct, paged, pagesTodo, pagesAdvance, foldTodo, foldAdvance, isEmpty}
 use Rattle.pager_state.specs.Fold as fold
 use Rattle.pager_state.specs.Commit.{commitTodo, commitAdvance}
 use Rattle.pager_state.specs.Steps.{todo, advance}
@@ -109,7 +109,7 @@ module _ (g : List ℕ) (w : World) (b : Book) (z : List ℕ) (salt p answer : �
 
   -- a page that isn't folded is not in the log
   not-folded : (n : ℕ) → 1 ≤ n → n < countOf (b .header) → folds w n ≡ false → lastIn n (k .S) ≡ none
-  unfolding folds
+  unfolding foldsBy
   not-folded n h1 h2 e =
       let hn : n < 1024 = omega (arith, o .book .most) in
       let h3 : n < countOf (headerOf (w .pager)) = omega (arith, count-is) in
@@ -151,7 +151,7 @@ module _ (g : List ℕ) (w : World) (b : Book) (z : List ℕ) (salt p answer : �
       has : inLog (w .table) n ≡ true
 
     folded-page : Folds
-    unfolding folds
+    unfolding foldsBy
     folded-page =
         let a = both-true (leb 1 n) _ (first .holds) in
         let d = both-true (ltb n (countOf (headerOf (w .pager)))) (inLog (w .table) n) (a .1) in
@@ -192,18 +192,18 @@ module _ (g : List ℕ) (w : World) (b : Book) (z : List ℕ) (salt p answer : �
     abbrev v : World
     v = paged salt answer n w
 
-    disk-is : diskOf v ≡ stored (pageAct w n (fold.none ns)) (diskOf w)
+    disk-is : diskOf v ≡ stored (pageAct w n (isEmpty ns)) (diskOf w)
     unfolding paged
     disk-is = refl
 
     on-after : OnDisk (diskOf v) b (k .l) (k .S) (k .P) [] (k .mh)
-    on-after = rw (disk-is, stored-is (fold.none ns)) (page-stored o n x x low high last-is (omega (arith, x-long)))
+    on-after = rw (disk-is, stored-is (isEmpty ns)) (page-stored o n x x low high last-is (omega (arith, x-long)))
 
     main-after : v .main ≡ put (w .main) (4096 * n) x
-    main-after = ap (λ (d : Disk). d .main .area) (disk-is ∙ stored-is (fold.none ns))
+    main-after = ap (λ (d : Disk). d .main .area) (disk-is ∙ stored-is (isEmpty ns))
 
     len-after : v .pager .storage .len ≡ max main-len (4096 * n + length x)
-    len-after = ap (λ (d : Disk). d .main .len) (disk-is ∙ stored-is (fold.none ns))
+    len-after = ap (λ (d : Disk). d .main .len) (disk-is ∙ stored-is (isEmpty ns))
 
     stored-after : (m : ℕ) (y : List ℕ) → 1 ≤ m → m < suc n → m < countOf (b .header) → lastIn m (k .S) ≡ some y
         → (pageFrom (4096 * m) (v .main) ≡ y) × (4096 * suc m ≤ v .pager .storage .len)
@@ -233,22 +233,22 @@ module _ (g : List ℕ) (w : World) (b : Book) (z : List ℕ) (salt p answer : �
     unfolding paged
     after-ok = record { held = held-after; table = c .table; loose = c .loose; fits = c .fits; stored = stored-after }
 
-    todo-is : todo g w ≡ pageAct w n (fold.none ns) ∷ pagesTodo salt answer ns v
+    todo-is : todo g w ≡ pageAct w n (isEmpty ns) ∷ pagesTodo salt answer ns v
     unfolding commitTodo foldTodo pagesTodo
     todo-is = todo-by g w (job.Fold salt p answer) job-is ∙ ap (λ (y : List ℕ). pagesTodo salt answer y w) found
 
     left-is : todo g v ≡ pagesTodo salt answer ns v
-    unfolding commitTodo foldTodo paged folds
+    unfolding commitTodo foldTodo paged foldsBy
     left-is = todo-by g v (job.Fold salt (suc n) answer) refl ∙ ap (λ (y : List ℕ). pagesTodo salt answer y v) (first .rest)
 
     next-is : advance g w ≡ v
     unfolding commitAdvance foldAdvance
     next-is = advance-by g w (job.Fold salt p answer) job-is ∙ ap (λ (y : List ℕ). pagesAdvance salt answer y w) found
 
-    cut-ok : (j : ℕ) → DiskOk (cutStore (pageAct w n (fold.none ns)) j (diskOf w)) b z
+    cut-ok : (j : ℕ) → DiskOk (cutStore (pageAct w n (isEmpty ns)) j (diskOf w)) b z
     cut-ok j =
         let q : length (take j x) ≤ 4096 = rw length-take (omega (arith, x-long)) in
-        rw (cut-is (fold.none ns) j) (record {
+        rw (cut-is (isEmpty ns) j) (record {
           l = k .l;
           S = k .S;
           P = k .P;
@@ -262,7 +262,7 @@ module _ (g : List ℕ) (w : World) (b : Book) (z : List ℕ) (salt p answer : �
     unfolding paged
     page-step =
         record {
-          act = pageAct w n (fold.none ns);
+          act = pageAct w n (isEmpty ns);
           rest = pagesTodo salt answer ns v;
           next = v;
           todoIs = todo-is;

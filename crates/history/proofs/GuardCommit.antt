@@ -7,18 +7,17 @@ use native.Mathlib.Nat.{suc-add}
 use native.Mathlib.Omega.{arith}
 use borrow.Author.Tests.{le-leb, lt-leb}
 use lib.ListN.{length}
+use mathlib.Core.Option.{none}
 use Rattle.header.specs.declared.DbHeader.{DbHeader}
 use Rattle.wal.specs.Write.{longer}
 use Rattle.pager_state.specs.World.{World, withJob}
-use Rattle.pager_state.specs.Overlay.{isStaged, committedBytes}
+use Rattle.pager_state.specs.Overlay.{isStaged, committedIn}
 use Rattle.pager_state.specs.Stores.{Act}
-use Rattle.pager_state.specs.Pages.{pagesFrom, differs, folds}
+use Rattle.pager_state.specs.Pages.{pagesFrom, differsIn, differs, folds}
 use Rattle.pager_state.specs.Fold.{foldTodo, foldAdvance}
 use Rattle.pager_state.specs.Commit.{jobAfter, framed, sealedPager, sealedWorld, framesTodo, framesAdvance, commitTodo, commitAdvance}
-use Rattle.pager_state.specs.Steps.{differing, commitStart, commitRefusal, isBegun, beginCommit, todo, done, stepped, steps, onStore, commitAnswer, commitWorld}
+use Rattle.pager_state.specs.Steps.{differing, commitRefusal, beginCommit, todo, done, stepped, steps, onStore, commitAnswer, commitWorld}
 use Rattle.pager_state.specs.declared.Job.the-variants as job
-use Rattle.pager_state.specs.declared.CommitStart.{CommitStart}
-use Rattle.pager_state.specs.declared.CommitStart.the-variants as commit
 use Rattle.pager_state.proofs.Searches.{first, pages-same, pages-length}
 use Rattle.pager_state.proofs.Stored.{AllInside}
 use Rattle.pager_state.proofs.Made.{AsksOf, ReadyOf, ready-fine}
@@ -94,17 +93,8 @@ module _ (g : List ℕ) (h : DbHeader) (salt answer : ℕ) where
 
 -- ---- a commit that is begun
 
-pub begun-of : (a : CommitStart) → commitRefusal a ≡ 0 → a ≡ commit.Begun
-begun-of commit.Begun e = refl
-begun-of commit.Area e = absurd (omega arith)
-begun-of commit.Busy e = absurd (omega arith)
-begun-of commit.ReadOnly e = absurd (omega arith)
-begun-of commit.NewHeader e = absurd (omega arith)
-begun-of (commit.Joining n) e = absurd (omega arith)
-begun-of commit.LogFull e = absurd (omega arith)
-
 module _ (g : List ℕ) (w : World) (h : DbHeader) (salt : ℕ) (slots : length (w .pager .staged .pages) ≡ 64)
-    (few : w .pager .wal .«frame_count» ≤ 1024) (b : commitStart g w h ≡ commit.Begun) where
+    (few : w .pager .wal .«frame_count» ≤ 1024) (b : commitRefusal g w h ≡ none) where
   abbrev answer : ℕ
   answer = differing g w
 
@@ -119,16 +109,16 @@ module _ (g : List ℕ) (w : World) (h : DbHeader) (salt : ℕ) (slots : length 
   sealed = sealedWorld h salt answer (framesWorld g h salt answer pages begun)
 
   begun-is : onStore w (beginCommit g w h salt .pager) ≡ begun
-  begun-is = rw (begun-commit g w h (ap isBegun b) salt)
+  begun-is = rw (begun-commit g w h b salt)
 
   begun-ready : ReadyOf (isStaged (w .pager .staged)) g begun
-  begun-ready = rw begun-is at (commit-ready g w h (ap isBegun b) salt slots)
+  begun-ready = rw begun-is at (commit-ready g w h b salt slots)
 
   begun-inside : AllInside (todo g begun)
-  begun-inside = rw begun-is at (commit-inside g w h (ap isBegun b) salt)
+  begun-inside = rw begun-is at (commit-inside g w h b salt)
 
   begun-pages : pagesFrom (differs g begun) 0 ≡ pages
-  unfolding differs committedBytes
+  unfolding differsIn committedIn
   begun-pages = refl
 
   seal-run : steps g (length pages + 1) begun ≡ sealed

@@ -1,6 +1,6 @@
 -- A fold that is begun, run to its end: the log has its header alone, and the pages that it had are in the main file. Assumes nothing.
 use mathlib.Core.Path.{_≡_, refl, sym, ap, _∙_}
-use mathlib.Core.Bool.{Bool, true, false}
+use mathlib.Core.Bool.{Bool, true, false, not}
 use mathlib.Core.List.{List, [], _∷_}
 use mathlib.Core.Logic.{_⊎_, inl, inr}
 use Prim.Native.Nat.{ℕ, zero, suc, _+_, _-_, _*_, _/_, _%_, _≤_, _<_}
@@ -9,18 +9,23 @@ use native.Mathlib.Omega.{arith}
 use borrow.Author.Tests.{le-leb, lt-leb, lt-ltb, leb-true, ltb-true, eqb-true, eqb-false, ne-eqb, not-true}
 use lib.Dec.{leb, ltb, eqb}
 use lib.ListN.{length, drop, replicate, getD, length-take, length-drop}
+use mathlib.Core.Option.{Option, none, some}
 use Rattle.le.proofs.Compare.{no-test, both-true}
 use Rattle.le.proofs.Tests.{le-or-lt, eq-or-not}
+use Rattle.le.specs.Choice.{pick, both}
+use Rattle.refusal.specs.Refusal.{accepts, answered}
+use Rattle.refusal.specs.declared.Refusal.{Refusal}
+use Rattle.refusal.proofs.Judged.{accepts-none}
 use Rattle.header.specs.Header.{encodeHeader}
 use Rattle.header.proofs.Encoding.{length-encodeHeader}
 use Rattle.wal.specs.Write.{emptyWal}
 use Rattle.pager_state.specs.World.{World, countOf, headerOf, withJob}
 use Rattle.pager_state.specs.Overlay.{pageFrom, frameOf, inLog, onMain, logBytes}
 use Rattle.pager_state.specs.Stores.{File, diskOf, Act, grown, putFile, lenFile}
-use Rattle.pager_state.specs.Pages.{pagesFrom, folds}
+use Rattle.pager_state.specs.Pages.{pagesFrom, foldsBy, folds}
 use Rattle.pager_state.specs.Fold.{foldedFrom, paged, headed, lengthened, emptied, folded, pagesTodo, foldTodo, foldAdvance, pagesAdvance}
 use Rattle.pager_state.specs.Commit.{commitTodo, commitAdvance}
-use Rattle.pager_state.specs.Steps.{todo, done, stepped, steps, folding, checkpointStart, isFolding, beginCheckpoint, checkpointAnswer, checkpointWorld, onStore}
+use Rattle.pager_state.specs.Steps.{todo, done, stepped, steps, folding, checkpointStart, beginCheckpoint, checkpointAnswer, checkpointWorld, onStore, checkpointBegins, checkpointRefusal, nothingToFold}
 use Rattle.pager_state.specs.declared.Job.{Job}
 use Rattle.pager_state.specs.declared.Job.the-variants as job
 use Rattle.pager_state.specs.declared.CheckpointStart.the-variants as checkpoint
@@ -33,7 +38,7 @@ use Rattle.pager_state.proofs.Made.{Fine, ReadyOf, ready-fine}
 use Rattle.pager_state.proofs.Next.{todo-by, advance-by}
 use Rattle.pager_state.proofs.Steps.{step-keeps}
 use Rattle.pager_state.proofs.Runs.{steps-add, idle-stays}
-use Rattle.pager_state.proofs.Begun.{begun-checkpoint, checkpoint-ready}
+use Rattle.pager_state.proofs.Begun.{begun-checkpoint, checkpoint-ready, off}
 use Rattle.history.proofs.Files.{page-other, page-same}
 use Rattle.history.specs.Guards.{FramesInside, Empty, FoldedTo}
 
@@ -137,7 +142,7 @@ module _ (g : List ℕ) (salt answer : ℕ) where
   paged-job n w = refl
 
   paged-left : (w : World) (p n : ℕ) (ns : List ℕ) → pagesFrom (folds w) p ≡ n ∷ ns → pagesFrom (folds (paged salt answer n w)) (suc n) ≡ ns
-  unfolding paged folds
+  unfolding paged foldsBy
   paged-left w p n ns e =
       let s = first (folds w) p n ns e .split in
       cc
@@ -182,7 +187,7 @@ module _ (g : List ℕ) (salt answer : ℕ) where
   Wholes w = (n : ℕ) → n < 1024 → inLog (w .table) n ≡ true → length (logBytes (w .table) (w .log) n) ≡ 4096
 
   folds-so : (w : World) (n : ℕ) → folds w n ≡ true → (1 ≤ n) × (n < countOf (headerOf (w .pager))) × (inLog (w .table) n ≡ true)
-  unfolding folds
+  unfolding foldsBy
   folds-so w n e =
       let a = both-true (leb 1 n) _ e in
       let b = both-true (ltb n (countOf (headerOf (w .pager)))) (inLog (w .table) n) (a .1) in
@@ -236,7 +241,7 @@ module _ (g : List ℕ) (salt answer : ℕ) where
   -- every page that they are not of stays
   pages-kept : (l : List ℕ) (w : World) (p : ℕ) → pagesFrom (folds w) p ≡ l → Wholes w → Lies 4194304 (mainOf w)
       → (m : ℕ) (x : List ℕ) → (m < p) ⊎ (folds w m ≡ false) → Has m x (mainOf w) → Has m x (mainOf (pagesWorld l w))
-  unfolding pagesWorld paged folds
+  unfolding pagesWorld paged foldsBy
   pages-kept [] w p e k s m x h y = y
   pages-kept (n ∷ ns) w p e k s m x h y =
       pages-kept ns (paged salt answer n w) (suc n) (paged-left w p n ns e) (behind-wholes w p n ns e k s) (behind-lies w p n ns e k s) m x
@@ -249,7 +254,7 @@ module _ (g : List ℕ) (salt answer : ℕ) where
   -- and each of theirs is there
   pages-brought : (l : List ℕ) (w : World) (p : ℕ) → pagesFrom (folds w) p ≡ l → Wholes w → Lies 4194304 (mainOf w)
       → (m : ℕ) → p ≤ m → m < 1024 → folds w m ≡ true → Has m (logBytes (w .table) (w .log) m) (mainOf (pagesWorld l w))
-  unfolding pagesWorld paged folds
+  unfolding pagesWorld paged foldsBy
   pages-brought [] w p e k s m a b t = no-test (sym (pages-none (folds w) p e m a b) ∙ t)
   pages-brought (n ∷ ns) w p e k s m a b t =
       let v : World = paged salt answer n w in
@@ -329,16 +334,26 @@ main-entry t n e z =
 
 -- ---- a fold that is begun
 
+-- as the answer says
+begins-by : (v : Option Refusal) (b : Bool) → answered checkpoint.Refused (pick b checkpoint.Nothing checkpoint.Begun) v ≡ checkpoint.Begun → both (accepts v) (not b) ≡ true
+begins-by none false e = refl
+begins-by none true e = let z : _≡_ {A = ℕ} 0 1 = cc in absurd (omega arith)
+begins-by (some r) b e = let z : _≡_ {A = ℕ} 0 1 = cc in absurd (omega arith)
+
+pub start-begins : (g : List ℕ) (w : World) → checkpointStart g w ≡ checkpoint.Begun → checkpointBegins g w ≡ true
+unfolding checkpointStart
+start-begins g w e = begins-by (checkpointRefusal g w) (nothingToFold w) e
+
 module _ (g : List ℕ) (w : World) (salt : ℕ) (slots : length (w .pager .staged .pages) ≡ 64) (i : FramesInside w)
-    (b : checkpointStart g w ≡ checkpoint.Begun) where
+    (b : checkpointBegins g w ≡ true) where
   abbrev begun : World
   begun = onStore w (withJob (w .pager) (job.Fold salt 0 (folding w)))
 
   begun-is : onStore w (beginCheckpoint g w salt .pager) ≡ begun
-  begun-is = rw (begun-checkpoint g w (ap isFolding b) salt)
+  begun-is = rw (begun-checkpoint g w b salt)
 
   begun-ready : ReadyOf (λ (n : ℕ). false) g begun
-  begun-ready = rw begun-is at (checkpoint-ready g w (ap isFolding b) salt slots)
+  begun-ready = rw begun-is at (checkpoint-ready g w b salt slots)
 
   -- after the pages
   abbrev written : World
@@ -361,7 +376,7 @@ module _ (g : List ℕ) (w : World) (salt : ℕ) (slots : length (w .pager .stag
   paged-all = pages-keep g salt (folding w) (pagesFrom (folds begun) 0) begun 0 refl wholes (begun-fine .files .main)
 
   begun-folds : (n : ℕ) → 1 ≤ n → n < countOf (headerOf (w .pager)) → folds begun n ≡ inLog (w .table) n
-  unfolding folds
+  unfolding foldsBy
   begun-folds n a c = rw (le-leb 1 n a, lt-ltb n (countOf (headerOf (w .pager))) c)
 
   -- a page that stands in the main file then, of an entry of the table
@@ -392,4 +407,6 @@ module _ (g : List ℕ) (w : World) (salt : ℕ) (slots : length (w .pager .stag
 
   pub fold-answer : checkpointAnswer g w ≡ answer.Written (folding w)
   unfolding checkpointAnswer
-  fold-answer = rw b
+  fold-answer =
+      let x = both-true (accepts (checkpointRefusal g w)) (not (nothingToFold w)) b in
+      rw (accepts-none (checkpointRefusal g w) (x .0), off (nothingToFold w) (x .1))

@@ -4,11 +4,12 @@ use mathlib.Core.Bool.{Bool, true, false}
 use mathlib.Core.List.{List, [], _∷_}
 use Prim.Native.Nat.{ℕ, zero, suc, _+_, _≤_, _<_}
 use native.Mathlib.Omega.{arith}
-use borrow.Author.Tests.{ltb-true, le-leb, le-ltb, eq-eqb, eqb-true, eqb-false, ne-eqb}
-use lib.Dec.{leb, eqb}
+use borrow.Author.Tests.{ltb-true, le-leb, le-ltb, eqb-true, eqb-false, ne-eqb}
+use lib.Dec.{eqb}
 use lib.ListN.{length, length-take}
+use mathlib.Core.Option.{none}
 use Rattle.le.specs.Choice.{pick}
-use Rattle.le.proofs.Compare.{no-test, both-true}
+use Rattle.le.proofs.Compare.{no-test}
 use Rattle.page.specs.Page.{emptyTablePage}
 use Rattle.page.proofs.Written.{length-emptyTablePage}
 use Rattle.header.specs.Header.{encodeHeader}
@@ -17,15 +18,14 @@ use Rattle.header.proofs.Encoding.{length-encodeHeader}
 use Rattle.wal.specs.Header.{encodeWalHeader}
 use Rattle.wal.specs.Write.{createdHeader, emptyWal}
 use Rattle.wal.proofs.Encoding.{length-encodeWalHeader}
-use Rattle.pager_state.specs.World.{World, world, countOf, headerOf, tableFine, logFine, mainFine, stagingFine, readOnly}
+use Rattle.pager_state.specs.World.{World, world, countOf, headerOf, readOnly}
 use Rattle.pager_state.specs.Overlay.{findIn, stagedPages, slotOf, isStaged}
 use Rattle.pager_state.specs.Pages.{among, pagesFrom, differs}
 use Rattle.pager_state.specs.Opening.{tableOf, emptyStaged, opensAs, firstHeader, logStores, createStores, emptyFile, createdDisk, createdPager, createFine, createTable, createLog, createMain}
-use Rattle.pager_state.specs.Steps.{differing, commitStart}
+use Rattle.pager_state.specs.Steps.{differing, commitRefusal}
 use Rattle.pager_state.specs.declared.Job.{Job}
 use Rattle.pager_state.specs.declared.Job.the-variants as job
 use Rattle.pager_state.specs.declared.Staged.{Staged}
-use Rattle.pager_state.specs.declared.CommitStart.the-variants as commit
 use Rattle.pager_state.proofs.Stored.{Areas, AllInside, all-areas}
 use Rattle.pager_state.proofs.Sizes.{empty-len}
 use Rattle.pager_state.proofs.Steps.{differs-staged}
@@ -33,34 +33,16 @@ use Rattle.pager_state.proofs.Made.{AsksOf, Made, every}
 use Rattle.pager_state.proofs.Opened.{created-made}
 use Rattle.history.specs.Run.{start}
 use Rattle.history.specs.Guards.{newStore, GoodHeader, Joined, Unrefused, withSlots, FramesInside, CommittedAlone}
-use Rattle.history.proofs.Opening.{table-long}
-use Rattle.history.proofs.GuardRefusals.{told-begun}
+use Rattle.history.proofs.Opening.{table-long, fine-sized}
+use Rattle.history.proofs.GuardRefusals.{unrefused, none-begun}
 use Rattle.history.proofs.GuardCommit.{commit-ends}
+use Rattle.history.specs.Demand3.{Sized}
 
 -- ---- areas
 
-pub create-fine : (t l m g : List ℕ) → length t ≡ 1024 → length l ≡ 4210720 → length m ≡ 4194304 → length g ≡ 262144 → createFine t l m g ≡ true
-create-fine t l m g a b c d =
-    rw (eq-eqb (length t) 1024 a, eq-eqb (length l) 4210720 b, eq-eqb (length m) 4194304 c, eq-eqb (length g) 262144 d)
-
 -- the lengths that creation asks for
-pub record Lent (t l m g : List ℕ) : Type 0 where
-  pub table : length t ≡ 1024
-  pub log : length l ≡ 4210720
-  pub main : length m ≡ 4194304
-  pub staging : length g ≡ 262144
-
-pub fine-create : (t l m g : List ℕ) → createFine t l m g ≡ true → Lent t l m g
-fine-create t l m g e =
-    let a = both-true (tableFine t) _ e in
-    let b = both-true (logFine 0 l) _ (a .1) in
-    let c = both-true (mainFine 0 m) (stagingFine g) (b .1) in
-    record {
-      table = eqb-true _ _ (a .0);
-      log = eqb-true _ _ (both-true (eqb (length l) 4210720) (leb 0 4210720) (b .0) .0);
-      main = eqb-true _ _ (both-true (eqb (length m) 4194304) (leb 0 4194304) (c .0) .0);
-      staging = eqb-true _ _ (c .1);
-    }
+pub fine-create : (t l m g : List ℕ) → createFine t l m g ≡ true → Sized (record { table = t; staging = g; log = l; main = m })
+fine-create t l m g e = fine-sized (record { table = t; staging = g; log = l; main = m }) 0 0 e
 
 -- ---- no more pages are staged than there are slots
 
@@ -172,10 +154,7 @@ module _ (t l m g : List ℕ) (salt : ℕ) (f : createFine t l m g ≡ true) whe
       let a = created-areas in
       let n = new-is in
       record {
-        table = rw n (table-long firstHeader []);
-        log = rw n (a .log .area);
-        main = rw n (a .main .area);
-        staging = e;
+        areas = record { table = rw n (table-long firstHeader []); staging = e; log = rw n (a .log .area); main = rw n (a .main .area) };
         logFile = rw n (omega (arith, empty-len (createdHeader salt)));
         mainFile = rw n (omega arith);
         pages = rw n (omega arith);
@@ -191,10 +170,10 @@ module _ (t l m g : List ℕ) (salt : ℕ) (f : createFine t l m g ≡ true) whe
   new-len = rw new-is (empty-len (createdHeader salt))
 
   pub new-begun : (s : Staged) → length (s .pages) ≡ 64 → (h : DbHeader) → GoodHeader h → Joined (withSlots (newStore t l m g salt) s) h
-      → (staging : List ℕ) → length staging ≡ 262144 → commitStart staging (withSlots (newStore t l m g salt) s) h ≡ commit.Begun
+      → (staging : List ℕ) → length staging ≡ 262144 → commitRefusal staging (withSlots (newStore t l m g salt) s) h ≡ none
   new-begun s z h k j staging e =
       let w : World = withSlots (newStore t l m g salt) s in
-      told-begun staging w h (new-unrefused s h k j staging e) (omega (arith, new-len, few-differ staging w z))
+      unrefused staging w h (new-unrefused s h k j staging e) (omega (arith, new-len, few-differ staging w z))
 
 -- ---- a commit with nothing staged
 
@@ -233,7 +212,7 @@ module _ (t l m g : List ℕ) (salt : ℕ) (f : createFine t l m g ≡ true) whe
   none-counted = none-differ new new-none g
 
   module _ (h : DbHeader) (k : GoodHeader h) (c : countOf h ≤ 2) where
-    alone-begun : commitStart g new h ≡ commit.Begun
+    alone-begun : commitRefusal g new h ≡ none
     alone-begun =
         new-begun t l m g salt f (new .pager .staged) (new-made t l m g salt f .slots) h k (λ n a b d. absurd (omega (arith, new-count, b, c, d))) g (fine-create t l m g f .staging)
 
@@ -242,7 +221,7 @@ module _ (t l m g : List ℕ) (salt : ℕ) (f : createFine t l m g ≡ true) whe
         let e = commit-ends g new h next (new-made t l m g salt f .slots) (omega (arith, new-frames)) alone-begun in
         let v = e .below (omega (arith, new-frames, none-counted)) in
         record {
-          begun = alone-begun;
+          begun = none-begun g new h alone-begun;
           answer = e .answer ∙ rw none-counted;
           rests = v .rests;
           logFile = v .logFile ∙ omega (arith, none-counted, new-len t l m g salt f);

@@ -28,6 +28,7 @@ pub mod NextStep
 pub mod Creation
 pub mod Refused
 pub mod Demand3Holds
+pub mod GuardDecoding
 pub mod GuardRefusals
 pub mod GuardFold
 pub mod GuardCommit

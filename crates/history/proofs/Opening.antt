@@ -19,7 +19,7 @@ use Rattle.header.specs.declared.DbHeader.{DbHeader}
 use Rattle.header.specs.declared.HeaderDecoded.the-variants as main
 use Rattle.header.proofs.RoundTrip.{decoded-as}
 use Rattle.wal.specs.Header.{encodeWalHeader, decodeWalHeader}
-use Rattle.wal.specs.Recovery.{batchesIn, chunkAt, goodFront, lastCount, recovered, sealedFrames, commitPoint, walOf, Recovered}
+use Rattle.wal.specs.Recovery.{batchesIn, chunkAt, goodFront, lastCount, recovered, sealedFrames, commitPoint, walOf, Recovered, walArea}
 use Rattle.wal.specs.declared.WalHeader.{WalHeader}
 use Rattle.wal.specs.declared.WalHeaderDecoded.the-variants as log
 use Rattle.wal.specs.declared.Wal.{Wal}
@@ -28,7 +28,7 @@ use Rattle.wal.proofs.Frames.{all-good-cons}
 use Rattle.wal.proofs.Recovered.{recovered-cut, cut-sealed}
 use Rattle.wal.proofs.Opening.{length-cut}
 use Rattle.wal.proofs.Laid.{joined}
-use Rattle.pager_state.specs.World.{world, countOf}
+use Rattle.pager_state.specs.World.{world, countOf, mainArea, stagingArea, pageLimit, inArea, lengthsFine}
 use Rattle.pager_state.specs.Overlay.{pageFrom, entry, isStaged, slotOf}
 use Rattle.pager_state.specs.Opening.{tabulate, placeFrom, hasPage, tableOf, emptyStaged, opensAs, keptOf, foundIn, foundBy, mainHeader, headerBy, openedAs, judged, openFine, openPager, openRefusal, openStores, openTable, openLogArea}
 use Rattle.pager_state.specs.Stores.{File, Disk, content, SetLen, Other, lenFile, lenCut, cutAll, wholeOf, storedAll}
@@ -133,11 +133,37 @@ re-book o c e₁ e₂ e₃ =
 
 -- ---- the areas lent
 
-pub record Areas (lent : Lent) (d : Disk) : Type 0 where
-  pub table : length (lent .table) ≡ 1024
-  pub staging : length (lent .staging) ≡ 262144
-  pub log : length (laid lent d .log .area) ≡ 4210720
-  pub main : length (laid lent d .main .area) ≡ 4194304
+-- what refusal 1 asks of areas and of the lengths of the files in them
+pub fine-sized : (a : Lent) (l m : ℕ) → lengthsFine (length (a .table)) (length (a .log)) l (length (a .main)) m (length (a .staging)) ≡ true → Sized a
+fine-sized a l m e =
+    let x = both-true (eqb (length (a .table)) pageLimit) _ e in
+    let y = both-true (inArea walArea (length (a .log)) l) _ (x .1) in
+    let z = both-true (inArea mainArea (length (a .main)) m) (eqb (length (a .staging)) stagingArea) (y .1) in
+    record {
+      table = eqb-true _ _ (x .0);
+      staging = eqb-true _ _ (z .1);
+      log = eqb-true _ _ (both-true (eqb (length (a .log)) walArea) (leb l walArea) (y .0) .0);
+      main = eqb-true _ _ (both-true (eqb (length (a .main)) mainArea) (leb m mainArea) (z .0) .0);
+    }
+
+pub sized-fine : (a : Lent) (l m : ℕ) → Sized a → l ≤ walArea → m ≤ mainArea
+    → lengthsFine (length (a .table)) (length (a .log)) l (length (a .main)) m (length (a .staging)) ≡ true
+sized-fine a l m s h k =
+    rw (
+      eq-eqb (length (a .table)) pageLimit (s .table),
+      eq-eqb (length (a .log)) walArea (s .log),
+      le-leb l walArea h,
+      eq-eqb (length (a .main)) mainArea (s .main),
+      le-leb m mainArea k,
+      eq-eqb (length (a .staging)) stagingArea (s .staging),
+    )
+
+-- the areas with both files read into them
+abbrev pub laidAreas : Lent → Disk → Lent
+laidAreas lent d = record { table = lent .table; staging = lent .staging; log = laid lent d .log .area; main = laid lent d .main .area }
+
+abbrev pub Areas : Lent → Disk → Type 0
+Areas lent d = Sized (laidAreas lent d)
 
 pub laid-content : (f : File) (a : List ℕ) → f .len ≤ length (f .area) → content (laidIn a f) ≡ content f
 laid-content f a h = take-at (content f) (drop (f .len) a) (f .len) (length-content f h)
@@ -164,19 +190,7 @@ module _ {d : Disk} {b : Book} {l : WalHeader} {S P : List (List ℕ)} {t : List
       (laid-content (d .main) (lent .main) main-inside) (a .main)
 
 pub fine-areas : (lent : Lent) (d : Disk) → openFine (lent .table) (laid lent d) (lent .staging) ≡ true → Areas lent d
-fine-areas lent d e =
-    let x : Disk = laid lent d in
-    let a = both-true (eqb (length (lent .table)) 1024) _ e in
-    let b = both-true (both (eqb (length (x .log .area)) 4210720) (leb (x .log .len) 4210720)) _ (a .1) in
-    let c = both-true (eqb (length (x .log .area)) 4210720) (leb (x .log .len) 4210720) (b .0) in
-    let f = both-true (both (eqb (length (x .main .area)) 4194304) (leb (x .main .len) 4194304)) _ (b .1) in
-    let h = both-true (eqb (length (x .main .area)) 4194304) (leb (x .main .len) 4194304) (f .0) in
-    record {
-      table = eqb-true _ _ (a .0);
-      staging = eqb-true _ _ (f .1);
-      log = eqb-true _ _ (c .0);
-      main = eqb-true _ _ (h .0);
-    }
+fine-areas lent d e = fine-sized (laidAreas lent d) (laid lent d .log .len) (laid lent d .main .len) e
 
 -- ---- fronts of good frames
 
@@ -252,14 +266,8 @@ module _ {x : Disk} {b : Book} {l : WalHeader} {S P : List (List ℕ)} {t : List
   module _ (T G : List ℕ) (tl : length T ≡ 1024) (gl : length G ≡ 262144) where
     fine-is : openFine T x G ≡ true
     fine-is =
-        rw (
-          eq-eqb (length T) 1024 tl,
-          eq-eqb (length (x .log .area)) 4210720 (o .log .area),
-          le-leb (x .log .len) 4210720 (o .log .fits),
-          eq-eqb (length (x .main .area)) 4194304 (o .main .area),
-          le-leb (x .main .len) 4194304 (o .main .fits),
-          eq-eqb (length G) 262144 gl,
-        )
+        sized-fine (record { table = T; staging = G; log = x .log .area; main = x .main .area }) (x .log .len) (x .main .len)
+        (record { table = tl; staging = gl; log = o .log .area; main = o .main .area }) (o .log .fits) (o .main .fits)
 
     opening-is : (m : AccessMode) → openPager (cleanly m) T x G ≡ openedAs (cleanly m) x mh (foundBy (cleanly m) (x .log)) (b .header)
     unfolding openPager

@@ -5,12 +5,11 @@ use mathlib.Core.List.{List, [], _∷_}
 use mathlib.Core.Logic.{_⊎_, inl, inr}
 use Prim.Native.Nat.{ℕ, zero, suc, _+_, _-_, _≤_, _<_}
 use native.Mathlib.Omega.{arith}
-use borrow.Author.Tests.{ltb-false}
-use lib.Dec.{ltb}
 use lib.ListN.{length}
 use Rattle.le.specs.Choice.{pick}
 use Rattle.le.proofs.Tests.{le-or-lt}
 use Rattle.pager_state.specs.Pages.{among, pagesFrom, firstOf}
+use Rattle.pager_state.specs.World.{pageLimit}
 
 -- n is the first from p on, and ns are those behind it
 pub record First (f : ℕ → Bool) (p n : ℕ) (ns : List ℕ) : Type 0 where
@@ -97,11 +96,11 @@ module _ (f : ℕ → Bool) where
   pages-most p = omega (arith, among-most (1024 - p) p)
 
   -- none is the first
-  first-none : (ns : List ℕ) → pagesFrom f 0 ≡ ns → ltb (firstOf ns) 1024 ≡ false → pagesFrom f 0 ≡ []
+  first-none : (ns : List ℕ) → pagesFrom f 0 ≡ ns → pageLimit ≤ firstOf ns → pagesFrom f 0 ≡ []
   first-none [] e h = e
-  first-none (n ∷ ns) e h = absurd (omega (arith, ltb-false n 1024 h, pages-first 0 n ns e .high))
+  first-none (n ∷ ns) e h = absurd (omega (arith, h, pages-first 0 n ns e .high))
 
-  pub none-first : ltb (firstOf (pagesFrom f 0)) 1024 ≡ false → (m : ℕ) → m < 1024 → f m ≡ false
+  pub none-first : pageLimit ≤ firstOf (pagesFrom f 0) → (m : ℕ) → m < 1024 → f m ≡ false
   none-first h m b = pages-none 0 (first-none (pagesFrom f 0) refl h) m (omega arith) b
 
 among-same : (f g : ℕ → Bool) (k p : ℕ) → ((m : ℕ) → p ≤ m → m < p + k → g m ≡ f m) → among g k p ≡ among f k p

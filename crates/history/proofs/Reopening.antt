@@ -23,7 +23,7 @@ use Rattle.wal.proofs.Reading.{Walked, batches-walked}
 use Rattle.pager_state.specs.World.{World, world, logFine, busy}
 use Rattle.pager_state.specs.Overlay.{pageFrom}
 use Rattle.pager_state.specs.Opening.{tableOf, opensAs, openRefusal}
-use Rattle.pager_state.specs.Batches.{nextRecovered, recoveredAs}
+use Rattle.pager_state.specs.Batches.{nextRecovered, recoveredAs, recoveredRefusal}
 use Rattle.pager_state.specs.Stores.{Disk, content}
 use Rattle.pager_state.specs.declared.AccessMode.the-variants as mode
 use Rattle.history.specs.Book.{Book, Batch, batchIn, bookOpen, tells}
@@ -66,7 +66,7 @@ within-more e n batch.Nothing h w = tt
 module _ (w : World) (S : List (List ℕ)) (fine : logFine (w .pager .wal .len) (w .log) ≡ true) (idle : busy (w .pager) ≡ false)
     (end : w .pager .recovered ≡ chunkAt (length S)) (front : chunks (take (chunkAt (length S)) (w .log)) ≡ S) (long : 32 + 4112 * length S ≤ length (w .log)) where
   next-is : (i : ℕ) → nextRecovered (w .pager) (w .log) i ≡ recoveredAs (batchFrom i (drop i S))
-  unfolding nextRecovered nextBatch
+  unfolding nextRecovered recoveredRefusal nextBatch
   next-is i = rw (fine, idle, end, front)
 
   body-is : (j : ℕ) → j < length S → pageFrom (chunkAt j + 16) (w .log) ≡ bodyOf (getD S j [])

@@ -16,7 +16,7 @@ use Rattle.header.proofs.RoundTrip.{Plain}
 use Rattle.wal.specs.declared.WalHeader.{WalHeader}
 use Rattle.wal.proofs.Laid.{joined}
 use Rattle.pager_state.specs.World.{World, countOf, headerOf, fine, busy, busyWith}
-use Rattle.pager_state.specs.Overlay.{pageFrom, isStaged, stagedBytes, frameOf, inLog, onMain, entry, logAt, logBytes, committedBytes, below, overlay, findPage, findRefusal}
+use Rattle.pager_state.specs.Overlay.{pageFrom, isStaged, stagedBytes, frameOf, inLog, onMain, entry, logAt, logBytes, committedIn, committedBytes, below, placePage, overlay, findPage, findRefusal, readRefusal}
 use Rattle.pager_state.specs.Queries.{header}
 use Rattle.pager_state.specs.Opening.{placeFrom, hasPage}
 use Rattle.pager_state.specs.Pages.{pagesFrom, differs}
@@ -234,7 +234,7 @@ module _ {w : World} {g : List ℕ} {b : Book} {l : WalHeader} {S P : List (List
   page-sealed n h e = page-view n h ∙ rw (last-append n S P, e)
 
 pub committed-bytes : (w : World) (n : ℕ) → committedBytes w n ≡ orGive (worldPage w n) []
-unfolding committedBytes
+unfolding committedIn
 committed-bytes w n = go (inLog (w .table) n) (onMain (w .table) n)
   where
     go : (i m : Bool) → pick i (logBytes (w .table) (w .log) n) (pick m (pageFrom (4096 * n) (w .main)) [])
@@ -263,11 +263,11 @@ refusal-below w n false false false = refl
 module _ (r : Run) (l : WalHeader) (S P : List (List ℕ)) (mh : DbHeader) (k : Resting (r .world) (r .staging) (r .book) l S P mh)
     (idle : busy (r .world .pager) ≡ false) where
   find-is : (n : ℕ) → findPage (r .world) (r .staging) n ≡ overlay (r .world .pager) (r .world .table) n
-  unfolding findPage
+  unfolding findPage readRefusal
   find-is n = rw (held-fine (k .held), eq-eqb (length (r .staging)) 262144 (k .held .stagingLong), idle)
 
   refusal-is : (n : ℕ) (t : Bool) → isStaged (r .world .pager .staged) n ≡ t → findRefusal (overlay (r .world .pager) (r .world .table) n) ≡ 0
-  unfolding overlay below
+  unfolding placePage below
   refusal-is n true e = rw e
   refusal-is n false e =
       rw e (refusal-below (r .world) n (leb (countOf (headerOf (r .world .pager))) n) (inLog (r .world .table) n) (onMain (r .world .table) n))
@@ -292,7 +292,7 @@ module _ (r : Run) (l : WalHeader) (S P : List (List ℕ)) (mh : DbHeader) (k : 
 
   page-is : (n : ℕ) → 1 ≤ n → (t : Bool) → isStaged (r .world .pager .staged) n ≡ t
       → readingAt (r .world) (r .staging) (overlay (r .world .pager) (r .world .table) n) ≡ bookRead (r .book) n
-  unfolding overlay bookRead stagedBytes
+  unfolding placePage bookRead stagedBytes
   page-is n h true e = rw (e, book-staged n true e)
   page-is n h false e = rw (e, book-staged n false e) (below-is n h (le-or-lt (suc n) (countOf (r .book .header))))
 

@@ -16,7 +16,7 @@ use Rattle.wal.specs.Recovery.{chunkAt, pageOf}
 use Rattle.pager_state.specs.World.{World}
 use Rattle.pager_state.specs.Overlay.{isStaged, stagedBytes, onMain, entry, committedBytes}
 use Rattle.pager_state.specs.Opening.{placeFrom, hasPage}
-use Rattle.pager_state.specs.Pages.{differs}
+use Rattle.pager_state.specs.Pages.{differsIn, differs}
 use Rattle.pager_state.specs.Stores.{diskOf, Act, Put, SetLen, kindOf, inside, stored, cutStore, sizeOf}
 use Rattle.pager_state.specs.Fold.{foldTodo, foldAdvance}
 use Rattle.pager_state.specs.Commit.{commitTodo, commitAdvance}
@@ -90,7 +90,7 @@ not-not false e = let z : _≡_ {A = ℕ} 0 1 = cc in absurd (omega arith)
 
 pub settled : (g : List ℕ) (w : World) (n : ℕ) → differs g w n ≡ false → isStaged (w .pager .staged) n ≡ true
     → length (stagedBytes (w .pager .staged) g n) ≡ 4096 → worldPage w n ≡ some (stagedBytes (w .pager .staged) g n)
-unfolding differs
+unfolding differsIn
 settled g w n e s h =
     let x : List ℕ = stagedBytes (w .pager .staged) g n in
     let q = not-not _ (both-right (isStaged (w .pager .staged) n) _ e s) in
