@@ -11,12 +11,14 @@ use lib.Dec.{leb, eqb}
 use lib.ListN.{length, drop, getD}
 use Rattle.le.specs.Choice.{pick}
 use Rattle.le.proofs.Tests.{le-or-lt}
+use Rattle.refusal.specs.Refusal.{numberOf, answered}
+use Rattle.refusal.specs.declared.Refusal.{Refusal}
 use Rattle.header.specs.declared.DbHeader.{DbHeader}
 use Rattle.header.proofs.RoundTrip.{Plain}
 use Rattle.wal.specs.declared.WalHeader.{WalHeader}
 use Rattle.wal.proofs.Laid.{joined}
 use Rattle.pager_state.specs.World.{World, countOf, headerOf, fine, busy, busyWith}
-use Rattle.pager_state.specs.Overlay.{pageFrom, isStaged, stagedBytes, frameOf, inLog, onMain, entry, logAt, logBytes, committedIn, committedBytes, below, placePage, overlay, findPage, findRefusal, readRefusal}
+use Rattle.pager_state.specs.Overlay.{pageFrom, isStaged, stagedBytes, frameOf, inLog, onMain, entry, logAt, logBytes, committedIn, committedBytes, below, placePage, overlay, findPage, findRefusal, readRefusal, stagedAt, mainAt}
 use Rattle.pager_state.specs.Queries.{header}
 use Rattle.pager_state.specs.Opening.{placeFrom, hasPage}
 use Rattle.pager_state.specs.Pages.{pagesFrom, differs}
@@ -28,6 +30,8 @@ use Rattle.pager_state.specs.declared.Job.the-variants as job
 use Rattle.pager_state.specs.declared.Opening.the-variants as opening
 use Rattle.pager_state.specs.declared.PageFound.the-variants as found
 use Rattle.pager_state.specs.declared.HeaderRead.the-variants as head
+use Rattle.pager_state.specs.declared.Staged.{Staged}
+use Rattle.pager_state.specs.declared.PageFound.{PageFound}
 use Rattle.history.specs.Book.{Book, bookRead, orElse}
 use Rattle.history.specs.Run.{Run}
 use Rattle.history.specs.Demand3.{readingAt, Same}
@@ -253,24 +257,37 @@ reading-below w g n true m = refl
 reading-below w g n false true = refl
 reading-below w g n false false = refl
 
-refusal-below : (w : World) (n : ℕ) (c i m : Bool)
-    → findRefusal (pick c found.Nothing (pick i (found.Log (logAt (w .table) n)) (pick m (found.Main (4096 * n)) found.Nothing))) ≡ 0
-refusal-below w n true i m = refl
-refusal-below w n false true m = refl
-refusal-below w n false false true = refl
-refusal-below w n false false false = refl
+-- what is found is numbered as the reading's refusal
+place-number : (count : ℕ) (s : Staged) (t : List ℕ) (n : ℕ) → findRefusal (placePage count s t n) ≡ 0
+unfolding placePage below
+place-number count s t n = go (isStaged s n) (leb count n) (inLog t n) (onMain t n)
+  where
+    go : (a c i m : Bool)
+        → findRefusal (pick a (found.Staged (stagedAt s n)) (pick c found.Nothing (pick i (found.Log (logAt t n)) (pick m (found.Main (mainAt n)) found.Nothing)))) ≡ 0
+    go true c i m = refl
+    go false true i m = refl
+    go false false true m = refl
+    go false false false true = refl
+    go false false false false = refl
+
+answer-number : (v : Option Refusal) (f : PageFound) → findRefusal f ≡ 0 → findRefusal (answered found.Refused f v) ≡ numberOf v
+answer-number none f e = e
+answer-number (some r) f e = refl
+
+pub find-number : (w : World) (g : List ℕ) (n : ℕ) → findRefusal (findPage w g n) ≡ numberOf (readRefusal w g)
+unfolding findPage
+find-number w g n =
+    answer-number (readRefusal w g) (overlay (w .pager) (w .table) n) (place-number (countOf (headerOf (w .pager))) (w .pager .staged) (w .table) n)
 
 module _ (r : Run) (l : WalHeader) (S P : List (List ℕ)) (mh : DbHeader) (k : Resting (r .world) (r .staging) (r .book) l S P mh)
     (idle : busy (r .world .pager) ≡ false) where
-  find-is : (n : ℕ) → findPage (r .world) (r .staging) n ≡ overlay (r .world .pager) (r .world .table) n
-  unfolding findPage readRefusal
-  find-is n = rw (held-fine (k .held), eq-eqb (length (r .staging)) 262144 (k .held .stagingLong), idle)
+  read-none : readRefusal (r .world) (r .staging) ≡ none
+  unfolding readRefusal
+  read-none = rw (held-fine (k .held), eq-eqb (length (r .staging)) 262144 (k .held .stagingLong), idle)
 
-  refusal-is : (n : ℕ) (t : Bool) → isStaged (r .world .pager .staged) n ≡ t → findRefusal (overlay (r .world .pager) (r .world .table) n) ≡ 0
-  unfolding placePage below
-  refusal-is n true e = rw e
-  refusal-is n false e =
-      rw e (refusal-below (r .world) n (leb (countOf (headerOf (r .world .pager))) n) (inLog (r .world .table) n) (onMain (r .world .table) n))
+  find-is : (n : ℕ) → findPage (r .world) (r .staging) n ≡ overlay (r .world .pager) (r .world .table) n
+  unfolding findPage
+  find-is n = rw read-none
 
   book-staged : (n : ℕ) (t : Bool) → isStaged (r .world .pager .staged) n ≡ t
       → r .book .staged n ≡ pick t (some (stagedBytes (r .world .pager .staged) (r .staging) n)) none
@@ -301,7 +318,7 @@ module _ (r : Run) (l : WalHeader) (S P : List (List ℕ)) (mh : DbHeader) (k : 
   same-at-rest =
       record {
         sameHeader = rw idle (ap head.Header (k .held .header));
-        answered = λ n. rw (find-is n) (refusal-is n (isStaged (r .world .pager .staged) n) refl);
+        answered = λ n. find-number (r .world) (r .staging) n ∙ ap numberOf read-none;
         samePage = λ n h. rw (find-is n) (page-is n h (isStaged (r .world .pager .staged) n) refl);
       }
 
