@@ -2,30 +2,30 @@
 use mathlib.Core.Path.{_≡_, refl, sym, ap, _∙_}
 use mathlib.Core.Bool.{Bool, true, false, not}
 use mathlib.Core.List.{List, [], _∷_, _++_, append-assoc}
+use mathlib.Core.Option.{none}
 use Prim.Native.Nat.{ℕ, _+_, _^_, max, _≤_, _<_}
 use native.Mathlib.Omega.{arith}
 use borrow.Author.Tests.{leb-true}
 use lib.Dec.{leb}
 use lib.ListN.{length}
-use mathlib.Core.Option.{none}
 use Rattle.le.specs.Choice.{both}
 use Rattle.le.specs.Le.{put, Bytes}
 use Rattle.le.proofs.Compare.{both-true}
 use Rattle.page.specs.Page.{pageSize}
+use Rattle.refusal.specs.declared.Refusal.the-variants as refusal
 use Rattle.refusal.proofs.Rows.{accepted}
 use Rattle.refusal.proofs.Judged.{met, behind}
-use Rattle.refusal.specs.declared.Refusal.the-variants as refusal
-use Rattle.frame.specs.Frame.{encodeFrame, bodyOf, frameSize}
+use Rattle.frame.specs.Frame.{frameSize, encodeFrame, bodyOf}
 use Rattle.frame.proofs.Stores.{length-encodeFrame}
 use Rattle.frame.proofs.RoundTrip.{body-back}
-use Rattle.mvcc.specs.Seen.{decodes, canonical, decodeRefusal, headingRefusal}
-use Rattle.mvcc.proofs.Canonical.{canonical-decodes, canonical-commitTs, canonical-records, canonical-length, none-decodes}
-use Rattle.wal.specs.Recovery.{pageOf, good, walArea}
+use Rattle.mvcc.specs.Seen.{decodeRefusal, decodes, canonical, headingRefusal}
+use Rattle.mvcc.proofs.Canonical.{none-decodes, canonical-decodes, canonical-commitTs, canonical-records, canonical-length}
+use Rattle.wal.specs.Recovery.{pageOf, batchPage, good, walArea}
 use Rattle.wal.specs.Recovery as wal
 use Rattle.wal.specs.Write.{withFrame, hasRoom}
 use Rattle.wal.specs.declared.WalHeader.{WalHeader}
 use Rattle.wal.proofs.Frames.{page-encoded, count-encoded, good-batch}
-use Rattle.pager_state.specs.World.{World, world, busy, readOnly, logFine, withWal}
+use Rattle.pager_state.specs.World.{World, world, pageLimit, logFine, busy, readOnly, withWal}
 use Rattle.pager_state.specs.Batches.{appendRefusal, batchFrame, appendBatch, appendAfter}
 use Rattle.pager_state.specs.Stores.{diskOf, Act, Put, Batched, stored}
 use Rattle.pager_state.specs.declared.FileKind.the-variants as file
@@ -82,10 +82,10 @@ module _ (w : World) (g : List ℕ) (b : Book) (z : List ℕ) (i : Inv w g b z) 
   k = at-rest w g b z i idle
 
   abbrev pub f : List ℕ
-  f = encodeFrame 4294967295 0 (w .pager .wal .header .salt) (canonical body)
+  f = encodeFrame batchPage 0 (w .pager .wal .header .salt) (canonical body)
 
-  f-long : length f ≡ 4112
-  f-long = length-encodeFrame 4294967295 0 (w .pager .wal .header .salt) (canonical body) (canonical-length body bs does (appending-ok .short))
+  f-long : length f ≡ frameSize
+  f-long = length-encodeFrame batchPage 0 (w .pager .wal .header .salt) (canonical body) (canonical-length body bs does (appending-ok .short))
 
   salt-fits : w .pager .wal .header .salt < 2 ^ 32
   salt-fits = rw (k .it .held .salt) (k .it .held .on .log .written .salt)
@@ -95,16 +95,16 @@ module _ (w : World) (g : List ℕ) (b : Book) (z : List ℕ) (i : Inv w g b z) 
       ap (λ (s : ℕ). good s f) (sym (k .it .held .salt))
       ∙ good-batch 0 (w .pager .wal .header .salt) (canonical body) salt-fits ∙ canonical-decodes body bs does
 
-  f-page : pageOf f ≡ 4294967295
-  f-page = page-encoded 4294967295 0 (w .pager .wal .header .salt) (canonical body) (omega arith)
+  f-page : pageOf f ≡ batchPage
+  f-page = page-encoded batchPage 0 (w .pager .wal .header .salt) (canonical body) (omega arith)
 
   f-count : wal.countOf f ≡ 0
-  f-count = count-encoded 4294967295 0 (w .pager .wal .header .salt) (canonical body) (omega arith)
+  f-count = count-encoded batchPage 0 (w .pager .wal .header .salt) (canonical body) (omega arith)
 
   f-batch : batchIn (bodyOf f) ≡ batchIn body
   unfolding batchIn
   f-batch =
-      rw (body-back 4294967295 0 (w .pager .wal .header .salt) (canonical body), canonical-commitTs body bs does, canonical-records body bs does)
+      rw (body-back batchPage 0 (w .pager .wal .header .salt) (canonical body), canonical-commitTs body bs does, canonical-records body bs does)
 
   abbrev pub v : World
   v = world (withWal (w .pager) (withFrame (w .pager .wal) 0)) (w .table) (put (w .log) (w .pager .wal .len) f) (w .main)
@@ -128,7 +128,7 @@ module _ (w : World) (g : List ℕ) (b : Book) (z : List ℕ) (i : Inv w g b z) 
   again : k .S ++ (k .P ++ (f ∷ [])) ≡ k .S ++ k .P ++ (f ∷ [])
   again = sym (append-assoc (k .S) (k .P) (f ∷ []))
 
-  other : (n : ℕ) → n < 1024 → pageOf f ≡ n → ⊥
+  other : (n : ℕ) → n < pageLimit → pageOf f ≡ n → ⊥
   other n h e = omega (arith, f-page)
 
   resting : Resting v g (bookWait (batchIn body) b) (k .l) (k .S) (k .P ++ (f ∷ [])) (k .mh)

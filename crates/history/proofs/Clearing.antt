@@ -1,10 +1,10 @@
 -- Dropping what is staged. Assumes nothing.
 use mathlib.Core.Path.{_≡_, refl, sym, subst}
 use mathlib.Core.List.{List, []}
-use Prim.Native.Nat.{ℕ}
 use mathlib.Core.Option.{none}
+use Prim.Native.Nat.{ℕ}
 use Rattle.refusal.proofs.Rows.{accepted}
-use Rattle.pager_state.specs.World.{World, withStaged, noneStaged, busyRefusal}
+use Rattle.pager_state.specs.World.{World, busyRefusal, withStaged, noneStaged}
 use Rattle.pager_state.specs.Staging.{clearStaged}
 use Rattle.pager_state.specs.Stores.{diskOf}
 use Rattle.pager_state.specs.Steps.{onStore}
@@ -17,7 +17,7 @@ use Rattle.history.proofs.Opening.{re-book}
 use Rattle.history.proofs.Rest.{Resting, Some, Inv, held-disk}
 use Rattle.history.proofs.CommitSeal.{none-slots, none-staged}
 use Rattle.history.proofs.Running.{cut-none}
-use Rattle.history.proofs.Taken.{Taken, at-rest, rest-inv, rests-by}
+use Rattle.history.proofs.Taken.{Taken, rests-by, at-rest, rest-inv}
 
 -- ---- dropping what is staged
 

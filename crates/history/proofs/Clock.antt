@@ -2,14 +2,14 @@
 use mathlib.Core.Path.{_≡_, refl, sym, ap, _∙_, subst}
 use mathlib.Core.Bool.{Bool, true, false}
 use mathlib.Core.List.{List, []}
+use mathlib.Core.Option.{none}
 use Prim.Native.Nat.{ℕ, _^_, _<_}
 use lib.Dec.{leb}
-use mathlib.Core.Option.{none}
 use Rattle.le.specs.Choice.{pick}
 use Rattle.refusal.proofs.Rows.{accepted}
 use Rattle.wal.specs.Write.{withClock}
 use Rattle.wal.specs.declared.Wal.{Wal}
-use Rattle.pager_state.specs.World.{World, withWal, busyRefusal}
+use Rattle.pager_state.specs.World.{World, busyRefusal, withWal}
 use Rattle.pager_state.specs.Queries.{raised, observedBy, observeClock}
 use Rattle.pager_state.specs.Stores.{diskOf}
 use Rattle.pager_state.specs.Steps.{onStore}
@@ -21,7 +21,7 @@ use Rattle.history.specs.Calls.{Observe, refusedBy, storesOf, worldAfter
 use Rattle.history.specs.Run.{keptAfter}
 use Rattle.history.proofs.Rest.{Resting, Some, Inv, held-disk}
 use Rattle.history.proofs.Running.{cut-none}
-use Rattle.history.proofs.Taken.{Taken, at-rest, rest-inv, rests-by}
+use Rattle.history.proofs.Taken.{Taken, rests-by, at-rest, rest-inv}
 
 -- ---- the clock
 

@@ -12,17 +12,18 @@ use Rattle.le.specs.Choice.{both}
 use Rattle.le.specs.Le.{sameBytes}
 use Rattle.le.proofs.Tests.{le-or-lt, eq-or-not}
 use Rattle.le.proofs.Compare.{both-true}
+use Rattle.page.specs.Page.{pageSize}
 use Rattle.header.specs.declared.DbHeader.{DbHeader}
-use Rattle.frame.specs.Frame.{encodeFrame}
+use Rattle.frame.specs.Frame.{frameSize, encodeFrame}
 use Rattle.frame.proofs.Stores.{length-encodeFrame}
 use Rattle.frame.proofs.RoundTrip.{body-back}
-use Rattle.wal.specs.Recovery.{chunkAt, pageOf, good}
+use Rattle.wal.specs.Recovery.{chunkAt, pageOf, good, walArea}
 use Rattle.wal.specs.Recovery as wal
 use Rattle.wal.specs.Write.{longer, withFrame}
 use Rattle.wal.specs.declared.WalHeader.{WalHeader}
 use Rattle.wal.specs.declared.Wal.{Wal}
 use Rattle.wal.proofs.Frames.{page-encoded, count-encoded, good-page}
-use Rattle.pager_state.specs.World.{World}
+use Rattle.pager_state.specs.World.{World, pageLimit}
 use Rattle.pager_state.specs.Overlay.{isStaged, stagedBytes, committedBytes}
 use Rattle.pager_state.specs.Pages.{pagesFrom, differsIn, differs}
 use Rattle.pager_state.specs.Stores.{Disk, diskOf, Other, stored, putFile}
@@ -40,7 +41,7 @@ use Rattle.history.proofs.Rest.{Held, Tabled, Committing, Some, worldPa
 use Rattle.history.proofs.Append.{whole-store, whole-on, cut-ok}
 use Rattle.history.proofs.Stepping.{StepOk, todo-by, advance-by, table-entered, settled}
 
-pub framed-len : (v : Wal) (c : ℕ) → withFrame v c .len ≡ v .len + 4112
+pub framed-len : (v : Wal) (c : ℕ) → withFrame v c .len ≡ v .len + frameSize
 unfolding longer
 framed-len v c = refl
 
@@ -72,10 +73,10 @@ module _ (g : List ℕ) (w : World) (b : Book) (z : List ℕ) (h : DbHeader) (sa
   unfolding differsIn
   is-staged = both-true (isStaged (w .pager .staged) n) _ (first .holds) .0
 
-  bytes-long : length bytes ≡ 4096
+  bytes-long : length bytes ≡ pageSize
   bytes-long = staged-long (w .pager .staged) (c .held .slots) g n (c .held .stagingLong) is-staged
 
-  f-long : length f ≡ 4112
+  f-long : length f ≡ frameSize
   f-long = length-encodeFrame n 0 (saltOf w) bytes bytes-long
 
   small : n < 2 ^ 32
@@ -95,7 +96,7 @@ module _ (g : List ℕ) (w : World) (b : Book) (z : List ℕ) (h : DbHeader) (sa
   f-count : wal.countOf f ≡ 0
   f-count = count-encoded n 0 (saltOf w) bytes (omega arith)
 
-  room : w .pager .wal .len + 4112 ≤ 4210720
+  room : w .pager .wal .len + frameSize ≤ walArea
   room = omega (arith, c .room)
 
   at-is : w .pager .wal .len ≡ chunkAt (length fs)
@@ -107,7 +108,7 @@ module _ (g : List ℕ) (w : World) (b : Book) (z : List ℕ) (h : DbHeader) (sa
   disk-is : diskOf v ≡ stored (frameAct g w n) (diskOf w)
   unfolding framed putFile
   disk-is =
-      let e : w .pager .wal .len + 4112 ≡ max (w .pager .wal .len) (w .pager .wal .len + length f) = omega (arith, f-long) in
+      let e : w .pager .wal .len + frameSize ≡ max (w .pager .wal .len) (w .pager .wal .len + length f) = omega (arith, f-long) in
       λ i. record { main = diskOf w .main; log = same-file {f = record { area = stored (frameAct g w n) (diskOf w) .log .area; len = withFrame (w .pager .wal) 0 .len }} {g = stored (frameAct g w n) (diskOf w) .log} refl (framed-len (w .pager .wal) 0 ∙ e) i }
 
   on-after : OnDisk (diskOf v) b (k .l) (k .S) (k .P ++ (f ∷ [])) [] (k .mh)
@@ -148,11 +149,11 @@ module _ (g : List ℕ) (w : World) (b : Book) (z : List ℕ) (h : DbHeader) (sa
   unfolding framed
   main-after = refl
 
-  other-page : (m : ℕ) → m < 1024 → (m ≡ n → ⊥) → worldPage v m ≡ worldPage w m
+  other-page : (m : ℕ) → m < pageLimit → (m ≡ n → ⊥) → worldPage v m ≡ worldPage w m
   other-page m hm e =
       page-view held-after table-after m hm ∙ rw main-after (view-other m e) ∙ sym (page-view (c .held) (c .table) m hm)
 
-  differs-other : (m : ℕ) → m < 1024 → (m ≡ n → ⊥) → differs g v m ≡ differs g w m
+  differs-other : (m : ℕ) → m < pageLimit → (m ≡ n → ⊥) → differs g v m ≡ differs g w m
   unfolding differsIn framed
   differs-other m hm e =
       let q : committedBytes v m ≡ committedBytes w m = committed-bytes v m ∙ ap (λ (x : Option (List ℕ)). orGive x []) (other-page m hm e) ∙ sym (committed-bytes w m) in
@@ -162,7 +163,7 @@ module _ (g : List ℕ) (w : World) (b : Book) (z : List ℕ) (h : DbHeader) (sa
   pages-left =
       pages-same (differs g w) (differs g v) (suc n) (λ m a hm. differs-other m hm (λ e. omega arith)) ∙ first .rest
 
-  done-after : (m : ℕ) → m < 1024 → m < suc n → isStaged (w .pager .staged) m ≡ true → worldPage v m ≡ some (stagedBytes (w .pager .staged) g m)
+  done-after : (m : ℕ) → m < pageLimit → m < suc n → isStaged (w .pager .staged) m ≡ true → worldPage v m ≡ some (stagedBytes (w .pager .staged) g m)
   done-after m hm lt s = go (eq-or-not m n) (le-or-lt p m)
     where
       go : (m ≡ n) ⊎ (m ≡ n → ⊥) → (p ≤ m) ⊎ (m < p) → worldPage v m ≡ some (stagedBytes (w .pager .staged) g m)
@@ -180,18 +181,18 @@ module _ (g : List ℕ) (w : World) (b : Book) (z : List ℕ) (h : DbHeader) (sa
               last (inr r) = r
       go (inr e) (inr q) = other-page m hm e ∙ c .done m hm q s
 
-  unstaged-after : (m : ℕ) → m < 1024 → isStaged (w .pager .staged) m ≡ false → lastIn m (k .P ++ (f ∷ [])) ≡ none
+  unstaged-after : (m : ℕ) → m < pageLimit → isStaged (w .pager .staged) m ≡ false → lastIn m (k .P ++ (f ∷ [])) ≡ none
   unstaged-after m hm s =
       let ne : pageOf f ≡ m → ⊥ = λ e. let q : isStaged (w .pager .staged) m ≡ true = ap (isStaged (w .pager .staged)) (sym e ∙ f-page) ∙ is-staged in let zz : _≡_ {A = ℕ} 0 1 = cc in omega arith in
       last-other m (k .P) f ne ∙ c .unstaged m hm s
 
-  room-after : v .pager .wal .len + 4112 * (length (pagesFrom (differs g v) (suc n)) + 1) ≤ 4210720
+  room-after : v .pager .wal .len + frameSize * (length (pagesFrom (differs g v) (suc n)) + 1) ≤ walArea
   room-after = rw pages-left (omega (arith, c .room, ap length found, len-after))
     where
-      len-after : v .pager .wal .len ≡ w .pager .wal .len + 4112
+      len-after : v .pager .wal .len ≡ w .pager .wal .len + frameSize
       len-after = ap (λ (d : Disk). d .log .len) disk-is ∙ whole-len
         where
-          whole-len : stored (frameAct g w n) (diskOf w) .log .len ≡ w .pager .wal .len + 4112
+          whole-len : stored (frameAct g w n) (diskOf w) .log .len ≡ w .pager .wal .len + frameSize
           whole-len = ap (λ (d : Disk). d .log .len) (whole-store (c .held .on) f f-long f-good room Other false) ∙ omega (arith, f-long)
 
   after-ok : Committing h salt (suc n) v g b (k .l) (k .S) (k .P ++ (f ∷ [])) (k .mh)
@@ -238,7 +239,7 @@ module _ (g : List ℕ) (w : World) (b : Book) (z : List ℕ) (h : DbHeader) (sa
         next = v;
         todoIs = todo-is;
         nextIs = next-is;
-        lies = le-leb (w .pager .wal .len + length f) 4210720 (omega (arith, f-long, room));
+        lies = le-leb (w .pager .wal .len + length f) walArea (omega (arith, f-long, room));
         covers = (omega (arith, f-long), omega (arith, f-long));
         fine = step-fine (c .held);
         disk = disk-is;

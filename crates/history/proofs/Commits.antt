@@ -2,18 +2,18 @@
 use mathlib.Core.Path.{_≡_, refl, sym, ap, subst}
 use mathlib.Core.Bool.{true, false}
 use mathlib.Core.List.{List, []}
+use mathlib.Core.Option.{none}
 use Prim.Native.Nat.{ℕ, _^_, _≤_, _<_}
 use native.Mathlib.Omega.{arith}
 use borrow.Author.Tests.{leb-true, le-leb, lt-ltb, not-false}
 use lib.Dec.{leb}
-use mathlib.Core.Option.{none}
 use Rattle.le.proofs.Compare.{both-true}
 use Rattle.header.specs.declared.DbHeader.{DbHeader}
 use Rattle.pager_state.specs.World.{World, countOf, headerOf, withJob}
 use Rattle.pager_state.specs.Overlay.{isStaged, committedIn}
 use Rattle.pager_state.specs.Pages.{differsIn, lacks}
 use Rattle.pager_state.specs.Stores.{diskOf}
-use Rattle.pager_state.specs.Steps.{differing, lacking, beginCommit, commitRefusal, todo, steps, onStore, commitWorld}
+use Rattle.pager_state.specs.Steps.{differing, lacking, commitRefusal, beginCommit, todo, steps, mostSteps, onStore, commitWorld}
 use Rattle.pager_state.specs.declared.Job.the-variants as job
 use Rattle.pager_state.specs.declared.Pager.{Pager}
 use Rattle.pager_state.specs.declared.Staged.{Staged}
@@ -105,16 +105,16 @@ module _ (w : World) (g : List ℕ) (b : Book) (z : List ℕ) (i : Inv w g b z) 
         cut = cut-none [] (diskOf w) (give h b) z (held-disk held-begun (k .kept));
       }
 
-  pub run : RunOk g 2200 v (give h b) z (todo g v) (diskOf w)
-  run = run-ok g 2200 v (give h b) z (todo g v) (diskOf w) refl refl (commit-few g v h salt 0 (differing g w) refl) begun
+  pub run : RunOk g mostSteps v (give h b) z (todo g v) (diskOf w)
+  run = run-ok g mostSteps v (give h b) z (todo g v) (diskOf w) refl refl (commit-few g v h salt 0 (differing g w) refl) begun
 
   pub stores-is : storesOf (Commit h salt) w g ≡ todo g v
   unfolding storesOf
   stores-is = ap (λ (p : Pager). todo g (onStore w p)) pager-is
 
-  pub world-is : worldAfter (Commit h salt) w g ≡ steps g 2200 v
+  pub world-is : worldAfter (Commit h salt) w g ≡ steps g mostSteps v
   unfolding worldAfter commitWorld
-  world-is = rw taken (ap (λ (p : Pager). steps g 2200 (onStore w p)) pager-is)
+  world-is = rw taken (ap (λ (p : Pager). steps g mostSteps (onStore w p)) pager-is)
 
   pub commit-ok : Taken (Commit h salt) w g b z
   commit-ok = taken-by (Commit h salt) w g b z world-is stores-is (run .after) (run .cut)

@@ -8,10 +8,10 @@ use borrow.Author.Tests.{eqb-true, eq-eqb}
 use lib.Dec.{eqb}
 use lib.ListN.{length}
 use Rattle.wal.specs.Recovery.{chunkAt}
-use Rattle.le.proofs.Compare.{no-test}
 use Rattle.le.specs.Choice.{pick}
-use Rattle.refusal.proofs.Rows.{accepted}
+use Rattle.le.proofs.Compare.{no-test}
 use Rattle.refusal.specs.declared.Refusal.the-variants as refusal
+use Rattle.refusal.proofs.Rows.{accepted}
 use Rattle.pager_state.specs.World.{World}
 use Rattle.pager_state.specs.Stores.{diskOf, SetLen, Other}
 use Rattle.pager_state.specs.Opening.{openFine, openPager, openRefusal}

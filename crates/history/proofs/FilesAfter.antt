@@ -3,20 +3,21 @@ use mathlib.Core.Path.{_≡_, refl, sym, ap, _∙_}
 use mathlib.Core.Bool.{Bool, true, false}
 use mathlib.Core.List.{List, [], _∷_, _++_, append-assoc, append-nil}
 use mathlib.Core.Logic.{_⊎_, inl, inr}
+use mathlib.Core.Option.{Option, none, some}
 use Prim.Native.Nat.{ℕ, _+_, _^_, _<_}
 use native.Mathlib.Omega.{arith}
 use lib.ListN.{length, take, drop}
-use mathlib.Core.Option.{Option, none, some}
 use Rattle.le.specs.Le.{Bytes}
 use Rattle.refusal.specs.declared.Refusal.{Refusal}
 use Rattle.refusal.proofs.Rows.{accepted}
 use Rattle.header.specs.declared.DbHeader.{DbHeader}
+use Rattle.wal.specs.Header.{headerSize}
 use Rattle.wal.specs.Recovery.{chunkAt}
 use Rattle.pager_state.specs.World.{World, busyRefusal}
 use Rattle.pager_state.specs.Staging.{clearStaged}
 use Rattle.pager_state.specs.Stores.{Disk, content, diskOf, Batched, Sealed, Emptied, Other, Act, Put, SetLen, kindOf, stored, storedAll}
 use Rattle.pager_state.specs.Opening.{opensAs}
-use Rattle.pager_state.specs.Steps.{beginCommit, beginCheckpoint, todo, onStore, checkpointWorld, commitRefusal, checkpointBegins}
+use Rattle.pager_state.specs.Steps.{commitRefusal, beginCommit, checkpointBegins, beginCheckpoint, todo, onStore, checkpointWorld}
 use Rattle.pager_state.specs.declared.AccessMode.{AccessMode}
 use Rattle.pager_state.specs.declared.AccessMode.the-variants as mode
 use Rattle.pager_state.proofs.Made.{Made}
@@ -140,7 +141,7 @@ files-after t l m g salt f small es typed c k e =
 
 -- one store
 grows : (a : Act) (d : Disk) (z : List ℕ) → (kindOf a ≡ Emptied → ⊥) → (more : List ℕ) × (keptBy a d z ≡ z ++ more)
-grows (Put Sealed f at bs flush) d z n = (drop (32 + length z) (take (at + length bs) (content (d .log))), refl)
+grows (Put Sealed f at bs flush) d z n = (drop (headerSize + length z) (take (at + length bs) (content (d .log))), refl)
 grows (Put Batched f at bs flush) d z n = ([], sym (append-nil z))
 grows (Put Emptied f at bs flush) d z n = absurd (n refl)
 grows (Put Other f at bs flush) d z n = ([], sym (append-nil z))

@@ -2,16 +2,16 @@
 use mathlib.Core.Path.{_≡_, refl, sym, ap, _∙_, subst}
 use mathlib.Core.Bool.{Bool, true, false, not}
 use mathlib.Core.List.{List, []}
+use mathlib.Core.Option.{none}
 use Prim.Native.Nat.{ℕ, _^_, _<_}
 use native.Mathlib.Omega.{arith}
-use mathlib.Core.Option.{none}
-use Rattle.refusal.proofs.Judged.{met}
 use Rattle.refusal.specs.declared.Refusal.the-variants as refusal
+use Rattle.refusal.proofs.Judged.{met}
 use Rattle.pager_state.specs.World.{World, busy, withJob}
 use Rattle.pager_state.specs.Stores.{diskOf, stored}
 use Rattle.pager_state.specs.Fold.{foldTodo}
 use Rattle.pager_state.specs.Commit.{commitTodo}
-use Rattle.pager_state.specs.Steps.{stepFine, nothingToFold, folding, beginCheckpoint, checkpointRefusal, todo, steps, onStore, checkpointWorld}
+use Rattle.pager_state.specs.Steps.{nothingToFold, checkpointRefusal, folding, beginCheckpoint, todo, stepFine, steps, mostSteps, onStore, checkpointWorld}
 use Rattle.pager_state.specs.declared.Job.the-variants as job
 use Rattle.pager_state.specs.declared.Pager.{Pager}
 use Rattle.pager_state.proofs.Begun.{off, not-busy, begun-checkpoint, begins}
@@ -67,8 +67,8 @@ module _ (w : World) (g : List ℕ) (b : Book) (z : List ℕ) (i : Inv w g b z) 
   begun : Inv v g b z
   begun = record { l = k .l; S = k .S; P = k .P; mh = k .mh; it = folding-ok; kept = k .kept }
 
-  run : RunOk g 2200 v b z (todo g v) (diskOf w)
-  run = run-ok g 2200 v b z (todo g v) (diskOf w) refl refl (fold-few g v salt 0 (folding w) refl) begun
+  run : RunOk g mostSteps v b z (todo g v) (diskOf w)
+  run = run-ok g mostSteps v b z (todo g v) (diskOf w) refl refl (fold-few g v salt 0 (folding w) refl) begun
 
   disk-now : DiskOk (diskOf w) b z
   disk-now = held-disk (k .it .held) (k .kept)
@@ -103,9 +103,9 @@ module _ (w : World) (g : List ℕ) (b : Book) (z : List ℕ) (i : Inv w g b z) 
   unfolding storesOf
   stores-none e = ap (λ (p : Pager). todo g (onStore w p)) (pager-stays e) ∙ no-stores
 
-  world-is : nothingToFold w ≡ false → worldAfter (Checkpoint salt) w g ≡ steps g 2200 v
+  world-is : nothingToFold w ≡ false → worldAfter (Checkpoint salt) w g ≡ steps g mostSteps v
   unfolding worldAfter checkpointWorld
-  world-is e = rw (taken, e) (ap (λ (p : Pager). steps g 2200 (onStore w p)) (pager-is e))
+  world-is e = rw (taken, e) (ap (λ (p : Pager). steps g mostSteps (onStore w p)) (pager-is e))
 
   world-stays : nothingToFold w ≡ true → worldAfter (Checkpoint salt) w g ≡ w
   unfolding worldAfter checkpointWorld

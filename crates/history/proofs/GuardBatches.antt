@@ -2,24 +2,28 @@
 use mathlib.Core.Path.{_≡_, sym, ap, _∙_}
 use mathlib.Core.Bool.{true}
 use mathlib.Core.List.{List, [], _∷_, _++_}
+use mathlib.Core.Option.{none}
 use Prim.Native.Nat.{ℕ, zero, suc, _+_, _*_, _^_, _≤_, _<_}
 use native.Mathlib.Omega.{arith}
 use borrow.Author.Tests.{le-leb}
 use lib.ListN.{length, replicate}
-use mathlib.Core.Option.{none}
 use Rattle.le.specs.Le.{put, Bytes}
 use Rattle.le.proofs.Stores.{length-put}
 use Rattle.le.proofs.Compare.{no-test}
-use Rattle.refusal.proofs.Rows.{accepted}
-use Rattle.refusal.specs.declared.Refusal.the-variants as refusal
+use Rattle.page.specs.Page.{pageSize}
 use Rattle.refusal.specs.Refusal.{numberOf}
+use Rattle.refusal.specs.declared.Refusal.the-variants as refusal
+use Rattle.refusal.proofs.Rows.{accepted}
 use Rattle.header.specs.declared.DbHeader.{DbHeader}
+use Rattle.frame.specs.Frame.{frameSize}
 use Rattle.frame.proofs.Stores.{length-encodeFrame}
 use Rattle.mvcc.specs.Seen.{refusalOf, decodes, canonical}
-use Rattle.mvcc.proofs.Canonical.{canonical-length, decodes-zero, decodes-none}
+use Rattle.mvcc.proofs.Canonical.{decodes-none, decodes-zero, canonical-length}
+use Rattle.wal.specs.Header.{headerSize}
+use Rattle.wal.specs.Recovery.{batchPage, walArea}
 use Rattle.wal.specs.Write.{longer, withFrame}
 use Rattle.pager_state.specs.World.{World, world, countOf, withWal}
-use Rattle.pager_state.specs.Batches.{batchFrame, appendBatch, appendAfter, appendRefusal}
+use Rattle.pager_state.specs.Batches.{appendRefusal, batchFrame, appendBatch, appendAfter}
 use Rattle.pager_state.specs.Opening.{createFine}
 use Rattle.pager_state.specs.Steps.{differing, commitWorld, commitStart, commitRefusal}
 use Rattle.pager_state.specs.declared.CommitStart.the-variants as commit
@@ -30,7 +34,7 @@ use Rattle.history.specs.Calls.{Append, Commit, Words, refusedBy, worldA
 use Rattle.history.specs.Run.{Run, whole, Whole, next, start}
 use Rattle.history.specs.Demand3.{Demand3}
 use Rattle.history.specs.Guards.{newStore, GoodHeader, Joined, Unrefused, UnrefusedBatch, LongerBy, Empty, Ends, after, Accepted, sealedBatch, framesAfter, Returned, Recovers, Filled}
-use Rattle.history.proofs.GuardRefusals.{told-full, unrefused-batch, batch-told-full, unrefused, none-begun}
+use Rattle.history.proofs.GuardRefusals.{told-full, none-begun, unrefused, unrefused-batch, batch-told-full}
 use Rattle.history.proofs.GuardCommit.{seal-idle, commit-ends}
 use Rattle.history.proofs.GuardNew.{fine-create, none-staged, none-differ, new-unrefused, new-made, new-count, new-none, new-len, new-frames}
 use Rattle.history.proofs.GuardHistories.{made-history}
@@ -75,7 +79,7 @@ module _ (d : Demand3) (t l m g : List ℕ) (salt : ℕ) (f : createFine t l m g
 
 -- a body that can be appended
 pub record Good (body : List ℕ) : Type 0 where
-  pub page : length body ≤ 4096
+  pub page : length body ≤ pageSize
   pub bytes : Bytes body
   pub decoded : decodes body ≡ true
 
@@ -85,7 +89,7 @@ good-refusal body k = decodes-zero body (k .decoded)
 -- no refusal but 15 of a commit, nothing staged, k frames
 pub record Ready (h : DbHeader) (k : ℕ) (r : Run) : Type 0 where
   pub unrefused : Unrefused (r .staging) (r .world) h
-  pub logFile : r .world .pager .wal .len ≡ 32 + 4112 * k
+  pub logFile : r .world .pager .wal .len ≡ headerSize + frameSize * k
   pub unstaged : r .world .pager .staged .count ≡ 0
   pub frames : r .world .pager .wal .«frame_count» ≡ k
 
@@ -108,9 +112,9 @@ module _ (h : DbHeader) (k : ℕ) (r : Run) (u : Ready h k r) (body : List ℕ) 
   module _ (low : k < 1024) where
     append-none : appendRefusal (r .world .pager) (r .world .log) body ≡ none
     append-none =
-        let room : r .world .pager .wal .len + 4112 ≤ 4210720 = omega (arith, u .logFile) in
+        let room : r .world .pager .wal .len + frameSize ≤ walArea = omega (arith, u .logFile) in
         unrefused-batch (r .world .pager) (r .world .log) body unrefused-by
-        ∙ rw (le-leb (r .world .pager .wal .len + 4112) 4210720 room) (decodes-none body (b .decoded))
+        ∙ rw (le-leb (r .world .pager .wal .len + frameSize) walArea room) (decodes-none body (b .decoded))
 
     append-taken : Accepted (Append body) r
     unfolding refusedBy
@@ -125,10 +129,10 @@ module _ (h : DbHeader) (k : ℕ) (r : Run) (u : Ready h k r) (body : List ℕ) 
     unfolding worldAfter appendBatch appendAfter
     append-world = world-after (Append body) r ∙ rw append-none
 
-    append-long : length (appendedWorld .log) ≡ 4210720
+    append-long : length (appendedWorld .log) ≡ walArea
     unfolding batchFrame
     append-long =
-        let n = length-encodeFrame 4294967295 0 (r .world .pager .wal .header .salt) (canonical body) (canonical-length body (b .bytes) (b .decoded) (b .page)) in
+        let n = length-encodeFrame batchPage 0 (r .world .pager .wal .header .salt) (canonical body) (canonical-length body (b .bytes) (b .decoded) (b .page)) in
         length-put (r .world .log) (r .world .pager .wal .len) (batchFrame (r .world .pager) body) (omega (arith, n, u .logFile, u .unrefused .areas .log)) ∙ u .unrefused .areas .log
 
     append-ready : Ready h (suc k) (whole (Append body) r)
@@ -137,7 +141,7 @@ module _ (h : DbHeader) (k : ℕ) (r : Run) (u : Ready h k r) (body : List ℕ) 
         let x = u .unrefused in
         let e = append-world in
         let y : whole (Append body) r .staging ≡ r .staging = staging-after (Append body) r in
-        let room : r .world .pager .wal .len + 4112 ≤ 4210720 = omega (arith, u .logFile) in
+        let room : r .world .pager .wal .len + frameSize ≤ walArea = omega (arith, u .logFile) in
         record {
           unrefused = rw (e, y)
               (record {

@@ -16,7 +16,7 @@ use Rattle.pager_state.specs.Opening.{openStores}
 use Rattle.pager_state.specs.Pages.{pagesFrom, differsIn, differs, folds}
 use Rattle.pager_state.specs.Fold.{paged, pagesTodo, foldTodo}
 use Rattle.pager_state.specs.Commit.{framed, sealedWorld, framesTodo, commitTodo}
-use Rattle.pager_state.specs.Steps.{differing, folding, beginCheckpoint, todo, onStore, checkpointBegins}
+use Rattle.pager_state.specs.Steps.{differing, checkpointBegins, folding, beginCheckpoint, todo, onStore}
 use Rattle.pager_state.specs.declared.AccessMode.the-variants as mode
 use Rattle.pager_state.specs.declared.Job.{Job}
 use Rattle.pager_state.specs.declared.Job.the-variants as job

@@ -14,7 +14,7 @@ use Rattle.refusal.specs.Refusal.{number, numberOf}
 use Rattle.refusal.specs.declared.Refusal.{Refusal}
 use Rattle.mvcc.specs.Answer.{Answer, taken, refused, then, many}
 use Rattle.mvcc.specs.Decode.{fitsIn, numAt, textOf, textAt, integerAt, realAt, textValueAt, boolAt, vectorAt, taggedAt, valueAt, columnAt, presentAt, judgedAt, recordAt, recordsAt, batchEnd, batchOf}
-use Rattle.mvcc.specs.Seen.{headingRefusal, refusalIn, decodeRefusal, refusalOf}
+use Rattle.mvcc.specs.Seen.{refusalIn, decodeRefusal, refusalOf, headingRefusal}
 use Rattle.mvcc.specs.declared.RowID.{RowID}
 use Rattle.mvcc.specs.declared.MvccLogRecord.{MvccLogRecord}
 

@@ -2,7 +2,7 @@
 use mathlib.Core.Path.{_≡_, sym, ap, _∙_}
 use mathlib.Core.Bool.{Bool, true, false}
 use mathlib.Core.List.{List}
-use mathlib.Core.Option.{some, none}
+use mathlib.Core.Option.{none, some}
 use Prim.Native.Nat.{ℕ, _+_, _*_, _^_, _<_}
 use native.Mathlib.Omega.{arith}
 use borrow.Author.Tests.{eq-eqb, ne-eqb}
@@ -14,11 +14,11 @@ use Rattle.le.proofs.Stores.{length-put}
 use Rattle.page.specs.Page.{pageSize}
 use Rattle.refusal.specs.Refusal.{numberOf}
 use Rattle.header.specs.declared.DbHeader.{DbHeader}
-use Rattle.pager_state.specs.World.{World, countOf, headerOf, readOnly, readOnlyBy, stagingArea, busy}
-use Rattle.pager_state.specs.Overlay.{pageFrom, slotOf, inLog, onMain, below, placePage, findPage, readRefusal}
-use Rattle.pager_state.specs.Staging.{slotted, stageRefusal, stagedAfter, stagingAfter}
+use Rattle.pager_state.specs.World.{World, stagingArea, stagedLimit, countOf, headerOf, busy, readOnlyBy, readOnly}
+use Rattle.pager_state.specs.Overlay.{pageFrom, slotOf, inLog, onMain, below, placePage, readRefusal, findPage}
+use Rattle.pager_state.specs.Staging.{stageRefusal, slotted, stagedAfter, stagingAfter}
 use Rattle.pager_state.specs.Opening.{createFine}
-use Rattle.pager_state.specs.Steps.{differing, nothingToFold, checkpointStart, beginCheckpoint, todo, checkpointWorld, stepFine, onStore, commitWorld, commitRefusal, checkpointRefusal, checkpointBegins}
+use Rattle.pager_state.specs.Steps.{differing, commitRefusal, nothingToFold, checkpointRefusal, checkpointStart, checkpointBegins, beginCheckpoint, todo, stepFine, onStore, commitWorld, checkpointWorld}
 use Rattle.pager_state.specs.declared.Staged.{Staged}
 use Rattle.pager_state.specs.declared.Job.the-variants as job
 use Rattle.pager_state.specs.declared.CheckpointStart.the-variants as checkpoint
@@ -42,22 +42,22 @@ use Rattle.history.proofs.GuardPages.{some-same, none-some, reads-back}
 
 module _ (w : World) (g : List ℕ) (n : ℕ) (f : stepFine g w ≡ true) (i : w .pager .job ≡ job.Idle) (z : w .pager .staged .count ≡ 0)
     (l : inLog (w .table) n ≡ false) where
-  found-main : findPage w g n ≡ pick (leb (countOf (headerOf (w .pager))) n) found.Nothing (pick (onMain (w .table) n) (found.Main (4096 * n)) found.Nothing)
+  found-main : findPage w g n ≡ pick (leb (countOf (headerOf (w .pager))) n) found.Nothing (pick (onMain (w .table) n) (found.Main (pageSize * n)) found.Nothing)
   unfolding findPage readRefusal placePage below
   found-main = rw (f, i, none-staged w z n, l)
 
-  main-by : (bytes : List ℕ) (a b : Bool) → readingAt w g (pick a found.Nothing (pick b (found.Main (4096 * n)) found.Nothing)) ≡ some bytes
-      → pageFrom (4096 * n) (w .main) ≡ bytes
+  main-by : (bytes : List ℕ) (a b : Bool) → readingAt w g (pick a found.Nothing (pick b (found.Main (pageSize * n)) found.Nothing)) ≡ some bytes
+      → pageFrom (pageSize * n) (w .main) ≡ bytes
   main-by bytes true b e = none-some bytes e
   main-by bytes false true e = some-same _ bytes e
   main-by bytes false false e = none-some bytes e
 
-  read-main : (bytes : List ℕ) → readingAt w g (findPage w g n) ≡ some bytes → pageFrom (4096 * n) (w .main) ≡ bytes
+  read-main : (bytes : List ℕ) → readingAt w g (findPage w g n) ≡ some bytes → pageFrom (pageSize * n) (w .main) ≡ bytes
   read-main bytes e = main-by bytes (leb (countOf (headerOf (w .pager))) n) (onMain (w .table) n) (sym (ap (readingAt w g) found-main) ∙ e)
 
 -- ---- staging it
 
-module _ (t l m g : List ℕ) (salt : ℕ) (f : createFine t l m g ≡ true) (bytes : List ℕ) (long : length bytes ≡ 4096) where
+module _ (t l m g : List ℕ) (salt : ℕ) (f : createFine t l m g ≡ true) (bytes : List ℕ) (long : length bytes ≡ pageSize) where
   abbrev new : Run
   new = start t l m g salt
 
@@ -68,7 +68,7 @@ module _ (t l m g : List ℕ) (salt : ℕ) (f : createFine t l m g ≡ true) (by
   unfolding slotOf
   slot-first = rw (new-none t l m g salt f)
 
-  new-long : length (new .staging) ≡ 262144
+  new-long : length (new .staging) ≡ stagingArea
   unfolding start
   new-long = fine-create t l m g f .staging
 
@@ -95,7 +95,7 @@ module _ (t l m g : List ℕ) (salt : ℕ) (f : createFine t l m g ≡ true) (by
   unfolding stagingAfter
   staged-staging = staging-after (Stage 1 bytes) new ∙ rw (stage-none, slot-first)
 
-  staging-long : length (staged .staging) ≡ 262144
+  staging-long : length (staged .staging) ≡ stagingArea
   staging-long = ap length staged-staging ∙ length-put (new .staging) 0 bytes (omega (arith, new-long)) ∙ new-long
 
   -- ---- committing it
@@ -104,7 +104,7 @@ module _ (t l m g : List ℕ) (salt : ℕ) (f : createFine t l m g ≡ true) (by
     first-begun : commitRefusal (staged .staging) (staged .world) h ≡ none
     unfolding slotted
     first-begun =
-        let z : length (slots .pages) ≡ 64 = length-set (w .pager .staged .pages) (slotOf (w .pager .staged) 1) 1 ∙ new-made t l m g salt f .slots in
+        let z : length (slots .pages) ≡ stagedLimit = length-set (w .pager .staged .pages) (slotOf (w .pager .staged) 1) 1 ∙ new-made t l m g salt f .slots in
         rw staged-world
         (new-begun t l m g salt f slots z h k (λ n a b c. absurd (omega (arith, new-count t l m g salt f, b, c, two))) (staged .staging) staging-long)
 
@@ -181,7 +181,7 @@ module _ (t l m g : List ℕ) (salt : ℕ) (f : createFine t l m g ≡ true) (by
           rw folded-world (fold-leaves (committed .staging) (committed .world) last (u .0) (u .1 (first-longer .rests)) fold-begins)
 
       -- no page is staged or in the log: it is read from the main file
-      in-main : reading folded 1 ≡ some bytes → pageFrom 4096 (folded .world .main) ≡ bytes
+      in-main : reading folded 1 ≡ some bytes → pageFrom pageSize (folded .world .main) ≡ bytes
       in-main e =
           let fine : stepFine (folded .staging) (folded .world) ≡ true = rw (staging-after (Checkpoint last) committed) (fold-done .ready .right) in
           let unstaged : folded .world .pager .staged .count ≡ 0 = rw (fold-to .staged) (first-longer .unstaged) in

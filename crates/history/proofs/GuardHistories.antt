@@ -2,14 +2,14 @@
 use mathlib.Core.Path.{_≡_, refl}
 use mathlib.Core.Bool.{Bool, true, false}
 use mathlib.Core.List.{List, [], _∷_}
-use Prim.Native.Nat.{ℕ}
 use mathlib.Core.Option.{Option, none, some}
+use Prim.Native.Nat.{ℕ}
 use Rattle.refusal.specs.declared.Refusal.{Refusal}
 use Rattle.header.specs.declared.DbHeader.{DbHeader}
 use Rattle.pager_state.specs.World.{World}
 use Rattle.pager_state.specs.Stores.{Disk}
 use Rattle.pager_state.specs.Opening.{openTable, openLogArea}
-use Rattle.pager_state.specs.Steps.{beginCommit, beginCheckpoint, onStore, commitWorld, checkpointWorld, commitRefusal, checkpointBegins, mostSteps}
+use Rattle.pager_state.specs.Steps.{commitRefusal, beginCommit, checkpointBegins, beginCheckpoint, mostSteps, onStore, commitWorld, checkpointWorld}
 use Rattle.pager_state.specs.declared.AccessMode.{AccessMode}
 use Rattle.pager_state.specs.declared.AccessMode.the-variants as mode
 use Rattle.pager_state.specs.Opened.{Opens}

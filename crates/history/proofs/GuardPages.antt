@@ -13,7 +13,7 @@ use Rattle.pager_state.specs.World.{World, countOf, busyWith}
 use Rattle.pager_state.specs.Overlay.{findPage, readPage, bytesAt}
 use Rattle.pager_state.specs.Queries.{header}
 use Rattle.pager_state.specs.Opening.{createFine}
-use Rattle.pager_state.specs.Steps.{checkpointWorld, checkpointBegins}
+use Rattle.pager_state.specs.Steps.{checkpointBegins, checkpointWorld}
 use Rattle.pager_state.specs.declared.AccessMode.the-variants as mode
 use Rattle.pager_state.specs.declared.Job.the-variants as job
 use Rattle.pager_state.specs.declared.PageFound.{PageFound}

@@ -4,31 +4,31 @@ use mathlib.Core.Path.{_≡_, refl, sym, ap, _∙_}
 use mathlib.Core.Bool.{Bool, true, false, not}
 use mathlib.Core.List.{List}
 use mathlib.Core.Logic.{_⊎_, inl, inr}
+use mathlib.Core.Option.{Option, none, some}
 use Prim.Native.Nat.{ℕ, _+_, _*_, _≤_, _<_}
 use native.Mathlib.Omega.{arith}
 use borrow.Author.Tests.{leb-true, leb-false, ltb-true, le-leb, lt-leb, lt-ltb, eq-eqb, not-true, not-false, eqb-true}
 use lib.Dec.{leb, ltb, eqb}
 use lib.ListN.{length}
-use mathlib.Core.Option.{Option, none, some}
 use Rattle.le.specs.Choice.{pick, both}
+use Rattle.le.specs.Le.{field}
 use Rattle.le.proofs.Compare.{no-test, both-true}
 use Rattle.le.proofs.Tests.{le-or-lt}
-use Rattle.le.specs.Le.{field}
 use Rattle.page.specs.Page.{pageSize}
 use Rattle.refusal.specs.Refusal.{number, unless, first, numberOf, answered}
 use Rattle.refusal.specs.declared.Refusal.{Refusal}
 use Rattle.refusal.specs.declared.Refusal.the-variants as refusal
-use Rattle.refusal.proofs.Judged.{met, resulted}
 use Rattle.refusal.proofs.Rows.{numbered}
+use Rattle.refusal.proofs.Judged.{met, resulted}
 use Rattle.header.specs.Header.{isVersion}
 use Rattle.header.specs.declared.DbHeader.{DbHeader}
 use Rattle.frame.specs.Frame.{frameSize}
+use Rattle.mvcc.specs.Decode.{magic}
 use Rattle.mvcc.specs.Seen.{decodeRefusal, headingRefusal}
 use Rattle.mvcc.proofs.Heading.{heading-none}
-use Rattle.mvcc.specs.Decode.{magic}
-use Rattle.wal.specs.Write.{hasRoom}
 use Rattle.wal.specs.Recovery.{walArea}
-use Rattle.pager_state.specs.World.{World, pageLimit, countOf, headerOf, busy, readOnly, logFine}
+use Rattle.wal.specs.Write.{hasRoom}
+use Rattle.pager_state.specs.World.{World, pageLimit, countOf, headerOf, logFine, busy, readOnly}
 use Rattle.pager_state.specs.Overlay.{isStaged}
 use Rattle.pager_state.specs.Pages.{pagesFrom, firstOf, lacks}
 use Rattle.pager_state.specs.Batches.{appendRefusal, appendBatch}
@@ -40,7 +40,7 @@ use Rattle.pager_state.specs.declared.BatchAnswer.the-variants as append
 use Rattle.pager_state.proofs.Searches.{no-lowest, lowest, pages-none}
 use Rattle.pager_state.proofs.Made.{Fine, ready-fine, fine-ready}
 use Rattle.pager_state.proofs.Before.{stands-frame, before-staged, staged-before}
-use Rattle.pager_state.proofs.Begun.{not-busy, off}
+use Rattle.pager_state.proofs.Begun.{off, not-busy}
 use Rattle.history.specs.Guards.{GoodHeader, Joined, Unrefused, Full, UnrefusedBatch}
 use Rattle.history.proofs.GuardDecoding.{decoding-late, decoding-number}
 

@@ -2,16 +2,16 @@
 use mathlib.Core.Path.{_≡_, refl, ap}
 use mathlib.Core.Bool.{Bool, true, false, not}
 use mathlib.Core.List.{List}
+use mathlib.Core.Option.{Option, none}
 use Prim.Native.Nat.{ℕ, _+_}
 use native.Mathlib.Omega.{arith}
 use lib.Dec.{leb}
-use mathlib.Core.Option.{Option, none}
-use Rattle.refusal.specs.Refusal.{number, numberOf, unless}
+use Rattle.refusal.specs.Refusal.{number, unless, numberOf}
 use Rattle.refusal.specs.declared.Refusal.{Refusal}
 use Rattle.refusal.specs.declared.Refusal.the-variants as refusal
 use Rattle.header.specs.declared.DbHeader.{DbHeader}
-use Rattle.pager_state.specs.World.{World, busy, readOnly, pageLimit}
-use Rattle.pager_state.specs.Steps.{headerGood, differing, lacking, roomFor, tableFits, commitStart, commitRefusal, stepFine, commitFine}
+use Rattle.pager_state.specs.World.{World, pageLimit, busy, readOnly}
+use Rattle.pager_state.specs.Steps.{headerGood, differing, lacking, roomFor, tableFits, commitFine, commitRefusal, commitStart, stepFine}
 use Rattle.pager_state.specs.declared.Job.the-variants as job
 use Rattle.pager_state.specs.declared.CommitStart.the-variants as commit
 use Rattle.pager_state.proofs.Before.{staged-before}

@@ -12,10 +12,10 @@ use Rattle.pager_state.specs.World.{mainArea, stagingArea, pageLimit}
 use Rattle.history.specs.Run.{start}
 use Rattle.history.specs.Guards.{zeros, zeroAreas, Met, LogFullGuard, BegunGuard, BatchFullGuard, CommitGuard, CommitEndsGuard, EmptyCommitGuard, FoldGuard, SoundGuard, TableGuard, OpeningGuard, HeaderGuard, PageGuard, NewPageGuard, BatchGuard, NewBatchGuard, FilledGuard, BodyGuard}
 use Rattle.history.proofs.Demand3Holds.{demand3}
-use Rattle.history.proofs.GuardRefusals.{full-told, told-full, begun-told, told-begun, batch-full-told, batch-told-full, none-begun, begun-none}
-use Rattle.history.proofs.GuardFold.{fold-leaves, fold-answer, start-begins}
+use Rattle.history.proofs.GuardRefusals.{full-told, told-full, begun-none, none-begun, begun-told, told-begun, batch-full-told, batch-told-full}
+use Rattle.history.proofs.GuardFold.{start-begins, fold-leaves, fold-answer}
 use Rattle.history.proofs.GuardCommit.{commit-ends}
-use Rattle.history.proofs.GuardNew.{new-begun, new-made, made-framed, committed-alone}
+use Rattle.history.proofs.GuardNew.{made-framed, new-made, new-begun, committed-alone}
 use Rattle.history.proofs.GuardHistories.{made-history}
 use Rattle.history.proofs.GuardTable.{table-taken}
 use Rattle.history.proofs.GuardReached.{reached-after, opening-taken}

@@ -14,7 +14,7 @@ use Rattle.pager_state.specs.World.{pageLimit}
 -- n is the first from p on, and ns are those behind it
 pub record First (f : ℕ → Bool) (p n : ℕ) (ns : List ℕ) : Type 0 where
   pub low : p ≤ n
-  pub high : n < 1024
+  pub high : n < pageLimit
   pub holds : f n ≡ true
   pub before : (m : ℕ) → p ≤ m → m < n → f m ≡ false
   pub rest : pagesFrom f (suc n) ≡ ns
@@ -63,8 +63,8 @@ module _ (f : ℕ → Bool) where
   pub pages-first : (p n : ℕ) (ns : List ℕ) → pagesFrom f p ≡ n ∷ ns → First f p n ns
   unfolding pagesFrom
   pages-first p n ns e =
-      let r = among-first (1024 - p) p n ns e in
-      let z : p + (1024 - p) - suc n ≡ 1024 - suc n = omega (arith, r .low, r .high) in
+      let r = among-first (pageLimit - p) p n ns e in
+      let z : p + (pageLimit - p) - suc n ≡ pageLimit - suc n = omega (arith, r .low, r .high) in
       record { low = r .low; high = omega (arith, r .low, r .high); holds = r .holds; before = r .before; rest = rw z at (r .rest) }
 
   among-none : (k p : ℕ) → among f k p ≡ [] → (m : ℕ) → p ≤ m → m < p + k → f m ≡ false
@@ -78,9 +78,9 @@ module _ (f : ℕ → Bool) where
       go false h q later (inl c) = let j : p ≡ m = omega arith in rw j at h
       go false h q later (inr c) = later q m c (omega arith)
 
-  pub pages-none : (p : ℕ) → pagesFrom f p ≡ [] → (m : ℕ) → p ≤ m → m < 1024 → f m ≡ false
+  pub pages-none : (p : ℕ) → pagesFrom f p ≡ [] → (m : ℕ) → p ≤ m → m < pageLimit → f m ≡ false
   unfolding pagesFrom
-  pages-none p e m a b = among-none (1024 - p) p e m a (omega arith)
+  pages-none p e m a b = among-none (pageLimit - p) p e m a (omega arith)
 
   among-most : (k p : ℕ) → length (among f k p) ≤ k
   unfolding among
@@ -91,16 +91,16 @@ module _ (f : ℕ → Bool) where
       go true h = omega arith
       go false h = omega arith
 
-  pub pages-most : (p : ℕ) → length (pagesFrom f p) ≤ 1024
+  pub pages-most : (p : ℕ) → length (pagesFrom f p) ≤ pageLimit
   unfolding pagesFrom
-  pages-most p = omega (arith, among-most (1024 - p) p)
+  pages-most p = omega (arith, among-most (pageLimit - p) p)
 
   -- none is the first
   first-none : (ns : List ℕ) → pagesFrom f 0 ≡ ns → pageLimit ≤ firstOf ns → pagesFrom f 0 ≡ []
   first-none [] e h = e
   first-none (n ∷ ns) e h = absurd (omega (arith, h, pages-first 0 n ns e .high))
 
-  pub none-first : pageLimit ≤ firstOf (pagesFrom f 0) → (m : ℕ) → m < 1024 → f m ≡ false
+  pub none-first : pageLimit ≤ firstOf (pagesFrom f 0) → (m : ℕ) → m < pageLimit → f m ≡ false
   none-first h m b = pages-none 0 (first-none (pagesFrom f 0) refl h) m (omega arith) b
 
 among-same : (f g : ℕ → Bool) (k p : ℕ) → ((m : ℕ) → p ≤ m → m < p + k → g m ≡ f m) → among g k p ≡ among f k p
@@ -110,6 +110,6 @@ among-same f g (suc k) p h =
     let e : g p ≡ f p = h p (omega arith) (omega arith) in
     rw (e, among-same f g k (suc p) (λ m a b. h m (omega arith) (omega arith)))
 
-pub pages-same : (f g : ℕ → Bool) (p : ℕ) → ((m : ℕ) → p ≤ m → m < 1024 → g m ≡ f m) → pagesFrom g p ≡ pagesFrom f p
+pub pages-same : (f g : ℕ → Bool) (p : ℕ) → ((m : ℕ) → p ≤ m → m < pageLimit → g m ≡ f m) → pagesFrom g p ≡ pagesFrom f p
 unfolding pagesFrom
-pages-same f g p h = among-same f g (1024 - p) p (λ m a b. h m a (omega arith))
+pages-same f g p h = among-same f g (pageLimit - p) p (λ m a b. h m a (omega arith))

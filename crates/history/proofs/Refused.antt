@@ -2,20 +2,20 @@
 use mathlib.Core.Path.{_≡_, refl}
 use mathlib.Core.Bool.{Bool, true, false}
 use mathlib.Core.List.{List, [], _∷_}
+use mathlib.Core.Option.{Option, none, some}
 use Prim.Native.Nat.{ℕ}
 use borrow.Author.Tests.{ne-eqb}
-use mathlib.Core.Option.{Option, none, some}
 use Rattle.le.specs.Choice.{pick}
 use Rattle.refusal.specs.Refusal.{accepts, numberOf}
 use Rattle.refusal.specs.declared.Refusal.{Refusal}
 use Rattle.refusal.specs.declared.Refusal.the-variants as refusal
 use Rattle.pager_state.specs.World.{World, busy, busyRefusal}
-use Rattle.pager_state.specs.Staging.{stageRefusal, clearStaged, stagedAfter}
+use Rattle.pager_state.specs.Staging.{stageRefusal, stagedAfter, clearStaged}
 use Rattle.pager_state.specs.Queries.{observeClock}
 use Rattle.pager_state.specs.Batches.{appendRefusal, appendBatch, appendAfter}
 use Rattle.pager_state.specs.Opening.{openRefusal, openTable, openLogArea}
 use Rattle.pager_state.specs.Stores.{Act, Disk, diskOf, inside}
-use Rattle.pager_state.specs.Steps.{beginCommit, commitRefusal, beginCheckpoint, checkpointRefusal, named, namedBy, answerOf, todo, advance, done, stepFine, stepAnswer, stepRefusal, stepped, commitWorld, checkpointWorld}
+use Rattle.pager_state.specs.Steps.{commitRefusal, beginCommit, checkpointRefusal, beginCheckpoint, todo, advance, answerOf, namedBy, named, done, stepFine, stepAnswer, stepped, stepRefusal, commitWorld, checkpointWorld}
 use Rattle.pager_state.specs.Opened.{Opens}
 use Rattle.pager_state.specs.Opened as opened
 use Rattle.pager_state.specs.declared.StepAnswer.the-variants as step

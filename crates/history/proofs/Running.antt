@@ -12,13 +12,14 @@ use lib.Seq.{take-length}
 use Rattle.le.specs.Choice.{pick}
 use Rattle.le.proofs.Tests.{le-or-lt}
 use Rattle.header.specs.declared.DbHeader.{DbHeader}
+use Rattle.wal.specs.Header.{headerSize}
 use Rattle.wal.specs.Write.{withFrame}
 use Rattle.pager_state.specs.World.{World, countOf, busyWith}
 use Rattle.pager_state.specs.Pages.{pagesFrom, differs, folds}
 use Rattle.pager_state.specs.Stores.{Disk, File, diskOf, Act, Put, SetLen, kindOf, stored, cutStore, sizeOf, cutAll, wholeOf, reach, putFront, putFile, lenCut}
 use Rattle.pager_state.specs.Fold.{pagesTodo, foldTodo, paged}
 use Rattle.pager_state.specs.Commit.{framesTodo, commitTodo, framed, sealedWorld, sealedPager}
-use Rattle.pager_state.specs.Steps.{todo, advance, done, stepped, steps, stepFine}
+use Rattle.pager_state.specs.Steps.{todo, advance, done, stepFine, stepped, steps, mostSteps}
 use Rattle.pager_state.specs.declared.FileKind.the-variants as file
 use Rattle.pager_state.specs.declared.Job.{Job}
 use Rattle.pager_state.specs.declared.Job.the-variants as job
@@ -50,11 +51,11 @@ whole-front : (f : File) (at : ℕ) (bs : List ℕ) (n : ℕ) → length bs ≡ 
 unfolding putFront
 whole-front f at bs n e = rw (← e, take-length bs)
 
-put-over : (f : File) (at : ℕ) (bs : List ℕ) (k : ℕ) → 32 ≤ at + length bs → 1 ≤ length bs → length bs ≤ k → putFront f at bs (reach at bs k) ≡ putFile f at bs
+put-over : (f : File) (at : ℕ) (bs : List ℕ) (k : ℕ) → headerSize ≤ at + length bs → 1 ≤ length bs → length bs ≤ k → putFront f at bs (reach at bs k) ≡ putFile f at bs
 unfolding reach
 put-over f at bs k h l e =
     let m : min k (length bs) ≡ length bs = omega arith in
-    rw (m, le-ltb (at + length bs) 32 h) (all (length bs) refl)
+    rw (m, le-ltb (at + length bs) headerSize h) (all (length bs) refl)
   where
     all : (n : ℕ) → length bs ≡ n → putFront f at bs n ≡ putFile f at bs
     all zero q = absurd (omega arith)
@@ -197,13 +198,13 @@ unfolding framesTodo sealedWorld sealedPager
 frames-length g h salt answer [] w = omega (arith, after-length salt answer (sealedWorld h salt answer w) (leb 100 (withFrame (w .pager .wal) (countOf h) .«frame_count»)))
 frames-length g h salt answer (n ∷ ns) w = omega (arith, frames-length g h salt answer ns (framed g h salt answer n w))
 
-pub commit-few : (g : List ℕ) (w : World) (h : DbHeader) (salt p answer : ℕ) → w .pager .job ≡ job.Commit h salt p answer → length (todo g w) ≤ 2200
+pub commit-few : (g : List ℕ) (w : World) (h : DbHeader) (salt p answer : ℕ) → w .pager .job ≡ job.Commit h salt p answer → length (todo g w) ≤ mostSteps
 unfolding commitTodo foldTodo
 commit-few g w h salt p answer e =
     let q : todo g w ≡ framesTodo g h salt answer (pagesFrom (differs g w) p) w = todo-by g w (job.Commit h salt p answer) e ∙ append-nil _ in
     rw q (omega (arith, frames-length g h salt answer (pagesFrom (differs g w) p) w, pages-most (differs g w) p))
 
-pub fold-few : (g : List ℕ) (w : World) (salt p answer : ℕ) → w .pager .job ≡ job.Fold salt p answer → length (todo g w) ≤ 2200
+pub fold-few : (g : List ℕ) (w : World) (salt p answer : ℕ) → w .pager .job ≡ job.Fold salt p answer → length (todo g w) ≤ mostSteps
 unfolding commitTodo foldTodo
 fold-few g w salt p answer e =
     let q : todo g w ≡ pagesTodo salt answer (pagesFrom (folds w) p) w = todo-by g w (job.Fold salt p answer) e in

@@ -2,7 +2,7 @@
 use mathlib.Core.Path.{_≡_, refl, sym, ap, _∙_, subst}
 use mathlib.Core.Bool.{not}
 use mathlib.Core.List.{List, []}
-use mathlib.Core.Option.{some, none}
+use mathlib.Core.Option.{none, some}
 use Prim.Native.Nat.{ℕ, _<_}
 use native.Mathlib.Omega.{arith}
 use borrow.Author.Tests.{eqb-true, ltb-true}
@@ -13,12 +13,12 @@ use Rattle.le.specs.Le.{put}
 use Rattle.le.proofs.Compare.{both-true}
 use Rattle.le.proofs.Stores.{length-put}
 use Rattle.page.specs.Page.{pageSize}
+use Rattle.refusal.specs.declared.Refusal.the-variants as refusal
 use Rattle.refusal.proofs.Rows.{accepted}
 use Rattle.refusal.proofs.Judged.{met}
-use Rattle.refusal.specs.declared.Refusal.the-variants as refusal
-use Rattle.pager_state.specs.World.{World, busy, stagingFine, withStaged, pageLimit, stagedLimit}
+use Rattle.pager_state.specs.World.{World, stagedLimit, pageLimit, stagingFine, busy, withStaged}
 use Rattle.pager_state.specs.Overlay.{slotOf, stagedAt}
-use Rattle.pager_state.specs.Staging.{slotted, stageAfter, stageRefusal, stagedAfter, stagingAfter}
+use Rattle.pager_state.specs.Staging.{stageRefusal, slotted, stagedAfter, stagingAfter, stageAfter}
 use Rattle.pager_state.specs.Stores.{diskOf}
 use Rattle.pager_state.specs.Steps.{onStore}
 use Rattle.pager_state.specs.declared.Job.the-variants as job

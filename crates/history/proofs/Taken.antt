@@ -2,10 +2,10 @@
 use mathlib.Core.Path.{_≡_, sym, subst}
 use mathlib.Core.Bool.{not}
 use mathlib.Core.List.{List}
-use Prim.Native.Nat.{ℕ}
 use mathlib.Core.Option.{none}
-use Rattle.refusal.proofs.Judged.{met}
+use Prim.Native.Nat.{ℕ}
 use Rattle.refusal.specs.declared.Refusal.the-variants as refusal
+use Rattle.refusal.proofs.Judged.{met}
 use Rattle.pager_state.specs.World.{World, busy, busyRefusal}
 use Rattle.pager_state.specs.Stores.{diskOf, Act}
 use Rattle.pager_state.specs.declared.Job.{Job}

@@ -15,7 +15,7 @@ use Rattle.pager_state.specs.Queries.{observeClock}
 use Rattle.pager_state.specs.Batches.{appendRefusal, batchFrame, appendBatch, appendAfter, recoveredRefusal}
 use Rattle.pager_state.specs.Stores.{File, Disk, content, diskOf, Batched, Act, Put}
 use Rattle.pager_state.specs.Opening.{How, openPager, openRefusal, openStores, openTable, openLogArea}
-use Rattle.pager_state.specs.Steps.{commitRefusal, beginCommit, checkpointRefusal, beginCheckpoint, todo, stepAnswer, stepRefusal, stepped, onStore, commitWorld, checkpointWorld}
+use Rattle.pager_state.specs.Steps.{commitRefusal, beginCommit, checkpointRefusal, beginCheckpoint, todo, stepAnswer, stepped, stepRefusal, onStore, commitWorld, checkpointWorld}
 use Rattle.pager_state.specs.declared.AccessMode.{AccessMode}
 use Rattle.pager_state.specs.declared.FileKind.the-variants as file
 use Rattle.pager_state.specs.declared.Pager.{Pager}

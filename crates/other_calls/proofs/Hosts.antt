@@ -2,7 +2,7 @@
 use mathlib.Core.Path.{_≡_, refl}
 use mathlib.Core.Bool.{not}
 use lib.Dec.{eqb}
-use Rattle.pager_state.specs.World.{busyWith, world}
+use Rattle.pager_state.specs.World.{world, busyWith}
 use Rattle.pager_state.specs.declared.Job.{Job}
 use Rattle.pager_state.specs.declared.Job.the-variants as job
 use Rattle.capi_numbers.specs.Numbers.{walOf, jobOf, storeOf}

@@ -6,11 +6,11 @@ use Prim.Native.Nat.{ℕ, zero, suc, _+_}
 use Rattle.le.specs.Choice.{pick}
 use Rattle.refusal.specs.declared.Refusal.the-variants as refusal
 use Rattle.refusal.proofs.Rows.{accepted}
-use Rattle.pager_state.specs.World.{World, countOf, headerOf, fine, stagingFine}
-use Rattle.pager_state.specs.Overlay.{findPage, findRefusal, readRefusal}
+use Rattle.pager_state.specs.World.{World, countOf, headerOf, stagingFine, fine}
+use Rattle.pager_state.specs.Overlay.{readRefusal, findPage, findRefusal}
 use Rattle.pager_state.specs.Fold.{foldTodo, foldAdvance}
 use Rattle.pager_state.specs.Commit.{commitTodo, commitAdvance}
-use Rattle.pager_state.specs.Steps.{differing, beginCommit, answerOf, named, done, stepFine, stepAnswer, stepped, steps, onStore, commitRefusal}
+use Rattle.pager_state.specs.Steps.{differing, commitRefusal, beginCommit, answerOf, named, done, stepFine, stepAnswer, stepped, steps, onStore}
 use Rattle.pager_state.specs.Stores.{Act}
 use Rattle.pager_state.specs.declared.Job.{Job}
 use Rattle.pager_state.specs.declared.Job.the-variants as job
@@ -24,7 +24,7 @@ use Rattle.pager_read.proofs.Place.{place-find, none-behind}
 use Rattle.history.specs.Calls.{refusedBy, worldAfter}
 use Rattle.history.proofs.Rest.{find-number}
 use Rattle.history.proofs.Refused.{unaccepted}
-use Rattle.other_calls.specs.Others.{Stays, CommitStepBy, CommitStepIs, stepping, CommitFramesIs, BehindStaging, FoldStepBy, FoldStepIs, StageInIs, readBy, ReadIs, ReadEndIs}
+use Rattle.other_calls.specs.Others.{Stays, CommitStepBy, CommitStepIs, BehindStaging, FoldStepBy, FoldStepIs, stepping, CommitFramesIs, StageInIs, readBy, ReadIs, ReadEndIs}
 
 -- ---- steps
 

@@ -1,12 +1,12 @@
 -- What hosts hand over of a store in numbers to `may_read`, `place_page` and `stage_in`: its own fields, the job's number (0 to 5) among them.
 use mathlib.Core.Path.{_≡_}
+use mathlib.Core.Bool.{Bool, not}
 use mathlib.Core.List.{List}
 use Prim.Native.Nat.{ℕ}
-use mathlib.Core.Bool.{Bool, not}
 use lib.Dec.{eqb}
 use Rattle.pager_state.specs.World.{world, countOf}
-use Rattle.pager_state.specs.Overlay.{findPage, slots, placePage}
-use Rattle.pager_state.specs.Staging.{stagePage, stageAfter, stageAnswer, stagedAfter, stagingAfter}
+use Rattle.pager_state.specs.Overlay.{slots, placePage, findPage}
+use Rattle.pager_state.specs.Staging.{stageAnswer, stagedAfter, stagingAfter, stagePage, stageAfter}
 use Rattle.pager_state.specs.declared.Pager.{Pager}
 use Rattle.pager_state.specs.declared.PageFound.{PageFound}
 use Rattle.pager_state.specs.declared.Staged.{Staged}

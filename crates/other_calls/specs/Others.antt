@@ -9,7 +9,7 @@ use Rattle.le.specs.Choice.{pick}
 use Rattle.refusal.specs.Refusal.{numberOf}
 use Rattle.refusal.specs.declared.Refusal.the-variants as refusal
 use Rattle.pager_state.specs.World.{World, countOf, headerOf, fine, stagingFine, busy, withStaged}
-use Rattle.pager_state.specs.Overlay.{findPage, findRefusal, slots, placePage}
+use Rattle.pager_state.specs.Overlay.{slots, placePage, findPage, findRefusal}
 use Rattle.pager_state.specs.Staging.{stageRefusal, stagedAfter, stagingAfter}
 use Rattle.header.specs.declared.DbHeader.{DbHeader}
 use Rattle.pager_state.specs.Steps.{differing, commitRefusal, stepFine, stepAnswer, onStore}
@@ -23,7 +23,7 @@ use Rattle.pager_state.specs.declared.StepAnswer.the-variants as step
 use Rattle.pager_state.specs.declared.Staged.{Staged}
 use Rattle.pager_fold.specs.FoldStep.{foldAnswer, foldStepped}
 use Rattle.pager_commit.specs.CommitStep.{commitStepAnswer, commitStepped, commitSealed}
-use Rattle.pager_read.specs.Reading.{mayRead, readAs, readEnd}
+use Rattle.pager_read.specs.Reading.{mayRead, readEnd, readAs}
 use Rattle.history.specs.Calls.{ReadPage, Ask, Stage, BeginCommit, Step, refusedBy, worldAfter}
 use Rattle.history.specs.Calls as calls
 
