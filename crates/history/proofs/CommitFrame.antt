@@ -31,15 +31,16 @@ use Rattle.pager_state.specs.Fold.{foldTodo, foldAdvance}
 use Rattle.pager_state.specs.Commit.{saltOf, frameAct, framed, framesTodo, framesAdvance, commitTodo, commitAdvance}
 use Rattle.pager_state.specs.Steps.{todo, advance}
 use Rattle.pager_state.specs.declared.Job.the-variants as job
+use Rattle.pager_state.proofs.Next.{todo-by, advance-by}
+use Rattle.pager_state.proofs.Searches.{First, first, pages-same}
 use Rattle.history.specs.Book.{Book}
 use Rattle.history.proofs.Files.{same-file}
 use Rattle.history.proofs.Frames.{lastIn, last-same, last-other, batchesOf, batches-append, batches-page, orGive}
-use Rattle.history.proofs.PagesFrom.{First, pages-first, pages-same}
 use Rattle.history.proofs.Slots.{staged-long}
 use Rattle.history.proofs.Disk.{viewOf, OnDisk, log-len}
 use Rattle.history.proofs.Rest.{Held, Tabled, Committing, Some, worldPage, page-view, committed-bytes, step-fine}
 use Rattle.history.proofs.Append.{whole-store, whole-on, cut-ok}
-use Rattle.history.proofs.Stepping.{StepOk, todo-by, advance-by, table-entered, settled}
+use Rattle.history.proofs.Stepping.{StepOk, table-entered, settled}
 
 pub framed-len : (v : Wal) (c : ℕ) → withFrame v c .len ≡ v .len + frameSize
 unfolding longer
@@ -57,8 +58,11 @@ module _ (g : List ℕ) (w : World) (b : Book) (z : List ℕ) (h : DbHeader) (sa
   abbrev fs : List (List ℕ)
   fs = k .S ++ k .P
 
-  first : First (differs g w) p n ns
-  first = pages-first (differs g w) p n ns found
+  at : First (differs g w) p n
+  at = first (differs g w) p n ns found
+
+  rest-is : pagesFrom (differs g w) (suc n) ≡ ns
+  rest-is = let s = at .split in cc
 
   abbrev bytes : List ℕ
   bytes = stagedBytes (w .pager .staged) g n
@@ -71,7 +75,7 @@ module _ (g : List ℕ) (w : World) (b : Book) (z : List ℕ) (h : DbHeader) (sa
 
   is-staged : isStaged (w .pager .staged) n ≡ true
   unfolding differsIn
-  is-staged = both-true (isStaged (w .pager .staged) n) _ (first .holds) .0
+  is-staged = both-true (isStaged (w .pager .staged) n) _ (at .holds) .0
 
   bytes-long : length bytes ≡ pageSize
   bytes-long = staged-long (w .pager .staged) (c .held .slots) g n (c .held .stagingLong) is-staged
@@ -80,7 +84,7 @@ module _ (g : List ℕ) (w : World) (b : Book) (z : List ℕ) (h : DbHeader) (sa
   f-long = length-encodeFrame n 0 (saltOf w) bytes bytes-long
 
   small : n < 2 ^ 32
-  small = omega (arith, first .high)
+  small = omega (arith, at .below)
 
   salt-fits : saltOf w < 2 ^ 32
   salt-fits = rw (c .held .salt) (c .held .on .log .written .salt)
@@ -88,7 +92,7 @@ module _ (g : List ℕ) (w : World) (b : Book) (z : List ℕ) (h : DbHeader) (sa
   f-good : good (k .l .salt) f ≡ true
   f-good =
       ap (λ (s : ℕ). good s f) (sym (c .held .salt))
-      ∙ good-page n 0 (saltOf w) bytes small salt-fits (λ e. omega (arith, first .high))
+      ∙ good-page n 0 (saltOf w) bytes small salt-fits (λ e. omega (arith, at .below))
 
   f-page : pageOf f ≡ n
   f-page = page-encoded n 0 (saltOf w) bytes small
@@ -128,18 +132,18 @@ module _ (g : List ℕ) (w : World) (b : Book) (z : List ℕ) (h : DbHeader) (sa
         clean = q .clean;
         slots = q .slots;
         staged = q .staged;
-        waiting = batches-append (k .P) (f ∷ []) ∙ rw (batches-page f (λ e. omega (arith, f-page, first .high))) (append-nil (batchesOf (k .P)) ∙ q .waiting);
+        waiting = batches-append (k .P) (f ∷ []) ∙ rw (batches-page f (λ e. omega (arith, f-page, at .below))) (append-nil (batchesOf (k .P)) ∙ q .waiting);
       }
 
   table-after : Tabled v (k .S ++ (k .P ++ (f ∷ []))) (k .mh)
   unfolding framed
   table-after m hm =
-      rw again (table-entered (w .table) fs (k .mh) f n (w .pager .wal .len) (c .held .tableLong) (first .high) f-page at-is (c .table) m hm)
+      rw again (table-entered (w .table) fs (k .mh) f n (w .pager .wal .len) (c .held .tableLong) (at .below) f-page at-is (c .table) m hm)
 
   -- its own page is the staged one, others stay
   own-page : worldPage v n ≡ some bytes
   own-page =
-      page-view held-after table-after n (first .high)
+      page-view held-after table-after n (at .below)
       ∙ rw (again, last-same n fs f f-page, body-back n 0 (saltOf w) bytes)
 
   view-other : (m : ℕ) → (m ≡ n → ⊥) → viewOf (k .S ++ (k .P ++ (f ∷ []))) (k .mh) (w .main) m ≡ viewOf fs (k .mh) (w .main) m
@@ -161,7 +165,7 @@ module _ (g : List ℕ) (w : World) (b : Book) (z : List ℕ) (h : DbHeader) (sa
 
   pages-left : pagesFrom (differs g v) (suc n) ≡ ns
   pages-left =
-      pages-same (differs g w) (differs g v) (suc n) (λ m a hm. differs-other m hm (λ e. omega arith)) ∙ first .rest
+      pages-same (differs g v) (differs g w) (suc n) (λ m a hm. differs-other m hm (λ e. omega arith)) ∙ rest-is
 
   done-after : (m : ℕ) → m < pageLimit → m < suc n → isStaged (w .pager .staged) m ≡ true → worldPage v m ≡ some (stagedBytes (w .pager .staged) g m)
   done-after m hm lt s = go (eq-or-not m n) (le-or-lt p m)
@@ -171,7 +175,7 @@ module _ (g : List ℕ) (w : World) (b : Book) (z : List ℕ) (h : DbHeader) (sa
       go (inr e) (inl q) =
           let lt′ : m < n = below e in
           other-page m hm e
-          ∙ settled g w m (first .before m q lt′) s (staged-long (w .pager .staged) (c .held .slots) g m (c .held .stagingLong) s)
+          ∙ settled g w m (at .before m q lt′) s (staged-long (w .pager .staged) (c .held .slots) g m (c .held .stagingLong) s)
         where
           below : (m ≡ n → ⊥) → m < n
           below ne = last (le-or-lt n m)

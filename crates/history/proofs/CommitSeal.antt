@@ -37,16 +37,17 @@ use Rattle.pager_state.specs.Commit.{saltOf, sealAct, sealedPager, sealedWorld,
 use Rattle.pager_state.specs.Steps.{todo, advance}
 use Rattle.pager_state.specs.declared.Staged.{Staged}
 use Rattle.pager_state.specs.declared.Job.the-variants as job
+use Rattle.pager_state.proofs.Next.{todo-by, advance-by}
+use Rattle.pager_state.proofs.Searches.{pages-none}
 use Rattle.history.specs.Book.{Book, orElse, entered, bookSeal}
 use Rattle.history.specs.Run.{keptBy}
 use Rattle.history.proofs.Files.{same-file, length-content}
 use Rattle.history.proofs.Frames.{last-same, last-other, page-last, place-same, batchesOf, batches-append, batches-page}
-use Rattle.history.proofs.PagesFrom.{pages-none}
 use Rattle.history.proofs.Slots.{Slots, staged-long}
 use Rattle.history.proofs.Disk.{viewOf, headerOver, OnDisk, log-len, log-inside}
 use Rattle.history.proofs.Rest.{Held, Tabled, Resting, Committing, Folding, Some, InvJob, worldPage, page-view, page-sealed, step-fine}
 use Rattle.history.proofs.Append.{longer, whole-store, sealed-on, cut-ok}
-use Rattle.history.proofs.Stepping.{StepOk, todo-by, advance-by, table-entered, settled}
+use Rattle.history.proofs.Stepping.{StepOk, table-entered, settled}
 use Rattle.history.proofs.CommitFrame.{framed-len, framed-header}
 
 -- nothing is staged any more

@@ -1,6 +1,6 @@
 -- A commit, begun or in one call. Assumes nothing.
 use mathlib.Core.Path.{_≡_, refl, sym, ap, subst}
-use mathlib.Core.Bool.{true, false}
+use mathlib.Core.Bool.{Bool, true, false}
 use mathlib.Core.List.{List, []}
 use mathlib.Core.Option.{none}
 use Prim.Native.Nat.{ℕ, _^_, _≤_, _<_}
@@ -18,13 +18,14 @@ use Rattle.pager_state.specs.declared.Job.the-variants as job
 use Rattle.pager_state.specs.declared.Pager.{Pager}
 use Rattle.pager_state.specs.declared.Staged.{Staged}
 use Rattle.pager_state.proofs.Begun.{CommitBegun, commit-begun, begun-commit}
+use Rattle.pager_state.proofs.Done.{todo-length}
+use Rattle.pager_state.proofs.Searches.{pages-none, no-lowest}
 use Rattle.history.specs.Book.{Book, give, tells}
 use Rattle.history.specs.Calls.{Commit, BeginCommit, Words, storesOf, worldAfter}
 use Rattle.history.specs.Run.{keptAfter}
-use Rattle.history.proofs.PagesFrom.{none-first}
 use Rattle.history.proofs.Opening.{re-book}
 use Rattle.history.proofs.Rest.{Held, Resting, Committing, Some, Inv, held-disk}
-use Rattle.history.proofs.Running.{cut-none, RunOk, run-ok, commit-few}
+use Rattle.history.proofs.Running.{cut-none, RunOk, run-ok}
 use Rattle.history.proofs.Taken.{Taken, taken-by, at-rest}
 
 -- ---- a commit
@@ -56,9 +57,10 @@ module _ (w : World) (g : List ℕ) (b : Book) (z : List ℕ) (i : Inv w g b z) 
   joins-ok : (n : ℕ) → 1 ≤ n → countOf (b .header) ≤ n → n < countOf h → isStaged (w .pager .staged) n ≡ true
   unfolding lacking
   joins-ok n h1 h2 h3 =
+      let lack : ℕ → Bool = lacks (w .pager .staged) (countOf (headerOf (w .pager))) (countOf h) in
       let c : countOf (headerOf (w .pager)) ≤ n = omega (arith, ap countOf (k .it .held .header)) in
       lacks-not (w .pager .staged) (countOf (headerOf (w .pager))) (countOf h) n h1 c h3
-      (none-first (lacks (w .pager .staged) (countOf (headerOf (w .pager))) (countOf h)) (starts .joined) n (omega (arith, starts .high)))
+      (pages-none lack 0 (no-lowest lack 0 (starts .joined)) n (omega arith) (omega (arith, starts .high)))
 
   held-begun : Held v g (give h b) (k .l) (k .S) (k .P) (k .mh)
   held-begun =
@@ -106,7 +108,7 @@ module _ (w : World) (g : List ℕ) (b : Book) (z : List ℕ) (i : Inv w g b z) 
       }
 
   pub run : RunOk g mostSteps v (give h b) z (todo g v) (diskOf w)
-  run = run-ok g mostSteps v (give h b) z (todo g v) (diskOf w) refl refl (commit-few g v h salt 0 (differing g w) refl) begun
+  run = run-ok g mostSteps v (give h b) z (todo g v) (diskOf w) refl refl (todo-length g v) begun
 
   pub stores-is : storesOf (Commit h salt) w g ≡ todo g v
   unfolding storesOf

@@ -35,15 +35,16 @@ use Rattle.pager_state.specs.Fold.{mainHeaderAct, headed, lengthTodo, pagesTodo
 use Rattle.pager_state.specs.Commit.{commitTodo, commitAdvance}
 use Rattle.pager_state.specs.Steps.{todo, advance}
 use Rattle.pager_state.specs.declared.Job.the-variants as job
+use Rattle.pager_state.proofs.Next.{todo-by, advance-by}
+use Rattle.pager_state.proofs.Searches.{pages-none}
 use Rattle.history.specs.Book.{Book, orElse}
 use Rattle.history.proofs.Files.{putting, put-file, put-front, reach-front, reach-none, take-min, page-other}
 use Rattle.history.proofs.Frames.{lastIn, last-append}
-use Rattle.history.proofs.PagesFrom.{pages-none}
 use Rattle.history.proofs.Disk.{mainPage, viewOf, headerOver, OnDisk, DiskOk}
 use Rattle.history.proofs.Opening.{book-over}
 use Rattle.history.proofs.Rest.{Held, Folding, Flattened, Some, in-log, step-fine, held-disk, held-stored}
 use Rattle.history.proofs.FoldPage.{must-main, stored-below, reaches}
-use Rattle.history.proofs.Stepping.{StepOk, todo-by, advance-by}
+use Rattle.history.proofs.Stepping.{StepOk}
 
 -- ---- the header that counts, once it is the main file's own
 

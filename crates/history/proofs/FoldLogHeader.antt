@@ -27,11 +27,12 @@ use Rattle.pager_state.specs.Fold.{foldedEntry, foldedFrom, nextHeader, logHead
 use Rattle.pager_state.specs.Commit.{commitTodo, commitAdvance}
 use Rattle.pager_state.specs.Steps.{todo, advance}
 use Rattle.pager_state.specs.declared.Job.the-variants as job
+use Rattle.pager_state.proofs.Next.{todo-by, advance-by}
 use Rattle.history.specs.Book.{Book}
 use Rattle.history.proofs.Files.{putting, same-file, put-file, reach-none}
 use Rattle.history.proofs.Disk.{OnDisk, DiskOk, log-alone, log-len}
 use Rattle.history.proofs.Rest.{Held, Tabled, Resting, Bared, Some, step-fine, held-disk}
-use Rattle.history.proofs.Stepping.{StepOk, todo-by, advance-by}
+use Rattle.history.proofs.Stepping.{StepOk}
 use Rattle.history.proofs.FoldLogLength.{empty-len, empty-header}
 
 -- ---- the log header

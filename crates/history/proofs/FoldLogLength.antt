@@ -23,11 +23,12 @@ use Rattle.pager_state.specs.Fold.{logLengthAct, emptied, headerTodo, foldTodo,
 use Rattle.pager_state.specs.Commit.{commitTodo, commitAdvance}
 use Rattle.pager_state.specs.Steps.{todo, advance}
 use Rattle.pager_state.specs.declared.Job.the-variants as job
+use Rattle.pager_state.proofs.Next.{todo-by, advance-by}
 use Rattle.history.specs.Book.{Book, bookEmpty}
 use Rattle.history.proofs.Files.{lasting, same-file, len-file}
 use Rattle.history.proofs.Disk.{headerOver, BookIs, OnDisk, DiskOk, log-alone, log-len}
 use Rattle.history.proofs.Rest.{Held, Flattened, Bared, Some, step-fine, held-disk}
-use Rattle.history.proofs.Stepping.{StepOk, todo-by, advance-by}
+use Rattle.history.proofs.Stepping.{StepOk}
 use Rattle.history.proofs.FoldHeader.{has-true}
 
 -- ---- the log's length

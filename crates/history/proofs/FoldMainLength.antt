@@ -12,11 +12,12 @@ use Rattle.pager_state.specs.Fold.{mainLengthAct, lengthened, emptyTodo, foldTo
 use Rattle.pager_state.specs.Commit.{commitTodo, commitAdvance}
 use Rattle.pager_state.specs.Steps.{todo, advance}
 use Rattle.pager_state.specs.declared.Job.the-variants as job
+use Rattle.pager_state.proofs.Next.{todo-by, advance-by}
 use Rattle.history.specs.Book.{Book}
 use Rattle.history.proofs.Files.{lasting, len-file}
 use Rattle.history.proofs.Disk.{OnDisk, DiskOk}
 use Rattle.history.proofs.Rest.{Held, Flattened, Some, step-fine, held-disk, held-stored}
-use Rattle.history.proofs.Stepping.{StepOk, todo-by, advance-by}
+use Rattle.history.proofs.Stepping.{StepOk}
 
 -- ---- the main length
 

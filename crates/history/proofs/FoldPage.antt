@@ -28,14 +28,15 @@ use Rattle.pager_state.specs.Fold as fold
 use Rattle.pager_state.specs.Commit.{commitTodo, commitAdvance}
 use Rattle.pager_state.specs.Steps.{todo, advance}
 use Rattle.pager_state.specs.declared.Job.the-variants as job
+use Rattle.pager_state.proofs.Next.{todo-by, advance-by}
+use Rattle.pager_state.proofs.Searches.{First, first}
 use Rattle.history.specs.Book.{Book, orElse}
 use Rattle.history.proofs.Files.{putting, put-file, put-front, reach-behind, take-min, page-other, page-same}
 use Rattle.history.proofs.Frames.{lastIn, last-append, last-long}
-use Rattle.history.proofs.PagesFrom.{First, pages-first}
 use Rattle.history.proofs.Disk.{mainPage, viewOf, OnDisk, DiskOk, whole-left}
 use Rattle.history.proofs.Opening.{book-over}
 use Rattle.history.proofs.Rest.{Held, Folding, Some, log-has, log-lacks, step-fine, held-stored}
-use Rattle.history.proofs.Stepping.{StepOk, todo-by, advance-by}
+use Rattle.history.proofs.Stepping.{StepOk}
 
 -- a page that the log has not is the main file's
 pub record OnMain (b : Book) (mh : DbHeader) (m : List ℕ) (n : ℕ) : Type 0 where
@@ -140,8 +141,11 @@ module _ (g : List ℕ) (w : World) (b : Book) (z : List ℕ) (salt p answer : �
       (λ x e. stored-below (suc (suc m)) before (suc m) x (omega arith) (omega arith) (omega arith) e .1) (lastIn (suc m) (k .S)) refl
 
   module _ (n : ℕ) (ns : List ℕ) (found : pagesFrom (folds w) p ≡ n ∷ ns) where
-    first : First (folds w) p n ns
-    first = pages-first (folds w) p n ns found
+    at : First (folds w) p n
+    at = first (folds w) p n ns found
+
+    rest-is : pagesFrom (folds w) (suc n) ≡ ns
+    rest-is = let s = at .split in cc
 
     abbrev x : List ℕ
     x = logBytes (w .table) (w .log) n
@@ -154,7 +158,7 @@ module _ (g : List ℕ) (w : World) (b : Book) (z : List ℕ) (salt p answer : �
     folded-page : Folds
     unfolding foldsBy
     folded-page =
-        let a = both-true (leb 1 n) _ (first .holds) in
+        let a = both-true (leb 1 n) _ (at .holds) in
         let d = both-true (ltb n (countOf (headerOf (w .pager)))) (inLog (w .table) n) (a .1) in
         record {
           low = leb-true 1 n (a .0);
@@ -169,7 +173,7 @@ module _ (g : List ℕ) (w : World) (b : Book) (z : List ℕ) (salt p answer : �
     high = folded-page .high
 
     small : n < pageLimit
-    small = first .high
+    small = at .below
 
     last-is : lastIn n (k .S) ≡ some x
     last-is = sym (last-sealed n small) ∙ log-has (c .held) (c .table) n small (folded-page .has)
@@ -178,7 +182,7 @@ module _ (g : List ℕ) (w : World) (b : Book) (z : List ℕ) (salt p answer : �
     x-long = last-long n x (whole-left (k .S) (k .P) (o .log .whole)) last-is
 
     at-inside : pageSize * n ≤ main-len
-    at-inside = reaches n (first .before) low (omega (arith, high))
+    at-inside = reaches n (at .before) low (omega (arith, high))
 
     in-area : pageSize * n ≤ length (w .main)
     in-area = omega (arith, at-inside, o .main .fits, o .main .area)
@@ -223,7 +227,7 @@ module _ (g : List ℕ) (w : World) (b : Book) (z : List ℕ) (salt p answer : �
             let xy : x ≡ y = cc (last-is) in
             (rw (main-after, q) (page-same (w .main) n x (omega (arith, x-long)) in-area x-long ∙ xy), omega (arith, len-after, x-long))
         go (inr q) =
-            let r = stored-below n (first .before) m y h1 (below q) h3 e in
+            let r = stored-below n (at .before) m y h1 (below q) h3 e in
             (rw main-after (page-other (w .main) n x (omega (arith, x-long)) in-area m q ∙ r .0), omega (arith, len-after, r .1))
 
     held-after : Held v g b (k .l) (k .S) (k .P) (k .mh)
@@ -240,7 +244,7 @@ module _ (g : List ℕ) (w : World) (b : Book) (z : List ℕ) (salt p answer : �
 
     left-is : todo g v ≡ pagesTodo salt answer ns v
     unfolding commitTodo foldTodo paged foldsBy
-    left-is = todo-by g v (job.Fold salt (suc n) answer) refl ∙ ap (λ (y : List ℕ). pagesTodo salt answer y v) (first .rest)
+    left-is = todo-by g v (job.Fold salt (suc n) answer) refl ∙ ap (λ (y : List ℕ). pagesTodo salt answer y v) rest-is
 
     next-is : advance g w ≡ v
     unfolding commitAdvance foldAdvance

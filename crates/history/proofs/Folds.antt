@@ -15,13 +15,14 @@ use Rattle.pager_state.specs.Steps.{nothingToFold, checkpointRefusal, folding, 
 use Rattle.pager_state.specs.declared.Job.the-variants as job
 use Rattle.pager_state.specs.declared.Pager.{Pager}
 use Rattle.pager_state.proofs.Begun.{off, not-busy, begun-checkpoint, begins}
+use Rattle.pager_state.proofs.Next.{todo-by}
+use Rattle.pager_state.proofs.Done.{todo-length}
 use Rattle.history.specs.Book.{Book, tells}
 use Rattle.history.specs.Calls.{Checkpoint, BeginCheckpoint, storesOf, worldAfter}
 use Rattle.history.specs.Run.{keptAfter}
 use Rattle.history.proofs.Disk.{DiskOk}
 use Rattle.history.proofs.Rest.{Resting, Folding, Some, Inv, held-disk}
-use Rattle.history.proofs.Stepping.{todo-by}
-use Rattle.history.proofs.Running.{cut-none, RunOk, run-ok, fold-few}
+use Rattle.history.proofs.Running.{cut-none, RunOk, run-ok}
 use Rattle.history.proofs.Taken.{Taken, taken-by, at-rest}
 
 -- ---- a fold
@@ -68,7 +69,7 @@ module _ (w : World) (g : List ℕ) (b : Book) (z : List ℕ) (i : Inv w g b z) 
   begun = record { l = k .l; S = k .S; P = k .P; mh = k .mh; it = folding-ok; kept = k .kept }
 
   run : RunOk g mostSteps v b z (todo g v) (diskOf w)
-  run = run-ok g mostSteps v b z (todo g v) (diskOf w) refl refl (fold-few g v salt 0 (folding w) refl) begun
+  run = run-ok g mostSteps v b z (todo g v) (diskOf w) refl refl (todo-length g v) begun
 
   disk-now : DiskOk (diskOf w) b z
   disk-now = held-disk (k .it .held) (k .kept)

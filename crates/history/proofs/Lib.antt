@@ -2,7 +2,6 @@
 pub mod Files
 pub mod Frames
 pub mod Disk
-pub mod PagesFrom
 pub mod Slots
 pub mod Rest
 pub mod Opening

@@ -20,11 +20,8 @@ use Rattle.pager_state.specs.Overlay.{isStaged, stagedBytes, onMain, entry, com
 use Rattle.pager_state.specs.Opening.{placeFrom, hasPage}
 use Rattle.pager_state.specs.Pages.{differsIn, differs}
 use Rattle.pager_state.specs.Stores.{diskOf, Act, Put, SetLen, kindOf, inside, stored, cutStore, sizeOf}
-use Rattle.pager_state.specs.Fold.{foldTodo, foldAdvance}
-use Rattle.pager_state.specs.Commit.{commitTodo, commitAdvance}
 use Rattle.pager_state.specs.Commit as commit
 use Rattle.pager_state.specs.Steps.{todo, advance, stepFine}
-use Rattle.pager_state.specs.declared.Job.{Job}
 use Rattle.history.specs.Book.{Book, tell}
 use Rattle.history.specs.Run.{keptBy}
 use Rattle.history.proofs.Frames.{place-same, place-other, orGive}
@@ -50,15 +47,6 @@ pub record StepOk (g : List ℕ) (w : World) (b : Book) (z : List ℕ) : Type 0 
   pub left : todo g next ≡ rest
   pub after : Inv next g (tell [] (kindOf act) b) (keptBy act (stored act (diskOf w)) z)
   pub cut : (k : ℕ) → k < sizeOf act → DiskOk (cutStore act k (diskOf w)) b z
-
--- by the job
-pub todo-by : (g : List ℕ) (w : World) (j : Job) → w .pager .job ≡ j → todo g w ≡ commitTodo g j w ++ foldTodo j w
-unfolding todo
-todo-by g w j e = ap (λ (x : Job). commitTodo g x w ++ foldTodo x w) e
-
-pub advance-by : (g : List ℕ) (w : World) (j : Job) → w .pager .job ≡ j → advance g w ≡ foldAdvance j (commitAdvance g j w)
-unfolding advance
-advance-by g w j e = ap (λ (x : Job). foldAdvance x (commitAdvance g x w)) e
 
 -- ---- the table with a frame entered
 
