@@ -8,8 +8,9 @@ use borrow.Author.Tests.{eq-eqb, ne-eqb}
 use lib.ListN.{length, take, length-take}
 use Rattle.le.proofs.Stores.{length-put}
 use Rattle.header.specs.declared.DbHeader.{DbHeader}
-use Rattle.wal.specs.Header.{encodeWalHeader}
-use Rattle.wal.specs.Recovery.{good, goodFront, countOf}
+use Rattle.frame.specs.Frame.{frameSize}
+use Rattle.wal.specs.Header.{headerSize, encodeWalHeader}
+use Rattle.wal.specs.Recovery.{countOf, good, goodFront, walArea}
 use Rattle.wal.specs.declared.WalHeader.{WalHeader}
 use Rattle.wal.proofs.Frames.{good-append, good-cons, sealed-snoc}
 use Rattle.wal.proofs.Laid.{joined, Whole, joined-append, whole-append}
@@ -21,12 +22,12 @@ use Rattle.history.proofs.Files.{putting, put-file, put-front, reach-be
 use Rattle.history.proofs.Disk.{BookIs, OnDisk, DiskOk, short-stop, none-sealed, log-inside, log-len}
 
 module _ {d : Disk} {b : Book} {l : WalHeader} {S P : List (List ℕ)} {mh : DbHeader} (o : OnDisk d b l S P [] mh)
-    (f : List ℕ) (long : length f ≡ 4112) (fine : good (l .salt) f ≡ true) (room : d .log .len + 4112 ≤ 4210720) where
+    (f : List ℕ) (long : length f ≡ frameSize) (fine : good (l .salt) f ≡ true) (room : d .log .len + frameSize ≤ walArea) where
   -- the files with bytes behind the log
   abbrev pub longer : List ℕ → Disk
   longer xs = record { main = d .main; log = putting (d .log) (d .log .len) xs }
 
-  behind : 32 ≤ d .log .len
+  behind : headerSize ≤ d .log .len
   behind = omega (arith, log-len o)
 
   pub whole-store : (k : Kind) (flush : Bool) → stored (Put k file.Log (d .log .len) f flush) d ≡ longer f
@@ -39,10 +40,10 @@ module _ {d : Disk} {b : Book} {l : WalHeader} {S P : List (List ℕ)} {mh : DbH
   content-is : (xs : List ℕ) → content (longer xs .log) ≡ encodeWalHeader l ++ (joined (S ++ P) ++ xs)
   content-is xs = appended (d .log) xs (log-inside o) ∙ rw (o .log .bytes) (simp (append-assoc, append-nil))
 
-  area-is : (xs : List ℕ) → length xs ≤ 4112 → length (longer xs .log .area) ≡ 4210720
+  area-is : (xs : List ℕ) → length xs ≤ frameSize → length (longer xs .log .area) ≡ walArea
   area-is xs h = length-put (d .log .area) (d .log .len) xs (omega (arith, o .log .area)) ∙ o .log .area
 
-  fits : (xs : List ℕ) → length xs ≤ 4112 → longer xs .log .len ≤ 4210720
+  fits : (xs : List ℕ) → length xs ≤ frameSize → longer xs .log .len ≤ walArea
   fits xs h = omega arith
 
   again : S ++ (P ++ (f ∷ [])) ≡ S ++ P ++ (f ∷ [])
@@ -59,9 +60,9 @@ module _ {d : Disk} {b : Book} {l : WalHeader} {S P : List (List ℕ)} {mh : DbH
   unfolding joined
   all-content = content-is f ∙ rw (again, joined-append (S ++ P) (f ∷ [])) (simp (append-assoc, append-nil))
 
-  pub torn-on : (n : ℕ) → n < 4112 → OnDisk (longer (take n f)) b l S P (take n f) mh
+  pub torn-on : (n : ℕ) → n < frameSize → OnDisk (longer (take n f)) b l S P (take n f) mh
   torn-on n h =
-      let k : length (take n f) < 4112 = rw length-take (omega arith) in
+      let k : length (take n f) < frameSize = rw length-take (omega arith) in
       record {
         log =
             record {
@@ -120,5 +121,5 @@ module _ {d : Disk} {b : Book} {l : WalHeader} {S P : List (List ℕ)} {mh : DbH
       }
 
   -- a cut store leaves the files as they should be
-  pub cut-ok : (k : Kind) (flush : Bool) (n : ℕ) → n < 4112 → (z : List ℕ) → joined S ≡ z → DiskOk (cutStore (Put k file.Log (d .log .len) f flush) n d) b z
+  pub cut-ok : (k : Kind) (flush : Bool) (n : ℕ) → n < frameSize → (z : List ℕ) → joined S ≡ z → DiskOk (cutStore (Put k file.Log (d .log .len) f flush) n d) b z
   cut-ok k flush n h z e = rw (cut-store k flush n) (record { l = l; S = S; P = P; t = take n f; mh = mh; on = torn-on n h; kept = e })

@@ -1,31 +1,36 @@
 -- Appending a batch. Assumes nothing.
 use mathlib.Core.Path.{_≡_, refl, sym, ap, _∙_}
-use mathlib.Core.Bool.{Bool, true, false}
+use mathlib.Core.Bool.{Bool, true, false, not}
 use mathlib.Core.List.{List, [], _∷_, _++_, append-assoc}
+use mathlib.Core.Option.{none}
 use Prim.Native.Nat.{ℕ, _+_, _^_, max, _≤_, _<_}
 use native.Mathlib.Omega.{arith}
 use borrow.Author.Tests.{leb-true}
-use lib.Dec.{leb, eqb}
+use lib.Dec.{leb}
 use lib.ListN.{length}
-use Rattle.le.specs.Choice.{pick, both}
+use Rattle.le.specs.Choice.{both}
 use Rattle.le.specs.Le.{put, Bytes}
 use Rattle.le.proofs.Compare.{both-true}
-use Rattle.frame.specs.Frame.{encodeFrame, bodyOf}
+use Rattle.page.specs.Page.{pageSize}
+use Rattle.refusal.specs.declared.Refusal.the-variants as refusal
+use Rattle.refusal.proofs.Rows.{accepted}
+use Rattle.refusal.proofs.Judged.{met, behind}
+use Rattle.frame.specs.Frame.{frameSize, encodeFrame, bodyOf}
 use Rattle.frame.proofs.Stores.{length-encodeFrame}
 use Rattle.frame.proofs.RoundTrip.{body-back}
-use Rattle.mvcc.specs.Seen.{refusalOf, decodes, canonical}
-use Rattle.mvcc.proofs.Canonical.{canonical-decodes, canonical-commitTs, canonical-records, canonical-length}
-use Rattle.wal.specs.Recovery.{pageOf, good}
+use Rattle.mvcc.specs.Seen.{decodeRefusal, decodes, canonical, headingRefusal}
+use Rattle.mvcc.proofs.Canonical.{none-decodes, canonical-decodes, canonical-commitTs, canonical-records, canonical-length}
+use Rattle.wal.specs.Recovery.{pageOf, batchPage, good, walArea}
 use Rattle.wal.specs.Recovery as wal
 use Rattle.wal.specs.Write.{withFrame, hasRoom}
 use Rattle.wal.specs.declared.WalHeader.{WalHeader}
 use Rattle.wal.proofs.Frames.{page-encoded, count-encoded, good-batch}
-use Rattle.pager_state.specs.World.{World, world, busy, readOnly, logFine, withWal}
-use Rattle.pager_state.specs.Batches.{decodedAs, appendAnswer, appendRefusal, batchFrame, appendBatch, appendAfter}
+use Rattle.pager_state.specs.World.{World, world, pageLimit, logFine, busy, readOnly, withWal}
+use Rattle.pager_state.specs.Batches.{appendRefusal, batchFrame, appendBatch, appendAfter}
 use Rattle.pager_state.specs.Stores.{diskOf, Act, Put, Batched, stored}
 use Rattle.pager_state.specs.declared.FileKind.the-variants as file
 use Rattle.pager_state.specs.declared.Job.the-variants as job
-use Rattle.pager_state.specs.declared.BatchAnswer.the-variants as append
+use Rattle.pager_state.proofs.Begun.{off, not-busy}
 use Rattle.history.specs.Book.{Book, batchIn, bookWait, tells}
 use Rattle.history.specs.Calls.{Append, refusedBy, storesOf, worldAfter}
 use Rattle.history.specs.Run.{keptAfter}
@@ -36,74 +41,51 @@ use Rattle.history.proofs.Rest.{Resting, Some, Inv, held-disk}
 use Rattle.history.proofs.Append.{longer, whole-store, whole-on, cut-ok}
 use Rattle.history.proofs.CommitFrame.{framed-len, framed-header}
 use Rattle.history.proofs.Running.{cut-none, cut-cons}
-use Rattle.history.proofs.Taken.{Taken, taken-by, took, passed, idle-of, at-rest, rest-inv}
-
--- ---- a batch
-
-decoded-zero : (r : ℕ) → appendRefusal (decodedAs r) ≡ 0 → eqb r 0 ≡ true
-decoded-zero r e = took appendRefusal (eqb r 0) append.Appended (pick (eqb r 17) append.Truncated (pick (eqb r 18) append.Tag append.Text)) e (worse (eqb r 17) (eqb r 18)) .0
-  where
-    worse : (s t : Bool) → appendRefusal (pick s append.Truncated (pick t append.Tag append.Text)) ≡ 0 → ⊥
-    worse true t q = omega arith
-    worse false true q = omega arith
-    worse false false q = omega arith
+use Rattle.history.proofs.Taken.{Taken, taken-by, at-rest, rest-inv}
 
 module _ (w : World) (g : List ℕ) (b : Book) (z : List ℕ) (i : Inv w g b z) (body : List ℕ) (bs : Bytes body) (ok : refusedBy (Append body) w g ≡ 0) where
+  taken : appendRefusal (w .pager) (w .log) body ≡ none
+  unfolding refusedBy
+  taken = accepted _ ok
+
   record Appending : Type 0 where
-    areas : both (logFine (w .pager .wal .len) (w .log)) (leb (length body) 4096) ≡ true
-    notShort : eqb (refusalOf body) 2 ≡ false
-    notMagic : eqb (refusalOf body) 3 ≡ false
-    rests : busy (w .pager) ≡ false
-    writes : readOnly (w .pager) ≡ false
-    room : hasRoom (w .pager .wal) ≡ true
-    good : eqb (refusalOf body) 0 ≡ true
+    short : length body ≤ pageSize
+    idle : w .pager .job ≡ job.Idle
+    room : w .pager .wal .len + frameSize ≤ walArea
+    does : decodes body ≡ true
 
   appending-ok : Appending
-  unfolding refusedBy appendBatch appendAnswer
+  unfolding appendRefusal
   appending-ok =
-      let a = took appendRefusal (both (logFine (w .pager .wal .len) (w .log)) (leb (length body) 4096)) _ append.Area ok (λ e. omega arith) in
-      let c = passed appendRefusal (eqb (refusalOf body) 2) append.Short _ (a .1) (λ e. omega arith) in
-      let d = passed appendRefusal (eqb (refusalOf body) 3) append.Magic _ (c .1) (λ e. omega arith) in
-      let f = passed appendRefusal (busy (w .pager)) append.Busy _ (d .1) (λ e. omega arith) in
-      let h = passed appendRefusal (readOnly (w .pager)) append.ReadOnly _ (f .1) (λ e. omega arith) in
-      let m = took appendRefusal (hasRoom (w .pager .wal)) (decodedAs (refusalOf body)) append.LogFull (h .1) (λ e. omega arith) in
+      let l : Bool = logFine (w .pager .wal .len) (w .log) in
+      let a = met (both l (leb (length body) pageSize)) refusal.Area _ taken in
+      let c = met (not (busy (w .pager))) refusal.Busy _ (behind (headingRefusal body) _ (a .1)) in
+      let d = met (not (readOnly (w .pager))) refusal.ReadOnly _ (c .1) in
+      let m = met (hasRoom (w .pager .wal)) refusal.LogFull (decodeRefusal body) (d .1) in
       record {
-        areas = a .0;
-        notShort = c .0;
-        notMagic = d .0;
-        rests = f .0;
-        writes = h .0;
-        room = m .0;
-        good = decoded-zero (refusalOf body) (m .1);
+        short = leb-true _ _ (both-true l (leb (length body) pageSize) (a .0) .1);
+        idle = not-busy (w .pager .job) (off _ (c .0));
+        room = leb-true _ _ (m .0);
+        does = none-decodes body (m .1);
       }
 
-  answer-is : appendAnswer (w .pager) (w .log) body ≡ append.Appended
-  unfolding appendAnswer
-  answer-is =
-      let a = appending-ok in
-      rw (a .areas, a .notShort, a .notMagic, a .rests, a .writes, a .room, a .good)
-
   idle : w .pager .job ≡ job.Idle
-  idle = idle-of (w .pager .job) (appending-ok .rests)
+  idle = appending-ok .idle
+
+  does : decodes body ≡ true
+  does = appending-ok .does
+
+  room : w .pager .wal .len + frameSize ≤ walArea
+  room = appending-ok .room
 
   k : Some (Resting w g b) z
   k = at-rest w g b z i idle
 
-  does : decodes body ≡ true
-  unfolding decodes
-  does = appending-ok .good
-
-  short : length body ≤ 4096
-  short = leb-true (length body) 4096 (both-true (logFine (w .pager .wal .len) (w .log)) (leb (length body) 4096) (appending-ok .areas) .1)
-
-  room : w .pager .wal .len + 4112 ≤ 4210720
-  room = leb-true (w .pager .wal .len + 4112) 4210720 (appending-ok .room)
-
   abbrev pub f : List ℕ
-  f = encodeFrame 4294967295 0 (w .pager .wal .header .salt) (canonical body)
+  f = encodeFrame batchPage 0 (w .pager .wal .header .salt) (canonical body)
 
-  f-long : length f ≡ 4112
-  f-long = length-encodeFrame 4294967295 0 (w .pager .wal .header .salt) (canonical body) (canonical-length body bs does short)
+  f-long : length f ≡ frameSize
+  f-long = length-encodeFrame batchPage 0 (w .pager .wal .header .salt) (canonical body) (canonical-length body bs does (appending-ok .short))
 
   salt-fits : w .pager .wal .header .salt < 2 ^ 32
   salt-fits = rw (k .it .held .salt) (k .it .held .on .log .written .salt)
@@ -113,16 +95,16 @@ module _ (w : World) (g : List ℕ) (b : Book) (z : List ℕ) (i : Inv w g b z) 
       ap (λ (s : ℕ). good s f) (sym (k .it .held .salt))
       ∙ good-batch 0 (w .pager .wal .header .salt) (canonical body) salt-fits ∙ canonical-decodes body bs does
 
-  f-page : pageOf f ≡ 4294967295
-  f-page = page-encoded 4294967295 0 (w .pager .wal .header .salt) (canonical body) (omega arith)
+  f-page : pageOf f ≡ batchPage
+  f-page = page-encoded batchPage 0 (w .pager .wal .header .salt) (canonical body) (omega arith)
 
   f-count : wal.countOf f ≡ 0
-  f-count = count-encoded 4294967295 0 (w .pager .wal .header .salt) (canonical body) (omega arith)
+  f-count = count-encoded batchPage 0 (w .pager .wal .header .salt) (canonical body) (omega arith)
 
   f-batch : batchIn (bodyOf f) ≡ batchIn body
   unfolding batchIn
   f-batch =
-      rw (body-back 4294967295 0 (w .pager .wal .header .salt) (canonical body), canonical-commitTs body bs does, canonical-records body bs does)
+      rw (body-back batchPage 0 (w .pager .wal .header .salt) (canonical body), canonical-commitTs body bs does, canonical-records body bs does)
 
   abbrev pub v : World
   v = world (withWal (w .pager) (withFrame (w .pager .wal) 0)) (w .table) (put (w .log) (w .pager .wal .len) f) (w .main)
@@ -146,7 +128,7 @@ module _ (w : World) (g : List ℕ) (b : Book) (z : List ℕ) (i : Inv w g b z) 
   again : k .S ++ (k .P ++ (f ∷ [])) ≡ k .S ++ k .P ++ (f ∷ [])
   again = sym (append-assoc (k .S) (k .P) (f ∷ []))
 
-  other : (n : ℕ) → n < 1024 → pageOf f ≡ n → ⊥
+  other : (n : ℕ) → n < pageLimit → pageOf f ≡ n → ⊥
   other n h e = omega (arith, f-page)
 
   resting : Resting v g (bookWait (batchIn body) b) (k .l) (k .S) (k .P ++ (f ∷ [])) (k .mh)
@@ -172,7 +154,7 @@ module _ (w : World) (g : List ℕ) (b : Book) (z : List ℕ) (i : Inv w g b z) 
 
   pub world-is : worldAfter (Append body) w g ≡ v
   unfolding worldAfter appendBatch appendAfter batchFrame
-  world-is = rw answer-is
+  world-is = rw taken
 
   pub stores-is : storesOf (Append body) w g ≡ act ∷ []
   unfolding storesOf batchFrame

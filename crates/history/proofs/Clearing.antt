@@ -1,17 +1,15 @@
 -- Dropping what is staged. Assumes nothing.
 use mathlib.Core.Path.{_≡_, refl, sym, subst}
-use mathlib.Core.Bool.{false}
 use mathlib.Core.List.{List, []}
+use mathlib.Core.Option.{none}
 use Prim.Native.Nat.{ℕ}
-use native.Mathlib.Omega.{arith}
-use Rattle.pager_state.specs.World.{World, busy, withStaged, noneStaged}
-use Rattle.pager_state.specs.Staging.{clearStaged, clearRefusal}
+use Rattle.refusal.proofs.Rows.{accepted}
+use Rattle.pager_state.specs.World.{World, busyRefusal, withStaged, noneStaged}
+use Rattle.pager_state.specs.Staging.{clearStaged}
 use Rattle.pager_state.specs.Stores.{diskOf}
 use Rattle.pager_state.specs.Steps.{onStore}
 use Rattle.pager_state.specs.declared.Job.the-variants as job
 use Rattle.pager_state.specs.declared.Pager.{Pager}
-use Rattle.pager_state.specs.declared.StagedCleared.{StagedCleared}
-use Rattle.pager_state.specs.declared.ClearAnswer.the-variants as clear
 use Rattle.history.specs.Book.{Book, bookClear, tells}
 use Rattle.history.specs.Calls.{Clear, refusedBy, storesOf, worldAfter}
 use Rattle.history.specs.Run.{keptAfter}
@@ -19,19 +17,17 @@ use Rattle.history.proofs.Opening.{re-book}
 use Rattle.history.proofs.Rest.{Resting, Some, Inv, held-disk}
 use Rattle.history.proofs.CommitSeal.{none-slots, none-staged}
 use Rattle.history.proofs.Running.{cut-none}
-use Rattle.history.proofs.Taken.{Taken, passed, idle-of, at-rest, rest-inv}
+use Rattle.history.proofs.Taken.{Taken, rests-by, at-rest, rest-inv}
 
 -- ---- dropping what is staged
 
 module _ (w : World) (g : List ℕ) (b : Book) (z : List ℕ) (i : Inv w g b z) (ok : refusedBy Clear w g ≡ 0) where
-  rests : busy (w .pager) ≡ false
-  unfolding refusedBy clearStaged
-  rests =
-      passed (λ (x : StagedCleared). clearRefusal (x .answer)) (busy (w .pager)) (record { answer = clear.Busy; pager = w .pager })
-      (record { answer = clear.Cleared; pager = withStaged (w .pager) (noneStaged (w .pager .staged)) }) ok (λ e. omega arith) .0
+  taken : busyRefusal (w .pager) ≡ none
+  unfolding refusedBy
+  taken = accepted _ ok
 
   idle : w .pager .job ≡ job.Idle
-  idle = idle-of (w .pager .job) rests
+  idle = rests-by (w .pager) taken
 
   k : Some (Resting w g b) z
   k = at-rest w g b z i idle
@@ -41,7 +37,7 @@ module _ (w : World) (g : List ℕ) (b : Book) (z : List ℕ) (i : Inv w g b z) 
 
   pager-is : clearStaged (w .pager) .pager ≡ withStaged (w .pager) (noneStaged (w .pager .staged))
   unfolding clearStaged
-  pager-is = rw rests
+  pager-is = rw taken
 
   resting : Resting v g (bookClear b) (k .l) (k .S) (k .P) (k .mh)
   resting =

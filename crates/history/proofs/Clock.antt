@@ -2,27 +2,26 @@
 use mathlib.Core.Path.{_≡_, refl, sym, ap, _∙_, subst}
 use mathlib.Core.Bool.{Bool, true, false}
 use mathlib.Core.List.{List, []}
+use mathlib.Core.Option.{none}
 use Prim.Native.Nat.{ℕ, _^_, _<_}
-use native.Mathlib.Omega.{arith}
 use lib.Dec.{leb}
 use Rattle.le.specs.Choice.{pick}
+use Rattle.refusal.proofs.Rows.{accepted}
 use Rattle.wal.specs.Write.{withClock}
 use Rattle.wal.specs.declared.Wal.{Wal}
-use Rattle.pager_state.specs.World.{World, busy, withWal}
-use Rattle.pager_state.specs.Queries.{raised, observedBy, observeClock, observeRefusal}
+use Rattle.pager_state.specs.World.{World, busyRefusal, withWal}
+use Rattle.pager_state.specs.Queries.{raised, observedBy, observeClock}
 use Rattle.pager_state.specs.Stores.{diskOf}
 use Rattle.pager_state.specs.Steps.{onStore}
 use Rattle.pager_state.specs.declared.Job.the-variants as job
 use Rattle.pager_state.specs.declared.Opening.{Opening}
 use Rattle.pager_state.specs.declared.Pager.{Pager}
-use Rattle.pager_state.specs.declared.ClockObserved.{ClockObserved}
-use Rattle.pager_state.specs.declared.ObserveAnswer.the-variants as observe
 use Rattle.history.specs.Book.{Book, tells}
 use Rattle.history.specs.Calls.{Observe, refusedBy, storesOf, worldAfter}
 use Rattle.history.specs.Run.{keptAfter}
 use Rattle.history.proofs.Rest.{Resting, Some, Inv, held-disk}
 use Rattle.history.proofs.Running.{cut-none}
-use Rattle.history.proofs.Taken.{Taken, passed, idle-of, at-rest, rest-inv}
+use Rattle.history.proofs.Taken.{Taken, rests-by, at-rest, rest-inv}
 
 -- ---- the clock
 
@@ -37,14 +36,12 @@ raised-by v c h k true = record { len = refl; salt = refl; clock = h }
 raised-by v c h k false = record { len = refl; salt = refl; clock = k }
 
 module _ (w : World) (g : List ℕ) (b : Book) (z : List ℕ) (i : Inv w g b z) (c : ℕ) (small : c < 2 ^ 64) (ok : refusedBy (Observe c) w g ≡ 0) where
-  rests : busy (w .pager) ≡ false
-  unfolding refusedBy observeClock
-  rests =
-      passed (λ (x : ClockObserved). observeRefusal (x .answer)) (busy (w .pager)) (record { answer = observe.Busy; pager = w .pager })
-      (record { answer = observe.Observed; pager = withWal (w .pager) (observedBy (w .pager .opening) (w .pager .wal) c) }) ok (λ e. omega arith) .0
+  taken : busyRefusal (w .pager) ≡ none
+  unfolding refusedBy
+  taken = accepted _ ok
 
   idle : w .pager .job ≡ job.Idle
-  idle = idle-of (w .pager .job) rests
+  idle = rests-by (w .pager) taken
 
   k : Some (Resting w g b) z
   k = at-rest w g b z i idle
@@ -61,7 +58,7 @@ module _ (w : World) (g : List ℕ) (b : Book) (z : List ℕ) (i : Inv w g b z) 
 
   pub pager-is : observeClock (w .pager) c .pager ≡ withWal (w .pager) u
   unfolding observeClock
-  pager-is = rw rests (ap (λ (o : Opening). withWal (w .pager) (observedBy o (w .pager .wal) c)) (k .it .held .clean))
+  pager-is = rw taken (ap (λ (o : Opening). withWal (w .pager) (observedBy o (w .pager .wal) c)) (k .it .held .clean))
 
   pub disk-is : diskOf v ≡ diskOf w
   disk-is = λ j. record { main = diskOf w .main; log = record { area = w .log; len = raised-ok .len j } }

@@ -17,18 +17,18 @@ use Rattle.header.specs.declared.DbHeader.{DbHeader}
 use Rattle.header.specs.declared.HeaderDecoded.the-variants as main
 use Rattle.header.proofs.Encoding.{length-encodeHeader}
 use Rattle.header.proofs.RoundTrip.{decode-encode}
-use Rattle.frame.specs.Frame.{encodeFrame, bodyOf}
+use Rattle.frame.specs.Frame.{frameSize, encodeFrame, bodyOf}
 use Rattle.frame.proofs.Stores.{length-encodeFrame}
 use Rattle.frame.proofs.RoundTrip.{body-back}
-use Rattle.wal.specs.Header.{encodeWalHeader}
-use Rattle.wal.specs.Recovery.{chunkAt, pageOf, pageIn, good, batchesIn}
+use Rattle.wal.specs.Header.{headerSize, encodeWalHeader}
+use Rattle.wal.specs.Recovery.{chunkAt, pageOf, good, pageIn, batchesIn, walArea}
 use Rattle.wal.specs.Recovery as wal
 use Rattle.wal.specs.Write.{withFrame}
 use Rattle.wal.specs.declared.WalHeader.{WalHeader}
 use Rattle.wal.proofs.Encoding.{length-encodeWalHeader}
 use Rattle.wal.proofs.Frames.{page-encoded, count-encoded, good-page}
 use Rattle.wal.proofs.Laid.{joined, joined-append}
-use Rattle.pager_state.specs.World.{World, countOf, noneStaged}
+use Rattle.pager_state.specs.World.{World, pageLimit, countOf, noneStaged}
 use Rattle.pager_state.specs.Overlay.{isStaged, stagedBytes, slotOf}
 use Rattle.pager_state.specs.Pages.{pagesFrom, differs}
 use Rattle.pager_state.specs.Stores.{Disk, content, diskOf, Act, Sealed, stored, putFile}
@@ -37,16 +37,17 @@ use Rattle.pager_state.specs.Commit.{saltOf, sealAct, sealedPager, sealedWorld,
 use Rattle.pager_state.specs.Steps.{todo, advance}
 use Rattle.pager_state.specs.declared.Staged.{Staged}
 use Rattle.pager_state.specs.declared.Job.the-variants as job
+use Rattle.pager_state.proofs.Next.{todo-by, advance-by}
+use Rattle.pager_state.proofs.Searches.{pages-none}
 use Rattle.history.specs.Book.{Book, orElse, entered, bookSeal}
 use Rattle.history.specs.Run.{keptBy}
 use Rattle.history.proofs.Files.{same-file, length-content}
 use Rattle.history.proofs.Frames.{last-same, last-other, page-last, place-same, batchesOf, batches-append, batches-page}
-use Rattle.history.proofs.PagesFrom.{pages-none}
 use Rattle.history.proofs.Slots.{Slots, staged-long}
 use Rattle.history.proofs.Disk.{viewOf, headerOver, OnDisk, log-len, log-inside}
 use Rattle.history.proofs.Rest.{Held, Tabled, Resting, Committing, Folding, Some, InvJob, worldPage, page-view, page-sealed, step-fine}
 use Rattle.history.proofs.Append.{longer, whole-store, sealed-on, cut-ok}
-use Rattle.history.proofs.Stepping.{StepOk, todo-by, advance-by, table-entered, settled}
+use Rattle.history.proofs.Stepping.{StepOk, table-entered, settled}
 use Rattle.history.proofs.CommitFrame.{framed-len, framed-header}
 
 -- nothing is staged any more
@@ -88,7 +89,7 @@ module _ (g : List ℕ) (w : World) (b : Book) (z : List ℕ) (h : DbHeader) (sa
   abbrev v : World
   v = sealedWorld h salt answer w
 
-  f-long : length f ≡ 4112
+  f-long : length f ≡ frameSize
   f-long = length-encodeFrame 0 (countOf h) (saltOf w) (encodeHeader h) (length-encodeHeader h)
 
   salt-fits : saltOf w < 2 ^ 32
@@ -108,7 +109,7 @@ module _ (g : List ℕ) (w : World) (b : Book) (z : List ℕ) (h : DbHeader) (sa
   f-seals : wal.countOf f ≡ 0 → ⊥
   f-seals e = omega (arith, f-count, c .least)
 
-  room : w .pager .wal .len + 4112 ≤ 4210720
+  room : w .pager .wal .len + frameSize ≤ walArea
   room = omega (arith, c .room)
 
   at-is : w .pager .wal .len ≡ chunkAt (length fs)
@@ -123,12 +124,12 @@ module _ (g : List ℕ) (w : World) (b : Book) (z : List ℕ) (h : DbHeader) (sa
   disk-is : diskOf v ≡ stored (sealAct h w) (diskOf w)
   unfolding sealedWorld sealedPager putFile
   disk-is =
-      let e : w .pager .wal .len + 4112 ≡ max (w .pager .wal .len) (w .pager .wal .len + length f) = omega (arith, f-long) in
+      let e : w .pager .wal .len + frameSize ≡ max (w .pager .wal .len) (w .pager .wal .len + length f) = omega (arith, f-long) in
       λ i. record { main = diskOf w .main; log = same-file {f = record { area = stored (sealAct h w) (diskOf w) .log .area; len = withFrame (w .pager .wal) (countOf h) .len }} {g = stored (sealAct h w) (diskOf w) .log} refl (framed-len (w .pager .wal) (countOf h) ∙ e) i }
 
   -- ---- the pages
 
-  all-settled : (n : ℕ) → n < 1024 → isStaged (w .pager .staged) n ≡ true → worldPage w n ≡ some (stagedBytes (w .pager .staged) g n)
+  all-settled : (n : ℕ) → n < pageLimit → isStaged (w .pager .staged) n ≡ true → worldPage w n ≡ some (stagedBytes (w .pager .staged) g n)
   all-settled n hn s = go (le-or-lt p n)
     where
       go : (p ≤ n) ⊎ (n < p) → worldPage w n ≡ some (stagedBytes (w .pager .staged) g n)
@@ -151,7 +152,7 @@ module _ (g : List ℕ) (w : World) (b : Book) (z : List ℕ) (h : DbHeader) (sa
   page-now n h1 h2 true s =
       all-settled n (omega (arith, c .most)) s ∙ sym (rw (book-staged n true s))
   page-now n h1 h2 false s =
-      let hn : n < 1024 = omega (arith, c .most) in
+      let hn : n < pageLimit = omega (arith, c .most) in
       page-sealed (c .held) (c .table) n hn (c .unstaged n hn s) ∙ c .held .on .book .pages n h1 (old-page n h1 h2 s) ∙ sym (rw (book-staged n false s))
 
   page-there : (n : ℕ) → 1 ≤ n → n < countOf h → (t : Bool) → isStaged (w .pager .staged) n ≡ t → (x : List ℕ) × (orElse (b .staged n) (b .pages n) ≡ some x)
@@ -170,8 +171,8 @@ module _ (g : List ℕ) (w : World) (b : Book) (z : List ℕ) (h : DbHeader) (sa
   top-is =
       let e : bodyOf (pageIn 0 (fs ++ (f ∷ []))) ≡ encodeHeader h =
       page-last 0 (fs ++ (f ∷ [])) (bodyOf f) (last-same 0 fs f f-page) ∙ body-back 0 (countOf h) (saltOf w) (encodeHeader h) in
-      let q : 32 + 4112 * length fs ≡ 0 → ⊥ = λ x. omega arith in
-      rw (again, place-same 0 fs f f-page, ne-eqb (32 + 4112 * length fs) 0 q, e) (decode-encode h (c .plain))
+      let q : headerSize + frameSize * length fs ≡ 0 → ⊥ = λ x. omega arith in
+      rw (again, place-same 0 fs f f-page, ne-eqb (headerSize + frameSize * length fs) 0 q, e) (decode-encode h (c .plain))
 
   batches-is : batchesOf S′ ≡ b .sealed ++ b .waiting
   batches-is =
@@ -223,16 +224,16 @@ module _ (g : List ℕ) (w : World) (b : Book) (z : List ℕ) (h : DbHeader) (sa
       let d : Disk = stored (sealAct h w) (diskOf w) in
       let o : OnDisk (stored (sealAct h w) (diskOf w)) (bookSeal b) (k .l) S′ [] [] (k .mh) = rw disk-is at on-after in
       let n : length (content (d .log)) ≡ d .log .len = length-content (d .log) (log-inside o) in
-      let m : d .log .len ≡ w .pager .wal .len + 4112 = ap (λ (x : Disk). x .log .len) stored-is ∙ omega (arith, f-long) in
+      let m : d .log .len ≡ w .pager .wal .len + frameSize = ap (λ (x : Disk). x .log .len) stored-is ∙ omega (arith, f-long) in
       let t : take (w .pager .wal .len + length f) (content (d .log)) ≡ content (d .log) =
       take-all (w .pager .wal .len + length f) (content (d .log)) (omega (arith, f-long, n, m)) in
       let R : List ℕ = joined (k .P ++ (f ∷ [])) in
       let a : joined S′ ≡ z ++ R = joined-append (k .S) (k .P ++ (f ∷ [])) ∙ ap (λ (x : List ℕ). x ++ R) (k .kept) in
       let b : encodeWalHeader (k .l) ++ (joined (S′ ++ []) ++ []) ≡ encodeWalHeader (k .l) ++ z ++ R =
       ap (λ (x : List ℕ). encodeWalHeader (k .l) ++ x) (append-nil (joined (S′ ++ [])) ∙ ap joined (append-nil S′) ∙ a) ∙ sym (append-assoc (encodeWalHeader (k .l)) z R) in
-      let front : length (encodeWalHeader (k .l) ++ z) ≡ 32 + length z =
+      let front : length (encodeWalHeader (k .l) ++ z) ≡ headerSize + length z =
       length-append (encodeWalHeader (k .l)) z ∙ omega (arith, length-encodeWalHeader (k .l)) in
-      a ∙ ap (λ (x : List ℕ). z ++ x) (sym (rw (t, o .log .bytes, b) (drop-at (encodeWalHeader (k .l) ++ z) R (32 + length z) front)))
+      a ∙ ap (λ (x : List ℕ). z ++ x) (sym (rw (t, o .log .bytes, b) (drop-at (encodeWalHeader (k .l) ++ z) R (headerSize + length z) front)))
 
   -- ---- after the seal
 
@@ -277,7 +278,7 @@ module _ (g : List ℕ) (w : World) (b : Book) (z : List ℕ) (h : DbHeader) (sa
         next = v;
         todoIs = todo-is;
         nextIs = next-is;
-        lies = le-leb (w .pager .wal .len + length f) 4210720 (omega (arith, f-long, room));
+        lies = le-leb (w .pager .wal .len + length f) walArea (omega (arith, f-long, room));
         covers = (omega (arith, f-long), omega (arith, f-long));
         fine = step-fine (c .held);
         disk = disk-is;

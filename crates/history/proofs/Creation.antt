@@ -5,26 +5,23 @@ use mathlib.Core.List.{List, []}
 use mathlib.Core.Option.{Option, none, some}
 use Prim.Native.Nat.{ℕ, _+_, _*_, _^_, max, _≤_, _<_}
 use native.Mathlib.Omega.{arith}
-use borrow.Author.Tests.{eqb-true, ne-eqb}
-use lib.Dec.{leb, eqb}
+use borrow.Author.Tests.{ne-eqb}
 use lib.ListN.{length, take}
-use Rattle.le.specs.Choice.{both}
 use Rattle.le.specs.Le.{put}
-use Rattle.le.proofs.Compare.{both-true}
 use Rattle.le.proofs.Stores.{length-put, take-put, part-put}
-use Rattle.page.specs.Page.{emptyTablePage}
+use Rattle.page.specs.Page.{pageSize, emptyTablePage}
 use Rattle.page.proofs.Written.{length-emptyTablePage}
 use Rattle.header.specs.Header.{encodeHeader, decodeHeader}
 use Rattle.header.specs.declared.HeaderDecoded.the-variants as main
 use Rattle.header.proofs.Encoding.{length-encodeHeader}
 use Rattle.header.proofs.RoundTrip.{Plain, decode-encode}
-use Rattle.wal.specs.Header.{encodeWalHeader}
-use Rattle.wal.specs.Recovery.{lastCount, batchesIn}
+use Rattle.wal.specs.Header.{headerSize, encodeWalHeader}
+use Rattle.wal.specs.Recovery.{lastCount, batchesIn, walArea}
 use Rattle.wal.specs.Write.{emptyWal, createdHeader}
 use Rattle.wal.proofs.Encoding.{length-encodeWalHeader}
-use Rattle.wal.proofs.Writing.{created-written}
 use Rattle.wal.proofs.Laid.{joined}
-use Rattle.pager_state.specs.World.{world, countOf, tableFine, logFine, mainFine, stagingFine}
+use Rattle.wal.proofs.Writing.{created-written}
+use Rattle.pager_state.specs.World.{world, mainArea, countOf}
 use Rattle.pager_state.specs.Overlay.{pageFrom}
 use Rattle.pager_state.specs.Opening.{placeFrom, tableOf, opensAs, firstHeader, logStores, createStores, emptyFile, createdDisk, createdPager, createFine, createTable, createLog, createMain}
 use Rattle.pager_state.specs.Stores.{File, Disk, storedAll, putFile, lenFile}
@@ -33,24 +30,13 @@ use Rattle.history.specs.Run.{start}
 use Rattle.history.proofs.Files.{lasting, put-file, len-file, page-same}
 use Rattle.history.proofs.Disk.{viewOf, headerOver, OnDisk, log-alone}
 use Rattle.history.proofs.Rest.{Resting}
-use Rattle.history.proofs.Opening.{rests}
+use Rattle.history.proofs.Opening.{fine-sized, rests}
 use Rattle.history.proofs.Reopening.{InvRun}
+use Rattle.history.specs.Demand3.{Sized}
 
 module _ (t l m g : List ℕ) (salt : ℕ) (ok : createFine t l m g ≡ true) (small : salt < 2 ^ 32) where
-  record Sizes : Type 0 where
-    table : length t ≡ 1024
-    log : length l ≡ 4210720
-    main : length m ≡ 4194304
-    staging : length g ≡ 262144
-
-  sizes : Sizes
-  sizes =
-      let a = both-true (tableFine t) (both (logFine 0 l) (both (mainFine 0 m) (stagingFine g))) ok in
-      let b = both-true (logFine 0 l) (both (mainFine 0 m) (stagingFine g)) (a .1) in
-      let c = both-true (mainFine 0 m) (stagingFine g) (b .1) in
-      let d = both-true (eqb (length l) 4210720) (leb 0 4210720) (b .0) in
-      let e = both-true (eqb (length m) 4194304) (leb 0 4194304) (c .0) in
-      record { table = eqb-true _ _ (a .0); log = eqb-true _ _ (d .0); main = eqb-true _ _ (e .0); staging = eqb-true _ _ (c .1) }
+  sizes : Sized (record { table = t; staging = g; log = l; main = m })
+  sizes = fine-sized (record { table = t; staging = g; log = l; main = m }) 0 0 ok
 
   abbrev head : List ℕ
   head = encodeHeader firstHeader
@@ -59,26 +45,26 @@ module _ (t l m g : List ℕ) (salt : ℕ) (ok : createFine t l m g ≡ true) (s
   log-head = encodeWalHeader (createdHeader salt)
 
   abbrev main-area : List ℕ
-  main-area = put (put m 0 (encodeHeader firstHeader)) 4096 emptyTablePage
+  main-area = put (put m 0 (encodeHeader firstHeader)) pageSize emptyTablePage
 
   abbrev log-area : List ℕ
   log-area = put l 0 (encodeWalHeader (createdHeader salt))
 
   abbrev x : Disk
-  x = record { main = record { area = main-area; len = 8192 }; log = record { area = log-area; len = 32 } }
+  x = record { main = record { area = main-area; len = 8192 }; log = record { area = log-area; len = headerSize } }
 
-  two-pages : (f : File) → f .len ≡ 0 → putFile (putFile (lenFile f 0) 0 head) 4096 emptyTablePage ≡ record { area = put (put (f .area) 0 head) 4096 emptyTablePage; len = 8192 }
+  two-pages : (f : File) → f .len ≡ 0 → putFile (putFile (lenFile f 0) 0 head) pageSize emptyTablePage ≡ record { area = put (put (f .area) 0 head) pageSize emptyTablePage; len = 8192 }
   two-pages f e =
-      let h : length head ≡ 4096 = length-encodeHeader firstHeader in
-      let n : max 0 (0 + length head) ≡ 4096 = omega arith in
-      let p : length emptyTablePage ≡ 4096 = length-emptyTablePage in
-      let q : max 4096 (4096 + length emptyTablePage) ≡ 8192 = omega arith in
-      rw (len-file f 0 (omega arith), put-file (lasting f 0) 0 head (omega arith), n, put-file (record { area = put (f .area) 0 head; len = 4096 }) 4096 emptyTablePage (omega arith), q)
+      let h : length head ≡ pageSize = length-encodeHeader firstHeader in
+      let n : max 0 (0 + length head) ≡ pageSize = omega arith in
+      let p : length emptyTablePage ≡ pageSize = length-emptyTablePage in
+      let q : max pageSize (pageSize + length emptyTablePage) ≡ 8192 = omega arith in
+      rw (len-file f 0 (omega arith), put-file (lasting f 0) 0 head (omega arith), n, put-file (record { area = put (f .area) 0 head; len = pageSize }) pageSize emptyTablePage (omega arith), q)
 
-  header-alone : (f : File) → putFile (lenFile f 0) 0 log-head ≡ record { area = put (f .area) 0 log-head; len = 32 }
+  header-alone : (f : File) → putFile (lenFile f 0) 0 log-head ≡ record { area = put (f .area) 0 log-head; len = headerSize }
   header-alone f =
-      let h : length log-head ≡ 32 = length-encodeWalHeader (createdHeader salt) in
-      let n : max 0 (0 + length log-head) ≡ 32 = omega arith in
+      let h : length log-head ≡ headerSize = length-encodeWalHeader (createdHeader salt) in
+      let n : max 0 (0 + length log-head) ≡ headerSize = omega arith in
       rw (len-file f 0 (omega arith), put-file (lasting f 0) 0 log-head (omega arith), n)
 
   disk-is : createdDisk l m salt ≡ x
@@ -87,26 +73,26 @@ module _ (t l m g : List ℕ) (salt : ℕ) (ok : createFine t l m g ≡ true) (s
 
   -- ---- the files
 
-  first-long : length (put m 0 head) ≡ 4194304
+  first-long : length (put m 0 head) ≡ mainArea
   first-long = length-put m 0 head (omega (arith, sizes .main, length-encodeHeader firstHeader)) ∙ sizes .main
 
-  main-long : length main-area ≡ 4194304
-  main-long = length-put (put m 0 head) 4096 emptyTablePage (omega (arith, first-long, length-emptyTablePage)) ∙ first-long
+  main-long : length main-area ≡ mainArea
+  main-long = length-put (put m 0 head) pageSize emptyTablePage (omega (arith, first-long, length-emptyTablePage)) ∙ first-long
 
-  log-long : length log-area ≡ 4210720
+  log-long : length log-area ≡ walArea
   log-long = length-put l 0 log-head (omega (arith, sizes .log, length-encodeWalHeader (createdHeader salt))) ∙ sizes .log
 
   plain : Plain firstHeader
   unfolding firstHeader
   plain = record { count = omega arith; root = omega arith; free = omega arith; low = omega arith; high = omega arith }
 
-  main-head : decodeHeader (take 4096 main-area) ≡ main.Header firstHeader
+  main-head : decodeHeader (take pageSize main-area) ≡ main.Header firstHeader
   main-head =
-      let a : take 4096 main-area ≡ take 4096 (put m 0 head) = take-put 4096 (put m 0 head) 4096 emptyTablePage (omega arith) (omega (arith, first-long)) in
-      let b : take 4096 (put m 0 head) ≡ head = part-put 4096 m 0 head (length-encodeHeader firstHeader) (omega arith) in
+      let a : take pageSize main-area ≡ take pageSize (put m 0 head) = take-put pageSize (put m 0 head) pageSize emptyTablePage (omega arith) (omega (arith, first-long)) in
+      let b : take pageSize (put m 0 head) ≡ head = part-put pageSize m 0 head (length-encodeHeader firstHeader) (omega arith) in
       ap decodeHeader (a ∙ b) ∙ decode-encode firstHeader plain
 
-  page-one : pageFrom (4096 * 1) main-area ≡ emptyTablePage
+  page-one : pageFrom (pageSize * 1) main-area ≡ emptyTablePage
   page-one = page-same (put m 0 head) 1 emptyTablePage (omega (arith, length-emptyTablePage)) (omega (arith, first-long)) length-emptyTablePage
 
   only-one : (n : ℕ) → 1 ≤ n → n < 2 → n ≡ 1
@@ -150,7 +136,7 @@ module _ (t l m g : List ℕ) (salt : ℕ) (ok : createFine t l m g ≡ true) (s
   on =
       record {
         log = log-alone (x .log) (createdHeader salt) (created-written salt small)
-            (part-put 32 l 0 log-head (length-encodeWalHeader (createdHeader salt)) (omega arith)) log-long (omega arith);
+            (part-put headerSize l 0 log-head (length-encodeWalHeader (createdHeader salt)) (omega arith)) log-long (omega arith);
         main = record { area = main-long; fits = omega arith; long = omega arith; has = omega (arith, count-two); head = main-head };
         book =
             record {
@@ -165,7 +151,7 @@ module _ (t l m g : List ℕ) (salt : ℕ) (ok : createFine t l m g ≡ true) (s
             };
       }
 
-  wal-len : emptyWal (createdHeader salt) .len ≡ 32
+  wal-len : emptyWal (createdHeader salt) .len ≡ headerSize
   unfolding emptyWal
   wal-len = refl
 
@@ -180,7 +166,7 @@ module _ (t l m g : List ℕ) (salt : ℕ) (ok : createFine t l m g ≡ true) (s
   resting : Resting (world (createdPager salt) (tableOf firstHeader []) log-area main-area) g firstBook (createdHeader salt) [] [] firstHeader
   unfolding createdPager firstBook
   resting =
-      rests x firstBook (createdHeader salt) [] firstHeader firstHeader (emptyWal (createdHeader salt)) 32 g on wal-len wal-salt wal-clock (sizes .staging) (λ n. refl) refl
+      rests x firstBook (createdHeader salt) [] firstHeader firstHeader (emptyWal (createdHeader salt)) headerSize g on wal-len wal-salt wal-clock (sizes .staging) (λ n. refl) refl
 
   world-is : start t l m g salt .world ≡ world (createdPager salt) (tableOf firstHeader []) log-area main-area
   unfolding start createTable createLog createMain

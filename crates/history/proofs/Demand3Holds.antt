@@ -8,7 +8,10 @@ use borrow.Author.Tests.{eqb-true, eq-eqb}
 use lib.Dec.{eqb}
 use lib.ListN.{length}
 use Rattle.wal.specs.Recovery.{chunkAt}
+use Rattle.le.specs.Choice.{pick}
 use Rattle.le.proofs.Compare.{no-test}
+use Rattle.refusal.specs.declared.Refusal.the-variants as refusal
+use Rattle.refusal.proofs.Rows.{accepted}
 use Rattle.pager_state.specs.World.{World}
 use Rattle.pager_state.specs.Stores.{diskOf, SetLen, Other}
 use Rattle.pager_state.specs.Opening.{openFine, openPager, openRefusal}
@@ -16,6 +19,7 @@ use Rattle.pager_state.specs.declared.AccessMode.{AccessMode}
 use Rattle.pager_state.specs.declared.AccessMode.the-variants as mode
 use Rattle.pager_state.specs.declared.FileKind.the-variants as file
 use Rattle.pager_state.specs.Opened as opened
+use Rattle.pager_state.specs.Opened.{Opens}
 use Rattle.history.specs.Book.{Book, bookOpen, tells}
 use Rattle.history.specs.Calls.{Lent, Call, Ask, Open, Stage, Clear, Append, Observe, Commit, Checkpoint, BeginCommit, BeginCheckpoint, Step, laid, opening, effect, refusedBy, storesOf, worldAfter, stagingAfter, bookFirst, bodyLent}
 use Rattle.history.specs.Run.{Run, Left, Attempt, kinds, keptAfter, whole, cutCall, cutOpening, cutOpenings, Event, Whole, Cut, next, start}
@@ -26,7 +30,7 @@ use Rattle.history.proofs.Rest.{Inv, inv-disk, same-of}
 use Rattle.history.proofs.Opening.{Areas, fine-areas, laid-on, refuses, stores-is, open-cut}
 use Rattle.history.proofs.Reopening.{InvRun, opened-rest, opened-returns, reopened-inv, cut-opening, reopens-ok}
 use Rattle.history.proofs.Running.{CutOk, cut-none}
-use Rattle.history.proofs.Taken.{Taken, taken-by, took}
+use Rattle.history.proofs.Taken.{Taken, taken-by}
 use Rattle.history.proofs.Staging.{stage-ok}
 use Rattle.history.proofs.Clearing.{clear-ok}
 use Rattle.history.proofs.Clock.{observe-ok}
@@ -42,13 +46,17 @@ Sealed c w g b = walked 1025 (worldAfter c w g) 0 ≡ tells (bodyLent c) (kinds 
 
 -- ---- openings that are not refused
 
+fine-by : (t : Bool) (x : Opens) → openRefusal (pick t x (opened.Refused refusal.Area)) ≡ 0 → t ≡ true
+fine-by true x e = refl
+fine-by false x e = absurd (omega arith)
+
 module _ (w : World) (g : List ℕ) (b : Book) (z : List ℕ) (i : Inv w g b z) (lent : Lent) where
   pub disk-now : DiskOk (diskOf w) b z
   disk-now = inv-disk (w .pager .job) w g b z i
 
   pub areas-of : (m : AccessMode) → refusedBy (Open m lent) w g ≡ 0 → Areas lent (diskOf w)
   unfolding refusedBy openPager
-  areas-of m e = fine-areas lent (diskOf w) (took openRefusal (openFine (lent .table) (laid lent (diskOf w)) (lent .staging)) _ opened.Area e (λ q. omega arith) .0)
+  areas-of m e = fine-areas lent (diskOf w) (fine-by (openFine (lent .table) (laid lent (diskOf w)) (lent .staging)) _ e)
 
   pub never : {A : Type 0} → refusedBy (Open mode.ReadOnly lent) w g ≡ 0 → A
   unfolding refusedBy
@@ -95,10 +103,10 @@ module _ (w : World) (g : List ℕ) (b : Book) (z : List ℕ) (i : Inv w g b z) 
   taken Clear t e = (clear-ok w g b z i e, no-test)
   taken (Append body) t e = (append-ok w g b z i body t e, no-test)
   taken (Observe c) t e = (observe-ok w g b z i c t e, no-test)
-  taken (Commit h salt) t e = (commit-ok w g b z i h salt (t .0) (t .1) e, no-test)
-  taken (Checkpoint salt) t e = (checkpoint-ok w g b z i salt t e, no-test)
-  taken (BeginCommit h salt) t e = (begin-commit-ok w g b z i h salt (t .0) (t .1) e, no-test)
-  taken (BeginCheckpoint salt) t e = (begin-checkpoint-ok w g b z i salt t e, no-test)
+  taken (Commit h salt) t e = (commit-ok w g b z i h salt (t .0) (t .1) (accepted _ e), no-test)
+  taken (Checkpoint salt) t e = (checkpoint-ok w g b z i salt t (accepted _ e), no-test)
+  taken (BeginCommit h salt) t e = (begin-commit-ok w g b z i h salt (t .0) (t .1) (accepted _ e), no-test)
+  taken (BeginCheckpoint salt) t e = (begin-checkpoint-ok w g b z i salt t (accepted _ e), no-test)
   taken Step t e = (step-ok w g b z i, no-test)
 
 -- ---- any call

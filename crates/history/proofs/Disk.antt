@@ -10,21 +10,22 @@ use lib.Dec.{eqb}
 use lib.ListN.{length, take, drop, length-append, take-append-drop}
 use lib.Seq.{take-at, drop-at}
 use Rattle.le.specs.Choice.{pick}
+use Rattle.page.specs.Page.{pageSize}
 use Rattle.header.specs.Header.{decodeHeader}
 use Rattle.header.specs.declared.DbHeader.{DbHeader}
 use Rattle.header.specs.declared.HeaderDecoded.{HeaderDecoded}
 use Rattle.header.specs.declared.HeaderDecoded.the-variants as main
 use Rattle.header.proofs.RoundTrip.{Plain}
-use Rattle.frame.specs.Frame.{bodyOf, intactAt}
-use Rattle.wal.specs.Header.{encodeWalHeader, headerIn}
-use Rattle.wal.specs.Recovery.{chunkAt, goodAt, goodFront, sealed, lastCount, pageIn, recovered, sealedFrames}
+use Rattle.frame.specs.Frame.{frameSize, bodyOf, intactAt}
+use Rattle.wal.specs.Header.{headerSize, encodeWalHeader, headerIn}
+use Rattle.wal.specs.Recovery.{chunkAt, goodAt, goodFront, sealed, lastCount, pageIn, recovered, sealedFrames, walArea}
 use Rattle.wal.specs.declared.WalHeader.{WalHeader}
 use Rattle.wal.proofs.Encoding.{length-encodeWalHeader}
 use Rattle.wal.proofs.HeaderRoundTrip.{Written, header-back}
 use Rattle.wal.proofs.Frames.{sealed-open}
 use Rattle.wal.proofs.Laid.{joined, Whole, joined-append, length-joined, laid-recovered}
 use Rattle.wal.proofs.Laid as laid
-use Rattle.pager_state.specs.World.{countOf}
+use Rattle.pager_state.specs.World.{mainArea, pageLimit, countOf}
 use Rattle.pager_state.specs.Overlay.{pageFrom}
 use Rattle.pager_state.specs.Opening.{placeFrom, hasPage, recounted}
 use Rattle.pager_state.specs.Stores.{File, Disk, content}
@@ -38,7 +39,7 @@ use Rattle.history.proofs.Frames.{lastIn, batchesOf}
 
 -- the main file's page, where its header says that it has it
 abbrev pub mainPage : DbHeader → List ℕ → ℕ → Option (List ℕ)
-mainPage mh m n = pick (hasPage mh n) (some (pageFrom (4096 * n) m)) none
+mainPage mh m n = pick (hasPage mh n) (some (pageFrom (pageSize * n) m)) none
 
 -- the log's page, else the main file's
 abbrev pub viewOf : List (List ℕ) → DbHeader → List ℕ → ℕ → Option (List ℕ)
@@ -57,23 +58,23 @@ pub record LogIs (f : File) (l : WalHeader) (S P : List (List ℕ)) (t : List �
   pub stop : goodAt t 0 (l .salt) ≡ false
   pub ends : sealed S ≡ S
   pub loose : sealed P ≡ []
-  pub area : length (f .area) ≡ 4210720
-  pub fits : f .len ≤ 4210720
+  pub area : length (f .area) ≡ walArea
+  pub fits : f .len ≤ walArea
 
 -- the main file, with its own header mh
 pub record MainIs (f : File) (mh : DbHeader) : Type 0 where
-  pub area : length (f .area) ≡ 4194304
-  pub fits : f .len ≤ 4194304
-  pub long : 4096 ≤ f .len
-  pub has : 4096 * countOf mh ≤ f .len
-  pub head : decodeHeader (take 4096 (f .area)) ≡ main.Header mh
+  pub area : length (f .area) ≡ mainArea
+  pub fits : f .len ≤ mainArea
+  pub long : pageSize ≤ f .len
+  pub has : pageSize * countOf mh ≤ f .len
+  pub head : decodeHeader (take pageSize (f .area)) ≡ main.Header mh
 
 -- sealed frames over a main file are what the book has
 pub record BookIs (m : List ℕ) (b : Book) (S : List (List ℕ)) (mh : DbHeader) : Type 0 where
   pub top : headerOver mh S ≡ main.Header (b .header)
   pub plain : Plain (b .header)
   pub least : 1 ≤ countOf (b .header)
-  pub most : countOf (b .header) ≤ 1024
+  pub most : countOf (b .header) ≤ pageLimit
   pub pages : (n : ℕ) → 1 ≤ n → n < countOf (b .header) → viewOf S mh m n ≡ b .pages n
   pub there : (n : ℕ) → 1 ≤ n → n < countOf (b .header) → (x : List ℕ) × (b .pages n ≡ some x)
   pub above : (n : ℕ) → countOf (b .header) ≤ n → b .pages n ≡ none
@@ -99,16 +100,16 @@ LeftOk x = DiskOk (x .disk) (x .book) (x .kept)
 
 -- ---- a rest shorter than a frame
 
-pub short-stop : (t : List ℕ) (salt : ℕ) → length t < 4112 → goodAt t 0 salt ≡ false
+pub short-stop : (t : List ℕ) (salt : ℕ) → length t < frameSize → goodAt t 0 salt ≡ false
 unfolding goodAt intactAt
-short-stop t salt h = rw (lt-leb 4112 (length t) h)
+short-stop t salt h = rw (lt-leb frameSize (length t) h)
 
 -- a log of its header alone
 pub none-sealed : sealed [] ≡ []
 unfolding sealed
 none-sealed = refl
 
-pub log-alone : (f : File) (h : WalHeader) → Written h → content f ≡ encodeWalHeader h → length (f .area) ≡ 4210720 → f .len ≤ 4210720 → LogIs f h [] [] []
+pub log-alone : (f : File) (h : WalHeader) → Written h → content f ≡ encodeWalHeader h → length (f .area) ≡ walArea → f .len ≤ walArea → LogIs f h [] [] []
 unfolding goodFront joined
 log-alone f h w e a n =
     record {
@@ -134,7 +135,7 @@ module _ {d : Disk} {b : Book} {l : WalHeader} {S P : List (List ℕ)} {t : List
   log-inside = rw (o .log .area) (o .log .fits)
 
   -- the log's length, counted
-  pub log-len : d .log .len ≡ 32 + (4112 * length (S ++ P) + length t)
+  pub log-len : d .log .len ≡ headerSize + (frameSize * length (S ++ P) + length t)
   log-len =
       sym (length-content (d .log) log-inside) ∙ ap length (o .log .bytes) ∙ length-append (encodeWalHeader l) (joined (S ++ P) ++ t)
       ∙ omega (arith, length-encodeWalHeader l, length-append (joined (S ++ P)) t, length-joined (o .log .whole))
@@ -143,14 +144,14 @@ module _ {d : Disk} {b : Book} {l : WalHeader} {S P : List (List ℕ)} {t : List
   pub split : content (d .log) ≡ encodeWalHeader l ++ joined S ++ (joined P ++ t)
   split = o .log .bytes ∙ rw (joined-append S P) (simp append-assoc)
 
-  pub sealed-len : 32 + 4112 * length S ≤ d .log .len
+  pub sealed-len : headerSize + frameSize * length S ≤ d .log .len
   sealed-len = omega (arith, log-len, length-append S P)
 
-  pub front-long : length (encodeWalHeader l ++ joined S) ≡ 32 + 4112 * length S
+  pub front-long : length (encodeWalHeader l ++ joined S) ≡ headerSize + frameSize * length S
   front-long = length-append (encodeWalHeader l) (joined S) ∙ omega (arith, length-encodeWalHeader l, length-joined (whole-left S P (o .log .whole)))
 
   pub front-is : take (chunkAt (length S)) (content (d .log)) ≡ encodeWalHeader l ++ joined S
-  front-is = rw split (take-at (encodeWalHeader l ++ joined S) (joined P ++ t) (32 + 4112 * length S) front-long)
+  front-is = rw split (take-at (encodeWalHeader l ++ joined S) (joined P ++ t) (headerSize + frameSize * length S) front-long)
 
   pub header-is : headerIn (encodeWalHeader l) ≡ l
   header-is = rw append-nil at (header-back l [] (o .log .written))
@@ -166,12 +167,12 @@ module _ {d : Disk} {b : Book} {l : WalHeader} {S P : List (List ℕ)} {t : List
   sealed-is = rw recovered-is (sealed-open S P (o .log .loose) ∙ o .log .ends)
 
   -- the log's area behind its header
-  pub all-lie : drop 32 (d .log .area) ≡ joined (S ++ P) ++ (t ++ drop (d .log .len) (d .log .area))
+  pub all-lie : drop headerSize (d .log .area) ≡ joined (S ++ P) ++ (t ++ drop (d .log .len) (d .log .area))
   all-lie =
       let Z : List ℕ = drop (d .log .len) (d .log .area) in
-      ap (drop 32) (sym (take-append-drop (d .log .len) (d .log .area)) ∙ ap (λ (c : List ℕ). c ++ Z) (o .log .bytes)
+      ap (drop headerSize) (sym (take-append-drop (d .log .len) (d .log .area)) ∙ ap (λ (c : List ℕ). c ++ Z) (o .log .bytes)
       ∙ append-assoc (encodeWalHeader l) (joined (S ++ P) ++ t) Z)
-      ∙ drop-at (encodeWalHeader l) (joined (S ++ P) ++ t ++ Z) 32 (length-encodeWalHeader l) ∙ append-assoc (joined (S ++ P)) t Z
+      ∙ drop-at (encodeWalHeader l) (joined (S ++ P) ++ t ++ Z) headerSize (length-encodeWalHeader l) ∙ append-assoc (joined (S ++ P)) t Z
 
 -- the sealed bytes lie there
 pub disk-kept : (x : Left) → LeftOk x → Kept x
@@ -179,9 +180,9 @@ disk-kept x k =
     let o = k .on in
     let fs : List ℕ = joined (k .S) in
     let R : List ℕ = joined (k .P) ++ k .t in
-    let n : length (encodeWalHeader (k .l) ++ fs) ≡ 32 + length fs = length-append (encodeWalHeader (k .l)) fs ∙ omega (arith, length-encodeWalHeader (k .l)) in
-    let e : drop 32 (take (32 + length fs) (content (x .disk .log))) ≡ fs =
-    ap (λ (c : List ℕ). drop 32 (take (32 + length fs) c)) (split o)
-    ∙ ap (drop 32) (take-at (encodeWalHeader (k .l) ++ fs) R (32 + length fs) n)
-    ∙ drop-at (encodeWalHeader (k .l)) fs 32 (length-encodeWalHeader (k .l)) in
+    let n : length (encodeWalHeader (k .l) ++ fs) ≡ headerSize + length fs = length-append (encodeWalHeader (k .l)) fs ∙ omega (arith, length-encodeWalHeader (k .l)) in
+    let e : drop headerSize (take (headerSize + length fs) (content (x .disk .log))) ≡ fs =
+    ap (λ (c : List ℕ). drop headerSize (take (headerSize + length fs) c)) (split o)
+    ∙ ap (drop headerSize) (take-at (encodeWalHeader (k .l) ++ fs) R (headerSize + length fs) n)
+    ∙ drop-at (encodeWalHeader (k .l)) fs headerSize (length-encodeWalHeader (k .l)) in
     rw (k .kept) at e

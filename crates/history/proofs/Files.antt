@@ -11,6 +11,8 @@ use Rattle.le.specs.Le.{put}
 use Rattle.le.proofs.Tests.{le-or-lt}
 use Rattle.le.proofs.Fields.{drop-take}
 use Rattle.le.proofs.Stores.{put-none, take-put, drop-put, part-put}
+use Rattle.page.specs.Page.{pageSize}
+use Rattle.wal.specs.Header.{headerSize}
 use Rattle.wal.proofs.Writing.{file-longer}
 use Rattle.pager_state.specs.Overlay.{pageFrom}
 use Rattle.pager_state.specs.Stores.{File, content, grown, putFile, lenFile, reach, putFront}
@@ -44,17 +46,17 @@ len-file f n h = rw (grown-none f n h)
 
 -- ---- how much of a store a cut leaves
 
-pub reach-behind : (at : ℕ) (bs : List ℕ) (k : ℕ) → 32 ≤ at → reach at bs k ≡ min k (length bs)
+pub reach-behind : (at : ℕ) (bs : List ℕ) (k : ℕ) → headerSize ≤ at → reach at bs k ≡ min k (length bs)
 unfolding reach
-reach-behind at bs k h = rw (le-ltb (at + min k (length bs)) 32 (omega arith))
+reach-behind at bs k h = rw (le-ltb (at + min k (length bs)) headerSize (omega arith))
 
-pub reach-none : (bs : List ℕ) (k : ℕ) → k < 32 → reach 0 bs k ≡ 0
+pub reach-none : (bs : List ℕ) (k : ℕ) → k < headerSize → reach 0 bs k ≡ 0
 unfolding reach
-reach-none bs k h = rw (lt-ltb (0 + min k (length bs)) 32 (omega arith))
+reach-none bs k h = rw (lt-ltb (0 + min k (length bs)) headerSize (omega arith))
 
-pub reach-front : (bs : List ℕ) (k : ℕ) → 32 ≤ k → 32 ≤ length bs → reach 0 bs k ≡ min k (length bs)
+pub reach-front : (bs : List ℕ) (k : ℕ) → headerSize ≤ k → headerSize ≤ length bs → reach 0 bs k ≡ min k (length bs)
 unfolding reach
-reach-front bs k h l = rw (le-ltb (0 + min k (length bs)) 32 (omega arith))
+reach-front bs k h l = rw (le-ltb (0 + min k (length bs)) headerSize (omega arith))
 
 pub take-min : (k : ℕ) (bs : List ℕ) → take (min k (length bs)) bs ≡ take k bs
 take-min k bs =
@@ -75,25 +77,25 @@ length-content f h = length-take-le (f .len) (f .area) h
 
 -- ---- pages of the main file
 
-module _ (m : List ℕ) (i : ℕ) (xs : List ℕ) (h : length xs ≤ 4096) (k : 4096 * i ≤ length m) where
-  pub page-other : (n : ℕ) → (n ≡ i → ⊥) → pageFrom (4096 * n) (put m (4096 * i) xs) ≡ pageFrom (4096 * n) m
+module _ (m : List ℕ) (i : ℕ) (xs : List ℕ) (h : length xs ≤ pageSize) (k : pageSize * i ≤ length m) where
+  pub page-other : (n : ℕ) → (n ≡ i → ⊥) → pageFrom (pageSize * n) (put m (pageSize * i) xs) ≡ pageFrom (pageSize * n) m
   page-other n ne =
       ⊎-elim
-      (λ lt. sym (drop-take (4096 * n) 4096 (put m (4096 * i) xs))
-      ∙ ap (drop (4096 * n)) (take-put (4096 * n + 4096) m (4096 * i) xs (below lt) k)
-      ∙ drop-take (4096 * n) 4096 m)
-      (λ le. ap (take 4096) (drop-put (4096 * n) m (4096 * i) xs (above le) k))
+      (λ lt. sym (drop-take (pageSize * n) pageSize (put m (pageSize * i) xs))
+      ∙ ap (drop (pageSize * n)) (take-put (pageSize * n + pageSize) m (pageSize * i) xs (below lt) k)
+      ∙ drop-take (pageSize * n) pageSize m)
+      (λ le. ap (take pageSize) (drop-put (pageSize * n) m (pageSize * i) xs (above le) k))
       (le-or-lt (suc n) i)
     where
-      below : n < i → 4096 * n + 4096 ≤ 4096 * i
+      below : n < i → pageSize * n + pageSize ≤ pageSize * i
       below lt = omega arith
 
-      above : i < suc n → 4096 * i + length xs ≤ 4096 * n
+      above : i < suc n → pageSize * i + length xs ≤ pageSize * n
       above le = let q : n ≡ i → ⊥ = ne in after (le-or-lt n i)
         where
-          after : (n ≤ i) ⊎ (i < n) → 4096 * i + length xs ≤ 4096 * n
+          after : (n ≤ i) ⊎ (i < n) → pageSize * i + length xs ≤ pageSize * n
           after (inl p) = absurd (ne (omega arith))
           after (inr p) = omega arith
 
-  pub page-same : length xs ≡ 4096 → pageFrom (4096 * i) (put m (4096 * i) xs) ≡ xs
-  page-same e = part-put 4096 m (4096 * i) xs e k
+  pub page-same : length xs ≡ pageSize → pageFrom (pageSize * i) (put m (pageSize * i) xs) ≡ xs
+  page-same e = part-put pageSize m (pageSize * i) xs e k

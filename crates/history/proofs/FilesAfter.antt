@@ -3,23 +3,24 @@ use mathlib.Core.Path.{_≡_, refl, sym, ap, _∙_}
 use mathlib.Core.Bool.{Bool, true, false}
 use mathlib.Core.List.{List, [], _∷_, _++_, append-assoc, append-nil}
 use mathlib.Core.Logic.{_⊎_, inl, inr}
+use mathlib.Core.Option.{Option, none, some}
 use Prim.Native.Nat.{ℕ, _+_, _^_, _<_}
 use native.Mathlib.Omega.{arith}
 use lib.ListN.{length, take, drop}
 use Rattle.le.specs.Le.{Bytes}
+use Rattle.refusal.specs.declared.Refusal.{Refusal}
+use Rattle.refusal.proofs.Rows.{accepted}
 use Rattle.header.specs.declared.DbHeader.{DbHeader}
+use Rattle.wal.specs.Header.{headerSize}
 use Rattle.wal.specs.Recovery.{chunkAt}
-use Rattle.pager_state.specs.World.{World, busy}
-use Rattle.pager_state.specs.Staging.{stageAnswer, stagedBy, stagePage, clearStaged}
+use Rattle.pager_state.specs.World.{World, busyRefusal}
+use Rattle.pager_state.specs.Staging.{clearStaged}
 use Rattle.pager_state.specs.Stores.{Disk, content, diskOf, Batched, Sealed, Emptied, Other, Act, Put, SetLen, kindOf, stored, storedAll}
 use Rattle.pager_state.specs.Opening.{opensAs}
-use Rattle.pager_state.specs.Steps.{commitStart, isBegun, beginCommit, checkpointStart, isFolding, beginCheckpoint, todo, onStore, checkpointWorld}
+use Rattle.pager_state.specs.Steps.{commitRefusal, beginCommit, checkpointBegins, beginCheckpoint, todo, onStore, checkpointWorld}
 use Rattle.pager_state.specs.declared.AccessMode.{AccessMode}
 use Rattle.pager_state.specs.declared.AccessMode.the-variants as mode
-use Rattle.pager_state.specs.declared.StageAnswer.{StageAnswer}
-use Rattle.pager_state.specs.declared.StageAnswer.the-variants as stage
 use Rattle.pager_state.proofs.Made.{Made}
-use Rattle.pager_state.proofs.Begun.{commit-unrefused}
 use Rattle.pager_state.proofs.Done.{commit-done, checkpoint-done}
 use Rattle.pager_state.proofs.Steps.{idle-todo}
 use Rattle.history.specs.Book.{Book}
@@ -47,25 +48,18 @@ use Rattle.history.proofs.GuardBook.{world-after}
 
 -- ---- calls that store nothing
 
-stage-files : (a : StageAnswer) (w : World) (n : ℕ) → diskOf (onStore w (stagedBy a (w .pager) n)) ≡ diskOf w
-stage-files stage.Staged w n = refl
-stage-files stage.Area w n = refl
-stage-files stage.Busy w n = refl
-stage-files stage.Page w n = refl
-stage-files stage.Staging w n = refl
-
-clear-files : (w : World) (b : Bool) → busy (w .pager) ≡ b → diskOf (onStore w (clearStaged (w .pager) .pager)) ≡ diskOf w
+clear-files : (w : World) (v : Option Refusal) → busyRefusal (w .pager) ≡ v → diskOf (onStore w (clearStaged (w .pager) .pager)) ≡ diskOf w
 unfolding clearStaged
-clear-files w true e = rw e
-clear-files w false e = rw e
+clear-files w none e = rw e
+clear-files w (some r) e = rw e
 
-begin-files : (g : List ℕ) (w : World) (h : DbHeader) (salt : ℕ) (b : Bool) → isBegun (commitStart g w h) ≡ b
+begin-files : (g : List ℕ) (w : World) (h : DbHeader) (salt : ℕ) (v : Option Refusal) → commitRefusal g w h ≡ v
     → diskOf (onStore w (beginCommit g w h salt .pager)) ≡ diskOf w
 unfolding beginCommit
-begin-files g w h salt true e = rw e
-begin-files g w h salt false e = rw e
+begin-files g w h salt none e = rw e
+begin-files g w h salt (some r) e = rw e
 
-fold-files : (g : List ℕ) (w : World) (salt : ℕ) (b : Bool) → isFolding (checkpointStart g w) ≡ b
+fold-files : (g : List ℕ) (w : World) (salt : ℕ) (b : Bool) → checkpointBegins g w ≡ b
     → diskOf (onStore w (beginCheckpoint g w salt .pager)) ≡ diskOf w
 unfolding beginCheckpoint
 fold-files g w salt true e = rw e
@@ -80,11 +74,11 @@ module _ (w : World) (g : List ℕ) (b : Book) (z : List ℕ) (i : Inv w g b z) 
   abbrev Leaves : Call → Type 0
   Leaves c = SameFiles (diskOf (worldAfter c w g)) (storedAll (storesOf c w g) (diskOf w))
 
-  fold-by : (salt : ℕ) → salt < 2 ^ 32 → refusedBy (Checkpoint salt) w g ≡ 0 → (t : Bool) → isFolding (checkpointStart g w) ≡ t
+  fold-by : (salt : ℕ) → salt < 2 ^ 32 → refusedBy (Checkpoint salt) w g ≡ 0 → (t : Bool) → checkpointBegins g w ≡ t
       → diskOf (worldAfter (Checkpoint salt) w g) ≡ storedAll (storesOf (Checkpoint salt) w g) (diskOf w)
   unfolding refusedBy storesOf worldAfter storedAll checkpointWorld beginCheckpoint
   fold-by salt small e true t = checkpoint-done g w salt t (m .slots) .disk
-  fold-by salt small e false t = rw (t, idle-todo g w (folds.idle w g b z i salt small e))
+  fold-by salt small e false t = rw (t, idle-todo g w (folds.idle w g b z i salt small (accepted _ e)))
 
   step-by : (StepOk g w b z) ⊎ (todo g w ≡ []) → diskOf (worldAfter Step w g) ≡ storedAll (storesOf Step w g) (diskOf w)
   unfolding storesOf worldAfter storedAll
@@ -115,17 +109,17 @@ module _ (w : World) (g : List ℕ) (b : Book) (z : List ℕ) (i : Inv w g b z) 
       })
 
   leaves : (c : Call) → Typed c → refusedBy c w g ≡ 0 → Leaves c
-  unfolding refusedBy storesOf worldAfter storedAll stagePage
+  unfolding refusedBy storesOf worldAfter storedAll
   leaves (Ask q) t e = same refl
   leaves (Open o lent) t e = open-files lent o e
-  leaves (Stage n bytes) t e = same (stage-files (stageAnswer (w .pager) g n bytes) w n)
-  leaves Clear t e = same (clear-files w (busy (w .pager)) refl)
+  leaves (Stage n bytes) t e = same refl
+  leaves Clear t e = same (clear-files w (busyRefusal (w .pager)) refl)
   leaves (Append body) t e = append-files body t e
   leaves (Observe c) t e = same (rw (clock.pager-is w g b z i c t e) (clock.disk-is w g b z i c t e))
-  leaves (Commit h salt) t e = same (commit-done g w h salt (commit-unrefused (commitStart g w h) e) (m .slots) .disk)
-  leaves (Checkpoint salt) t e = same (fold-by salt t e (isFolding (checkpointStart g w)) refl)
-  leaves (BeginCommit h salt) t e = same (begin-files g w h salt (isBegun (commitStart g w h)) refl)
-  leaves (BeginCheckpoint salt) t e = same (fold-files g w salt (isFolding (checkpointStart g w)) refl)
+  leaves (Commit h salt) t e = same (commit-done g w h salt (accepted _ e) (m .slots) .disk)
+  leaves (Checkpoint salt) t e = same (fold-by salt t e (checkpointBegins g w) refl)
+  leaves (BeginCommit h salt) t e = same (begin-files g w h salt (commitRefusal g w h) refl)
+  leaves (BeginCheckpoint salt) t e = same (fold-files g w salt (checkpointBegins g w) refl)
   leaves Step t e = same (step-by (next-step g w b z (w .pager .job) refl i))
 
 -- ---- in any history
@@ -147,7 +141,7 @@ files-after t l m g salt f small es typed c k e =
 
 -- one store
 grows : (a : Act) (d : Disk) (z : List ℕ) → (kindOf a ≡ Emptied → ⊥) → (more : List ℕ) × (keptBy a d z ≡ z ++ more)
-grows (Put Sealed f at bs flush) d z n = (drop (32 + length z) (take (at + length bs) (content (d .log))), refl)
+grows (Put Sealed f at bs flush) d z n = (drop (headerSize + length z) (take (at + length bs) (content (d .log))), refl)
 grows (Put Batched f at bs flush) d z n = ([], sym (append-nil z))
 grows (Put Emptied f at bs flush) d z n = absurd (n refl)
 grows (Put Other f at bs flush) d z n = ([], sym (append-nil z))

@@ -14,17 +14,19 @@ use Rattle.le.specs.Choice.{pick}
 use Rattle.le.specs.Le.{put}
 use Rattle.le.proofs.Tests.{le-or-lt}
 use Rattle.le.proofs.Stores.{length-put, part-put}
+use Rattle.page.specs.Page.{pageSize}
 use Rattle.header.specs.Header.{encodeHeader, decodeHeader}
 use Rattle.header.specs.declared.DbHeader.{DbHeader}
 use Rattle.header.specs.declared.HeaderDecoded.{HeaderDecoded}
 use Rattle.header.specs.declared.HeaderDecoded.the-variants as main
 use Rattle.header.proofs.Encoding.{length-encodeHeader}
 use Rattle.header.proofs.RoundTrip.{decode-encode, decode-front}
+use Rattle.wal.specs.Header.{headerSize}
 use Rattle.wal.specs.Recovery.{lastCount}
 use Rattle.wal.specs.declared.WalHeader.{WalHeader}
 use Rattle.wal.specs.declared.LastCommit.{LastCommit}
 use Rattle.wal.specs.declared.LastCommit.the-variants as last
-use Rattle.pager_state.specs.World.{World, countOf, headerOf}
+use Rattle.pager_state.specs.World.{World, mainArea, pageLimit, countOf, headerOf}
 use Rattle.pager_state.specs.Overlay.{pageFrom, entry}
 use Rattle.pager_state.specs.Opening.{placeFrom, hasPage, recounted}
 use Rattle.pager_state.specs.Pages.{pagesFrom, folds}
@@ -33,15 +35,16 @@ use Rattle.pager_state.specs.Fold.{mainHeaderAct, headed, lengthTodo, pagesTodo
 use Rattle.pager_state.specs.Commit.{commitTodo, commitAdvance}
 use Rattle.pager_state.specs.Steps.{todo, advance}
 use Rattle.pager_state.specs.declared.Job.the-variants as job
+use Rattle.pager_state.proofs.Next.{todo-by, advance-by}
+use Rattle.pager_state.proofs.Searches.{pages-none}
 use Rattle.history.specs.Book.{Book, orElse}
 use Rattle.history.proofs.Files.{putting, put-file, put-front, reach-front, reach-none, take-min, page-other}
 use Rattle.history.proofs.Frames.{lastIn, last-append}
-use Rattle.history.proofs.PagesFrom.{pages-none}
 use Rattle.history.proofs.Disk.{mainPage, viewOf, headerOver, OnDisk, DiskOk}
 use Rattle.history.proofs.Opening.{book-over}
 use Rattle.history.proofs.Rest.{Held, Folding, Flattened, Some, in-log, step-fine, held-disk, held-stored}
 use Rattle.history.proofs.FoldPage.{must-main, stored-below, reaches}
-use Rattle.history.proofs.Stepping.{StepOk, todo-by, advance-by}
+use Rattle.history.proofs.Stepping.{StepOk}
 
 -- ---- the header that counts, once it is the main file's own
 
@@ -60,12 +63,12 @@ header-again mh h S e = again-by (eqb (placeFrom 0 0 S) 0) mh h (lastCount S) (d
 
 -- ---- the main file's first bytes with a header's
 
-front-is : (m enc : List ℕ) (j : ℕ) → 32 ≤ j → length enc ≡ 4096 → 4096 ≤ length m → take 32 (take 4096 (put m 0 (take j enc))) ≡ take 32 enc
+front-is : (m enc : List ℕ) (j : ℕ) → headerSize ≤ j → length enc ≡ pageSize → pageSize ≤ length m → take headerSize (take pageSize (put m 0 (take j enc))) ≡ take headerSize enc
 front-is m enc j h e n =
-    let l : 32 ≤ length (take j enc) = rw length-take (omega arith) in
+    let l : headerSize ≤ length (take j enc) = rw length-take (omega arith) in
     let p : take (length (take j enc)) (put m 0 (take j enc)) ≡ take j enc = part-put (length (take j enc)) m 0 (take j enc) refl (omega arith) in
-    take-take 32 4096 (put m 0 (take j enc)) (omega arith)
-    ∙ sym (take-take 32 (length (take j enc)) (put m 0 (take j enc)) l) ∙ ap (take 32) p ∙ take-take 32 j enc h
+    take-take headerSize pageSize (put m 0 (take j enc)) (omega arith)
+    ∙ sym (take-take headerSize (length (take j enc)) (put m 0 (take j enc)) l) ∙ ap (take headerSize) p ∙ take-take headerSize j enc h
 
 flat-view : (u : Option (List ℕ)) (p x : Option (List ℕ)) (y : List ℕ) → orElse u p ≡ x → x ≡ some y → orElse u (some y) ≡ x
 flat-view none p x y e f = sym f
@@ -76,15 +79,15 @@ has-true h n a c = rw (le-leb 1 n a, lt-ltb n (countOf h) c)
 
 -- the main file with at least 32 bytes of the header that counts, where it has every page
 pub head-stored : {d : Disk} {b : Book} {l : WalHeader} {S P : List (List ℕ)} {t : List ℕ} {mh : DbHeader} → OnDisk d b l S P t mh
-    → ((n : ℕ) → 1 ≤ n → n < countOf (b .header) → b .pages n ≡ some (pageFrom (4096 * n) (d .main .area))) → 4096 * countOf (b .header) ≤ d .main .len
-    → (j : ℕ) → 32 ≤ j → OnDisk (record { main = putting (d .main) 0 (take j (encodeHeader (b .header))); log = d .log }) b l S P t (b .header)
+    → ((n : ℕ) → 1 ≤ n → n < countOf (b .header) → b .pages n ≡ some (pageFrom (pageSize * n) (d .main .area))) → pageSize * countOf (b .header) ≤ d .main .len
+    → (j : ℕ) → headerSize ≤ j → OnDisk (record { main = putting (d .main) 0 (take j (encodeHeader (b .header))); log = d .log }) b l S P t (b .header)
 head-stored {d} {b} {l} {S} {P} {t} {mh} o flat tall j h =
     let enc : List ℕ = encodeHeader (b .header) in
-    let e : length enc ≡ 4096 = length-encodeHeader (b .header) in
-    let a : length (d .main .area) ≡ 4194304 = o .main .area in
-    let q : length (take j enc) ≤ 4096 = rw length-take (omega arith) in
-    let w : length (put (d .main .area) 0 (take j enc)) ≡ 4194304 = length-put (d .main .area) 0 (take j enc) (omega arith) ∙ a in
-    let n : length (take 4096 (put (d .main .area) 0 (take j enc))) ≡ length enc = length-take-le 4096 (put (d .main .area) 0 (take j enc)) (omega arith) ∙ sym e in
+    let e : length enc ≡ pageSize = length-encodeHeader (b .header) in
+    let a : length (d .main .area) ≡ mainArea = o .main .area in
+    let q : length (take j enc) ≤ pageSize = rw length-take (omega arith) in
+    let w : length (put (d .main .area) 0 (take j enc)) ≡ mainArea = length-put (d .main .area) 0 (take j enc) (omega arith) ∙ a in
+    let n : length (take pageSize (put (d .main .area) 0 (take j enc))) ≡ length enc = length-take-le pageSize (put (d .main .area) 0 (take j enc)) (omega arith) ∙ sym e in
     record {
       log = o .log;
       main =
@@ -93,19 +96,19 @@ head-stored {d} {b} {l} {S} {P} {t} {mh} o flat tall j h =
             fits = omega (arith, o .main .fits);
             long = omega (arith, o .main .long);
             has = omega arith;
-            head = decode-front (take 4096 (put (d .main .area) 0 (take j enc))) enc n (front-is (d .main .area) enc j h e (omega arith)) ∙ decode-encode (b .header) (o .book .plain);
+            head = decode-front (take pageSize (put (d .main .area) 0 (take j enc))) enc n (front-is (d .main .area) enc j h e (omega arith)) ∙ decode-encode (b .header) (o .book .plain);
           };
       book = book-over (o .book) (header-again mh (b .header) S (o .book .top)) (λ m m1 m2. pages m m1 m2 q a);
     }
   where
-    pages : (m : ℕ) → 1 ≤ m → m < countOf (b .header) → length (take j (encodeHeader (b .header))) ≤ 4096 → length (d .main .area) ≡ 4194304
+    pages : (m : ℕ) → 1 ≤ m → m < countOf (b .header) → length (take j (encodeHeader (b .header))) ≤ pageSize → length (d .main .area) ≡ mainArea
         → viewOf S (b .header) (put (d .main .area) 0 (take j (encodeHeader (b .header)))) m ≡ b .pages m
     pages m m1 m2 q a =
         let xs : List ℕ = take j (encodeHeader (b .header)) in
-        let p : pageFrom (4096 * m) (put (d .main .area) 0 xs) ≡ pageFrom (4096 * m) (d .main .area) =
+        let p : pageFrom (pageSize * m) (put (d .main .area) 0 xs) ≡ pageFrom (pageSize * m) (d .main .area) =
         page-other (d .main .area) 0 xs q (omega arith) m (λ z. omega arith) in
         rw (has-true (b .header) m m1 m2, p)
-        (flat-view (lastIn m S) (mainPage mh (d .main .area) m) (b .pages m) (pageFrom (4096 * m) (d .main .area)) (o .book .pages m m1 m2) (flat m m1 m2))
+        (flat-view (lastIn m S) (mainPage mh (d .main .area) m) (b .pages m) (pageFrom (pageSize * m) (d .main .area)) (o .book .pages m m1 m2) (flat m m1 m2))
 
 -- ---- the main header
 
@@ -124,22 +127,22 @@ module _ (g : List ℕ) (w : World) (b : Book) (z : List ℕ) (salt p answer : �
   no-more : (m : ℕ) → p ≤ m → m < countOf (b .header) → folds w m ≡ false
   no-more m a h = pages-none (folds w) p none-left m a (omega (arith, o .book .most))
 
-  flat-by : (n : ℕ) → 1 ≤ n → n < countOf (b .header) → (y : Option (List ℕ)) → lastIn n (k .S) ≡ y → b .pages n ≡ some (pageFrom (4096 * n) (w .main))
+  flat-by : (n : ℕ) → 1 ≤ n → n < countOf (b .header) → (y : Option (List ℕ)) → lastIn n (k .S) ≡ y → b .pages n ≡ some (pageFrom (pageSize * n) (w .main))
   flat-by n h1 h2 (some x) e =
       let r = stored-below g w b z salt p answer job-is k (countOf (b .header)) no-more n x h1 h2 h2 e in
       sym (o .book .pages n h1 h2) ∙ rw (e, r .0)
   flat-by n h1 h2 none e = must-main o n h1 h2 e .is
 
-  flat : (n : ℕ) → 1 ≤ n → n < countOf (b .header) → b .pages n ≡ some (pageFrom (4096 * n) (w .main))
+  flat : (n : ℕ) → 1 ≤ n → n < countOf (b .header) → b .pages n ≡ some (pageFrom (pageSize * n) (w .main))
   flat n h1 h2 = flat-by n h1 h2 (lastIn n (k .S)) refl
 
-  tall : 4096 * countOf (b .header) ≤ w .pager .storage .len
+  tall : pageSize * countOf (b .header) ≤ w .pager .storage .len
   tall = reaches g w b z salt p answer job-is k (countOf (b .header)) no-more (o .book .least) (omega arith)
 
   -- every page below the count is in the table
   full : (n : ℕ) → 1 ≤ n → n < countOf (b .header) → getD (w .table) n 0 ≡ 0 → ⊥
   full n h1 h2 e =
-      let hn : n < 1024 = omega (arith, o .book .most) in
+      let hn : n < pageLimit = omega (arith, o .book .most) in
       let r = entry-zero (placeFrom n 0 (k .S ++ k .P)) (hasPage (k .mh) n) (sym (c .table n hn) ∙ e) in
       let i : none ≡ lastIn n (k .S ++ k .P) = rw (r .0) at (in-log (c .held) (c .table) n hn) in
       let s : lastIn n (k .S) ≡ none = sym (last-append n (k .S) (k .P) ∙ rw (c .loose n hn)) ∙ sym i in
@@ -153,13 +156,13 @@ module _ (g : List ℕ) (w : World) (b : Book) (z : List ℕ) (salt p answer : �
   enc-is : encodeHeader (headerOf (w .pager)) ≡ encodeHeader (b .header)
   enc-is = ap encodeHeader (c .held .header)
 
-  enc-long : length enc ≡ 4096
+  enc-long : length enc ≡ pageSize
   enc-long = length-encodeHeader (headerOf (w .pager))
 
   stored-is : stored (mainHeaderAct w) (diskOf w) ≡ record { main = putting (diskOf w .main) 0 enc; log = diskOf w .log }
   stored-is = rw (put-file (diskOf w .main) 0 enc (omega arith))
 
-  on-with : (j : ℕ) → 32 ≤ j → OnDisk (record { main = putting (diskOf w .main) 0 (take j enc); log = diskOf w .log }) b (k .l) (k .S) (k .P) [] (b .header)
+  on-with : (j : ℕ) → headerSize ≤ j → OnDisk (record { main = putting (diskOf w .main) 0 (take j enc); log = diskOf w .log }) b (k .l) (k .S) (k .P) [] (b .header)
   on-with j h = rw enc-is (head-stored o flat tall j h)
 
   abbrev v : World
@@ -170,7 +173,7 @@ module _ (g : List ℕ) (w : World) (b : Book) (z : List ℕ) (salt p answer : �
   disk-is = refl
 
   on-after : OnDisk (diskOf v) b (k .l) (k .S) (k .P) [] (b .header)
-  on-after = rw (disk-is, stored-is) (rw (take-all 4096 enc (omega (arith, enc-long))) at (on-with 4096 (omega arith)))
+  on-after = rw (disk-is, stored-is) (rw (take-all pageSize enc (omega (arith, enc-long))) at (on-with pageSize (omega arith)))
 
   held-after : Held v g b (k .l) (k .S) (k .P) (b .header)
   unfolding headed
@@ -179,17 +182,17 @@ module _ (g : List ℕ) (w : World) (b : Book) (z : List ℕ) (salt p answer : �
   main-after : v .main ≡ put (w .main) 0 enc
   main-after = ap (λ (d : Disk). d .main .area) (disk-is ∙ stored-is)
 
-  flat-after : (n : ℕ) → 1 ≤ n → n < countOf (b .header) → b .pages n ≡ some (pageFrom (4096 * n) (v .main))
+  flat-after : (n : ℕ) → 1 ≤ n → n < countOf (b .header) → b .pages n ≡ some (pageFrom (pageSize * n) (v .main))
   flat-after n h1 h2 =
-      let q : length enc ≤ 4096 = omega (arith, enc-long) in
-      let s : pageFrom (4096 * n) (put (w .main) 0 enc) ≡ pageFrom (4096 * n) (w .main) = page-other (w .main) 0 enc q (omega arith) n (λ y. omega arith) in
+      let q : length enc ≤ pageSize = omega (arith, enc-long) in
+      let s : pageFrom (pageSize * n) (put (w .main) 0 enc) ≡ pageFrom (pageSize * n) (w .main) = page-other (w .main) 0 enc q (omega arith) n (λ y. omega arith) in
       rw (main-after, s) (flat n h1 h2)
 
   after-ok : Flattened salt v g b (k .l) (k .S) (k .P) (b .header)
   unfolding headed
   after-ok = record { held = held-after; own = refl; flat = flat-after; full = full; fits = c .fits }
 
-  cut-by : (j : ℕ) → (32 ≤ j) ⊎ (j < 32) → DiskOk (cutStore (mainHeaderAct w) j (diskOf w)) b z
+  cut-by : (j : ℕ) → (headerSize ≤ j) ⊎ (j < headerSize) → DiskOk (cutStore (mainHeaderAct w) j (diskOf w)) b z
   unfolding putFront
   cut-by j (inl h) =
       rw (reach-front enc j h (omega (arith, enc-long)), put-front (diskOf w .main) 0 enc (min j (length enc)) (omega arith), take-min j enc)
@@ -217,11 +220,11 @@ module _ (g : List ℕ) (w : World) (b : Book) (z : List ℕ) (salt p answer : �
         next = v;
         todoIs = todo-is;
         nextIs = next-is;
-        lies = le-leb (0 + length enc) 4194304 (omega (arith, enc-long));
+        lies = le-leb (0 + length enc) mainArea (omega (arith, enc-long));
         covers = (omega (arith, enc-long), omega (arith, enc-long));
         fine = step-fine (c .held);
         disk = disk-is;
         left = left-is;
         after = record { l = k .l; S = k .S; P = k .P; mh = b .header; it = after-ok; kept = k .kept };
-        cut = λ j hj. cut-by j (le-or-lt 32 j);
+        cut = λ j hj. cut-by j (le-or-lt headerSize j);
       }

@@ -11,14 +11,14 @@ use Rattle.le.specs.Le.{put}
 use Rattle.le.proofs.Tests.{le-or-lt, eq-or-not}
 use Rattle.le.proofs.Stores.{length-put, part-put}
 use Rattle.header.specs.declared.DbHeader.{DbHeader}
-use Rattle.wal.specs.Header.{encodeWalHeader}
-use Rattle.wal.specs.Recovery.{batchesIn}
+use Rattle.wal.specs.Header.{headerSize, encodeWalHeader}
+use Rattle.wal.specs.Recovery.{batchesIn, walArea}
 use Rattle.wal.specs.Write.{emptyWal}
 use Rattle.wal.specs.declared.WalHeader.{WalHeader}
 use Rattle.wal.proofs.Encoding.{length-encodeWalHeader}
 use Rattle.wal.proofs.HeaderRoundTrip.{Written}
-use Rattle.wal.proofs.Writing.{truncated-written}
 use Rattle.wal.proofs.Laid.{joined}
+use Rattle.wal.proofs.Writing.{truncated-written}
 use Rattle.pager_state.specs.World.{World, countOf, headerOf}
 use Rattle.pager_state.specs.Overlay.{entry}
 use Rattle.pager_state.specs.Opening.{placeFrom, hasPage}
@@ -27,11 +27,12 @@ use Rattle.pager_state.specs.Fold.{foldedEntry, foldedFrom, nextHeader, logHead
 use Rattle.pager_state.specs.Commit.{commitTodo, commitAdvance}
 use Rattle.pager_state.specs.Steps.{todo, advance}
 use Rattle.pager_state.specs.declared.Job.the-variants as job
+use Rattle.pager_state.proofs.Next.{todo-by, advance-by}
 use Rattle.history.specs.Book.{Book}
 use Rattle.history.proofs.Files.{putting, same-file, put-file, reach-none}
 use Rattle.history.proofs.Disk.{OnDisk, DiskOk, log-alone, log-len}
 use Rattle.history.proofs.Rest.{Held, Tabled, Resting, Bared, Some, step-fine, held-disk}
-use Rattle.history.proofs.Stepping.{StepOk, todo-by, advance-by}
+use Rattle.history.proofs.Stepping.{StepOk}
 use Rattle.history.proofs.FoldLogLength.{empty-len, empty-header}
 
 -- ---- the log header
@@ -75,13 +76,13 @@ module _ (g : List ℕ) (w : World) (b : Book) (z : List ℕ) (salt answer : ℕ
   nothing-there : k .S ++ k .P ≡ []
   nothing-there = rw (c .noSealed, c .noWaiting)
 
-  len-is : w .pager .wal .len ≡ 32
+  len-is : w .pager .wal .len ≡ headerSize
   len-is = log-len o ∙ omega (arith, ap length nothing-there)
 
   abbrev enc : List ℕ
   enc = encodeWalHeader (nextHeader w salt)
 
-  enc-long : length enc ≡ 32
+  enc-long : length enc ≡ headerSize
   enc-long = length-encodeWalHeader (nextHeader w salt)
 
   next-written : Written (nextHeader w salt)
@@ -96,15 +97,15 @@ module _ (g : List ℕ) (w : World) (b : Book) (z : List ℕ) (salt answer : ℕ
   disk-is : diskOf v ≡ stored (logHeaderAct w salt) (diskOf w)
   unfolding folded putFile
   disk-is =
-      let e : 32 ≡ max (w .pager .wal .len) (0 + length enc) = omega (arith, enc-long, len-is) in
+      let e : headerSize ≡ max (w .pager .wal .len) (0 + length enc) = omega (arith, enc-long, len-is) in
       λ i. record { main = diskOf w .main; log = same-file {f = record { area = stored (logHeaderAct w salt) (diskOf w) .log .area; len = emptyWal (nextHeader w salt) .len }} {g = stored (logHeaderAct w salt) (diskOf w) .log} refl (empty-len (nextHeader w salt) ∙ e) i }
 
   content-after : content (putting (diskOf w .log) 0 enc) ≡ encodeWalHeader (nextHeader w salt)
   content-after =
-      let e : max (w .pager .wal .len) (0 + length enc) ≡ 32 = omega (arith, enc-long, len-is) in
-      rw e (part-put 32 (w .log) 0 enc enc-long (omega arith))
+      let e : max (w .pager .wal .len) (0 + length enc) ≡ headerSize = omega (arith, enc-long, len-is) in
+      rw e (part-put headerSize (w .log) 0 enc enc-long (omega arith))
 
-  area-after : length (put (w .log) 0 enc) ≡ 4210720
+  area-after : length (put (w .log) 0 enc) ≡ walArea
   area-after = length-put (w .log) 0 enc (omega (arith, enc-long, o .log .area)) ∙ o .log .area
 
   on-after : OnDisk (diskOf v) b (nextHeader w salt) [] [] [] (k .mh)
@@ -146,7 +147,7 @@ module _ (g : List ℕ) (w : World) (b : Book) (z : List ℕ) (salt answer : ℕ
   after-ok : Resting v g b (nextHeader w salt) [] [] (k .mh)
   after-ok = record { held = held-after; table = table-after; loose = λ n hn. refl }
 
-  cut-ok : (j : ℕ) → j < 32 → DiskOk (cutStore (logHeaderAct w salt) j (diskOf w)) b z
+  cut-ok : (j : ℕ) → j < headerSize → DiskOk (cutStore (logHeaderAct w salt) j (diskOf w)) b z
   unfolding putFront
   cut-ok j h = rw (reach-none enc j h) (held-disk (c .held) (k .kept))
 
@@ -174,7 +175,7 @@ module _ (g : List ℕ) (w : World) (b : Book) (z : List ℕ) (salt answer : ℕ
         next = v;
         todoIs = todo-is;
         nextIs = next-is;
-        lies = le-leb (0 + length enc) 4210720 (omega (arith, enc-long));
+        lies = le-leb (0 + length enc) walArea (omega (arith, enc-long));
         covers = (omega (arith, enc-long), omega (arith, enc-long));
         fine = step-fine (c .held);
         disk = disk-is;

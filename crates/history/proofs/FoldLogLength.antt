@@ -6,9 +6,10 @@ use Prim.Native.Nat.{ℕ, zero, suc, _+_, _*_, _-_, _≤_, _<_}
 use native.Mathlib.Omega.{arith}
 use lib.ListN.{take}
 use lib.Seq.{take-take, take-at}
+use Rattle.page.specs.Page.{pageSize}
 use Rattle.header.specs.declared.DbHeader.{DbHeader}
 use Rattle.header.specs.declared.HeaderDecoded.the-variants as main
-use Rattle.wal.specs.Header.{encodeWalHeader}
+use Rattle.wal.specs.Header.{headerSize, encodeWalHeader}
 use Rattle.wal.specs.Recovery.{lastCount, batchesIn}
 use Rattle.wal.specs.Write.{emptyWal}
 use Rattle.wal.specs.declared.WalHeader.{WalHeader}
@@ -22,18 +23,19 @@ use Rattle.pager_state.specs.Fold.{logLengthAct, emptied, headerTodo, foldTodo,
 use Rattle.pager_state.specs.Commit.{commitTodo, commitAdvance}
 use Rattle.pager_state.specs.Steps.{todo, advance}
 use Rattle.pager_state.specs.declared.Job.the-variants as job
+use Rattle.pager_state.proofs.Next.{todo-by, advance-by}
 use Rattle.history.specs.Book.{Book, bookEmpty}
 use Rattle.history.proofs.Files.{lasting, same-file, len-file}
 use Rattle.history.proofs.Disk.{headerOver, BookIs, OnDisk, DiskOk, log-alone, log-len}
 use Rattle.history.proofs.Rest.{Held, Flattened, Bared, Some, step-fine, held-disk}
-use Rattle.history.proofs.Stepping.{StepOk, todo-by, advance-by}
+use Rattle.history.proofs.Stepping.{StepOk}
 use Rattle.history.proofs.FoldHeader.{has-true}
 
 -- ---- the log's length
 
 -- without frames the book is the main file's, where that has every page
 bare-book : {m : List ℕ} {b : Book} {S : List (List ℕ)} {mh : DbHeader} → BookIs m b S mh → mh ≡ b .header
-    → ((n : ℕ) → 1 ≤ n → n < countOf (b .header) → b .pages n ≡ some (pageFrom (4096 * n) m)) → BookIs m (bookEmpty b) [] mh
+    → ((n : ℕ) → 1 ≤ n → n < countOf (b .header) → b .pages n ≡ some (pageFrom (pageSize * n) m)) → BookIs m (bookEmpty b) [] mh
 unfolding headerOver placeFrom lastCount batchesIn
 bare-book {m} {b} {S} {mh} o own flat =
     record {
@@ -47,7 +49,7 @@ bare-book {m} {b} {S} {mh} o own flat =
       batches = refl;
     }
 
-pub empty-len : (h : WalHeader) → emptyWal h .len ≡ 32
+pub empty-len : (h : WalHeader) → emptyWal h .len ≡ headerSize
 unfolding emptyWal
 empty-len h = refl
 
@@ -62,11 +64,11 @@ module _ (g : List ℕ) (w : World) (b : Book) (z : List ℕ) (salt answer : ℕ
   abbrev o : OnDisk (diskOf w) b (k .l) (k .S) (k .P) [] (k .mh)
   o = k .it .held .on
 
-  within : 32 ≤ w .pager .wal .len
+  within : headerSize ≤ w .pager .wal .len
   within = omega (arith, log-len o)
 
-  stored-is : stored logLengthAct (diskOf w) ≡ record { main = diskOf w .main; log = lasting (diskOf w .log) 32 }
-  stored-is = rw (len-file (diskOf w .log) 32 within)
+  stored-is : stored logLengthAct (diskOf w) ≡ record { main = diskOf w .main; log = lasting (diskOf w .log) headerSize }
+  stored-is = rw (len-file (diskOf w .log) headerSize within)
 
   abbrev v : World
   v = emptied salt answer w
@@ -76,15 +78,15 @@ module _ (g : List ℕ) (w : World) (b : Book) (z : List ℕ) (salt answer : ℕ
   disk-is =
       λ i. record { main = diskOf w .main; log = same-file {f = record { area = stored logLengthAct (diskOf w) .log .area; len = emptyWal (w .pager .wal .header) .len }} {g = stored logLengthAct (diskOf w) .log} refl (empty-len (w .pager .wal .header)) i }
 
-  alone : content (lasting (diskOf w .log) 32) ≡ encodeWalHeader (k .l)
+  alone : content (lasting (diskOf w .log) headerSize) ≡ encodeWalHeader (k .l)
   alone =
-      sym (take-take 32 (w .pager .wal .len) (w .log) within)
-      ∙ ap (take 32) (o .log .bytes) ∙ take-at (encodeWalHeader (k .l)) (joined (k .S ++ k .P) ++ []) 32 (length-encodeWalHeader (k .l))
+      sym (take-take headerSize (w .pager .wal .len) (w .log) within)
+      ∙ ap (take headerSize) (o .log .bytes) ∙ take-at (encodeWalHeader (k .l)) (joined (k .S ++ k .P) ++ []) headerSize (length-encodeWalHeader (k .l))
 
   on-after : OnDisk (diskOf v) (bookEmpty b) (k .l) [] [] [] (k .mh)
   on-after =
       rw (disk-is, stored-is) (record {
-        log = log-alone (lasting (diskOf w .log) 32) (k .l) (o .log .written) alone (o .log .area) (omega arith);
+        log = log-alone (lasting (diskOf w .log) headerSize) (k .l) (o .log .written) alone (o .log .area) (omega arith);
         main = o .main;
         book = bare-book (o .book) (c .own) (c .flat);
       })

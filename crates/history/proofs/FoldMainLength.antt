@@ -4,18 +4,20 @@ use mathlib.Core.List.{List, [], _∷_}
 use Prim.Native.Nat.{ℕ, zero, suc, _*_, _-_, _≤_, _<_}
 use native.Mathlib.Omega.{arith}
 use borrow.Author.Tests.{le-leb}
+use Rattle.page.specs.Page.{pageSize}
 use Rattle.header.specs.declared.DbHeader.{DbHeader}
-use Rattle.pager_state.specs.World.{World, countOf, headerOf}
+use Rattle.pager_state.specs.World.{World, mainArea, countOf, headerOf}
 use Rattle.pager_state.specs.Stores.{Disk, diskOf, stored, cutStore, lenCut}
 use Rattle.pager_state.specs.Fold.{mainLengthAct, lengthened, emptyTodo, foldTodo, foldAdvance}
 use Rattle.pager_state.specs.Commit.{commitTodo, commitAdvance}
 use Rattle.pager_state.specs.Steps.{todo, advance}
 use Rattle.pager_state.specs.declared.Job.the-variants as job
+use Rattle.pager_state.proofs.Next.{todo-by, advance-by}
 use Rattle.history.specs.Book.{Book}
 use Rattle.history.proofs.Files.{lasting, len-file}
 use Rattle.history.proofs.Disk.{OnDisk, DiskOk}
 use Rattle.history.proofs.Rest.{Held, Flattened, Some, step-fine, held-disk, held-stored}
-use Rattle.history.proofs.Stepping.{StepOk, todo-by, advance-by}
+use Rattle.history.proofs.Stepping.{StepOk}
 
 -- ---- the main length
 
@@ -27,10 +29,10 @@ module _ (g : List ℕ) (w : World) (b : Book) (z : List ℕ) (salt answer : ℕ
   o = k .it .held .on
 
   abbrev size : ℕ
-  size = 4096 * countOf (headerOf (w .pager))
+  size = pageSize * countOf (headerOf (w .pager))
 
-  size-is : size ≡ 4096 * countOf (b .header)
-  size-is = ap (λ (h : DbHeader). 4096 * countOf h) (c .held .header)
+  size-is : size ≡ pageSize * countOf (b .header)
+  size-is = ap (λ (h : DbHeader). pageSize * countOf h) (c .held .header)
 
   within : size ≤ w .pager .storage .len
   within = omega (arith, size-is, o .main .has, ap countOf (c .own))
@@ -99,7 +101,7 @@ module _ (g : List ℕ) (w : World) (b : Book) (z : List ℕ) (salt answer : ℕ
         next = v;
         todoIs = todo-is;
         nextIs = next-is;
-        lies = le-leb size 4194304 (omega (arith, size-is, o .book .most));
+        lies = le-leb size mainArea (omega (arith, size-is, o .book .most));
         covers = tt;
         fine = step-fine (c .held);
         disk = disk-is;

@@ -14,34 +14,36 @@ use Rattle.le.specs.Le.{put}
 use Rattle.le.proofs.Tests.{le-or-lt, eq-or-not}
 use Rattle.le.proofs.Compare.{both-true}
 use Rattle.le.proofs.Stores.{length-put, take-put}
+use Rattle.page.specs.Page.{pageSize}
 use Rattle.header.specs.Header.{decodeHeader}
 use Rattle.header.specs.declared.DbHeader.{DbHeader}
 use Rattle.wal.specs.declared.WalHeader.{WalHeader}
-use Rattle.pager_state.specs.World.{World, countOf, headerOf}
+use Rattle.pager_state.specs.World.{World, mainArea, pageLimit, countOf, headerOf}
 use Rattle.pager_state.specs.Overlay.{pageFrom, inLog, logBytes}
 use Rattle.pager_state.specs.Opening.{hasPage}
-use Rattle.pager_state.specs.Pages.{pagesFrom, folds}
+use Rattle.pager_state.specs.Pages.{pagesFrom, foldsBy, folds}
 use Rattle.pager_state.specs.Stores.{Disk, diskOf, stored, cutStore}
-use Rattle.pager_state.specs.Fold.{pageAct, paged, pagesTodo, pagesAdvance, foldTodo, foldAdvance}
+use Rattle.pager_state.specs.Fold.{isEmpty, pageAct, paged, pagesTodo, foldTodo, pagesAdvance, foldAdvance}
 use Rattle.pager_state.specs.Fold as fold
 use Rattle.pager_state.specs.Commit.{commitTodo, commitAdvance}
 use Rattle.pager_state.specs.Steps.{todo, advance}
 use Rattle.pager_state.specs.declared.Job.the-variants as job
+use Rattle.pager_state.proofs.Next.{todo-by, advance-by}
+use Rattle.pager_state.proofs.Searches.{First, first}
 use Rattle.history.specs.Book.{Book, orElse}
 use Rattle.history.proofs.Files.{putting, put-file, put-front, reach-behind, take-min, page-other, page-same}
 use Rattle.history.proofs.Frames.{lastIn, last-append, last-long}
-use Rattle.history.proofs.PagesFrom.{First, pages-first}
 use Rattle.history.proofs.Disk.{mainPage, viewOf, OnDisk, DiskOk, whole-left}
 use Rattle.history.proofs.Opening.{book-over}
 use Rattle.history.proofs.Rest.{Held, Folding, Some, log-has, log-lacks, step-fine, held-stored}
-use Rattle.history.proofs.Stepping.{StepOk, todo-by, advance-by}
+use Rattle.history.proofs.Stepping.{StepOk}
 
 -- a page that the log has not is the main file's
 pub record OnMain (b : Book) (mh : DbHeader) (m : List ℕ) (n : ℕ) : Type 0 where
   pub has : hasPage mh n ≡ true
-  pub is : b .pages n ≡ some (pageFrom (4096 * n) m)
+  pub is : b .pages n ≡ some (pageFrom (pageSize * n) m)
 
-main-by : (b : Book) (mh : DbHeader) (m : List ℕ) (n : ℕ) (x : List ℕ) (t : Bool) → hasPage mh n ≡ t → pick t (some (pageFrom (4096 * n) m)) none ≡ b .pages n
+main-by : (b : Book) (mh : DbHeader) (m : List ℕ) (n : ℕ) (x : List ℕ) (t : Bool) → hasPage mh n ≡ t → pick t (some (pageFrom (pageSize * n) m)) none ≡ b .pages n
     → b .pages n ≡ some x → OnMain b mh m n
 main-by b mh m n x true e p q = record { has = e; is = sym p }
 main-by b mh m n x false e p q = let z : _≡_ {A = ℕ} 0 1 = cc in absurd (omega arith)
@@ -56,37 +58,37 @@ must-main {d} {b} {l} {S} {P} {t} {mh} o n h1 h2 e =
 pub has-below : (mh : DbHeader) (n : ℕ) → hasPage mh n ≡ true → n < countOf mh
 has-below mh n e = ltb-true n (countOf mh) (both-true (leb 1 n) (ltb n (countOf mh)) e .1)
 
-main-eq : (mh : DbHeader) (a c : List ℕ) (n : ℕ) → pageFrom (4096 * n) a ≡ pageFrom (4096 * n) c → mainPage mh a n ≡ mainPage mh c n
+main-eq : (mh : DbHeader) (a c : List ℕ) (n : ℕ) → pageFrom (pageSize * n) a ≡ pageFrom (pageSize * n) c → mainPage mh a n ≡ mainPage mh c n
 main-eq mh a c n e = rw e
 
 -- the main file with some bytes of a page that the log has
 pub page-stored : {d : Disk} {b : Book} {l : WalHeader} {S P : List (List ℕ)} {t : List ℕ} {mh : DbHeader} → OnDisk d b l S P t mh → (n : ℕ) (x xs : List ℕ)
-    → 1 ≤ n → n < countOf (b .header) → lastIn n S ≡ some x → length xs ≤ 4096
-    → OnDisk (record { main = putting (d .main) (4096 * n) xs; log = d .log }) b l S P t mh
+    → 1 ≤ n → n < countOf (b .header) → lastIn n S ≡ some x → length xs ≤ pageSize
+    → OnDisk (record { main = putting (d .main) (pageSize * n) xs; log = d .log }) b l S P t mh
 page-stored {d} {b} {l} {S} {P} {t} {mh} o n x xs h1 h2 e hx =
-    let c : countOf (b .header) ≤ 1024 = o .book .most in
-    let a : length (d .main .area) ≡ 4194304 = o .main .area in
+    let c : countOf (b .header) ≤ pageLimit = o .book .most in
+    let a : length (d .main .area) ≡ mainArea = o .main .area in
     record {
       log = o .log;
       main =
           record {
-            area = length-put (d .main .area) (4096 * n) xs (omega arith) ∙ a;
+            area = length-put (d .main .area) (pageSize * n) xs (omega arith) ∙ a;
             fits = omega (arith, o .main .fits);
             long = omega (arith, o .main .long);
             has = omega (arith, o .main .has);
-            head = ap decodeHeader (take-put 4096 (d .main .area) (4096 * n) xs (omega arith) (omega arith)) ∙ o .main .head;
+            head = ap decodeHeader (take-put pageSize (d .main .area) (pageSize * n) xs (omega arith) (omega arith)) ∙ o .main .head;
           };
       book = book-over (o .book) (o .book .top) (λ m m1 m2. go m m1 m2 c a (eq-or-not m n));
     }
   where
-    go : (m : ℕ) → 1 ≤ m → m < countOf (b .header) → countOf (b .header) ≤ 1024 → length (d .main .area) ≡ 4194304 → (m ≡ n) ⊎ (m ≡ n → ⊥)
-        → viewOf S mh (put (d .main .area) (4096 * n) xs) m ≡ b .pages m
+    go : (m : ℕ) → 1 ≤ m → m < countOf (b .header) → countOf (b .header) ≤ pageLimit → length (d .main .area) ≡ mainArea → (m ≡ n) ⊎ (m ≡ n → ⊥)
+        → viewOf S mh (put (d .main .area) (pageSize * n) xs) m ≡ b .pages m
     go m m1 m2 c a (inl q) =
         let r : lastIn m S ≡ some x = rw q e in
-        ap (λ (y : Option (List ℕ)). orElse y (mainPage mh (put (d .main .area) (4096 * n) xs) m)) r
+        ap (λ (y : Option (List ℕ)). orElse y (mainPage mh (put (d .main .area) (pageSize * n) xs) m)) r
         ∙ sym (ap (λ (y : Option (List ℕ)). orElse y (mainPage mh (d .main .area) m)) r) ∙ o .book .pages m m1 m2
     go m m1 m2 c a (inr q) =
-        ap (orElse (lastIn m S)) (main-eq mh (put (d .main .area) (4096 * n) xs) (d .main .area) m (page-other (d .main .area) n xs hx (omega arith) m q))
+        ap (orElse (lastIn m S)) (main-eq mh (put (d .main .area) (pageSize * n) xs) (d .main .area) m (page-other (d .main .area) n xs hx (omega arith) m q))
         ∙ o .book .pages m m1 m2
 
 -- ---- the step
@@ -104,34 +106,34 @@ module _ (g : List ℕ) (w : World) (b : Book) (z : List ℕ) (salt p answer : �
   count-is : countOf (headerOf (w .pager)) ≡ countOf (b .header)
   count-is = ap countOf (c .held .header)
 
-  last-sealed : (n : ℕ) → n < 1024 → lastIn n (k .S ++ k .P) ≡ lastIn n (k .S)
+  last-sealed : (n : ℕ) → n < pageLimit → lastIn n (k .S ++ k .P) ≡ lastIn n (k .S)
   last-sealed n hn = last-append n (k .S) (k .P) ∙ rw (c .loose n hn)
 
   -- a page that isn't folded is not in the log
   not-folded : (n : ℕ) → 1 ≤ n → n < countOf (b .header) → folds w n ≡ false → lastIn n (k .S) ≡ none
-  unfolding folds
+  unfolding foldsBy
   not-folded n h1 h2 e =
-      let hn : n < 1024 = omega (arith, o .book .most) in
+      let hn : n < pageLimit = omega (arith, o .book .most) in
       let h3 : n < countOf (headerOf (w .pager)) = omega (arith, count-is) in
       let q : inLog (w .table) n ≡ false = rw (le-leb 1 n h1, lt-ltb n (countOf (headerOf (w .pager))) h3) at e in
       sym (last-sealed n hn) ∙ log-lacks (c .held) (c .table) n hn q
 
   -- the pages below i that the log has are stored
   pub stored-below : (i : ℕ) → ((m : ℕ) → p ≤ m → m < i → folds w m ≡ false) → (m : ℕ) (x : List ℕ) → 1 ≤ m → m < i → m < countOf (b .header) → lastIn m (k .S) ≡ some x
-      → (pageFrom (4096 * m) (w .main) ≡ x) × (4096 * suc m ≤ main-len)
+      → (pageFrom (pageSize * m) (w .main) ≡ x) × (pageSize * suc m ≤ main-len)
   stored-below i before m x h1 h2 h3 e = go (le-or-lt p m)
     where
-      go : (p ≤ m) ⊎ (m < p) → (pageFrom (4096 * m) (w .main) ≡ x) × (4096 * suc m ≤ main-len)
+      go : (p ≤ m) ⊎ (m < p) → (pageFrom (pageSize * m) (w .main) ≡ x) × (pageSize * suc m ≤ main-len)
       go (inl q) = let r = not-folded m h1 h3 (before m q h2) in let zz : _≡_ {A = ℕ} 0 1 = cc in absurd (omega arith)
       go (inr q) = c .stored m x h1 q h3 e
 
-  long-by : (m : ℕ) → 1 ≤ m → m < countOf (b .header) → ((x : List ℕ) → lastIn m (k .S) ≡ some x → 4096 * suc m ≤ main-len) → (y : Option (List ℕ)) → lastIn m (k .S) ≡ y
-      → 4096 * suc m ≤ main-len
+  long-by : (m : ℕ) → 1 ≤ m → m < countOf (b .header) → ((x : List ℕ) → lastIn m (k .S) ≡ some x → pageSize * suc m ≤ main-len) → (y : Option (List ℕ)) → lastIn m (k .S) ≡ y
+      → pageSize * suc m ≤ main-len
   long-by m h1 h2 s (some x) e = s x e
   long-by m h1 h2 s none e = omega (arith, has-below (k .mh) m (must-main o m h1 h2 e .has), o .main .has)
 
   -- so the main file reaches up to page i
-  pub reaches : (i : ℕ) → ((m : ℕ) → p ≤ m → m < i → folds w m ≡ false) → 1 ≤ i → i ≤ countOf (b .header) → 4096 * i ≤ main-len
+  pub reaches : (i : ℕ) → ((m : ℕ) → p ≤ m → m < i → folds w m ≡ false) → 1 ≤ i → i ≤ countOf (b .header) → pageSize * i ≤ main-len
   reaches zero before h1 h2 = omega arith
   reaches (suc zero) before h1 h2 = omega (arith, o .main .long)
   reaches (suc (suc m)) before h1 h2 =
@@ -139,8 +141,11 @@ module _ (g : List ℕ) (w : World) (b : Book) (z : List ℕ) (salt p answer : �
       (λ x e. stored-below (suc (suc m)) before (suc m) x (omega arith) (omega arith) (omega arith) e .1) (lastIn (suc m) (k .S)) refl
 
   module _ (n : ℕ) (ns : List ℕ) (found : pagesFrom (folds w) p ≡ n ∷ ns) where
-    first : First (folds w) p n ns
-    first = pages-first (folds w) p n ns found
+    at : First (folds w) p n
+    at = first (folds w) p n ns found
+
+    rest-is : pagesFrom (folds w) (suc n) ≡ ns
+    rest-is = let s = at .split in cc
 
     abbrev x : List ℕ
     x = logBytes (w .table) (w .log) n
@@ -151,9 +156,9 @@ module _ (g : List ℕ) (w : World) (b : Book) (z : List ℕ) (salt p answer : �
       has : inLog (w .table) n ≡ true
 
     folded-page : Folds
-    unfolding folds
+    unfolding foldsBy
     folded-page =
-        let a = both-true (leb 1 n) _ (first .holds) in
+        let a = both-true (leb 1 n) _ (at .holds) in
         let d = both-true (ltb n (countOf (headerOf (w .pager)))) (inLog (w .table) n) (a .1) in
         record {
           low = leb-true 1 n (a .0);
@@ -167,46 +172,46 @@ module _ (g : List ℕ) (w : World) (b : Book) (z : List ℕ) (salt p answer : �
     high : n < countOf (b .header)
     high = folded-page .high
 
-    small : n < 1024
-    small = first .high
+    small : n < pageLimit
+    small = at .below
 
     last-is : lastIn n (k .S) ≡ some x
     last-is = sym (last-sealed n small) ∙ log-has (c .held) (c .table) n small (folded-page .has)
 
-    x-long : length x ≡ 4096
+    x-long : length x ≡ pageSize
     x-long = last-long n x (whole-left (k .S) (k .P) (o .log .whole)) last-is
 
-    at-inside : 4096 * n ≤ main-len
-    at-inside = reaches n (first .before) low (omega (arith, high))
+    at-inside : pageSize * n ≤ main-len
+    at-inside = reaches n (at .before) low (omega (arith, high))
 
-    in-area : 4096 * n ≤ length (w .main)
+    in-area : pageSize * n ≤ length (w .main)
     in-area = omega (arith, at-inside, o .main .fits, o .main .area)
 
-    stored-is : (flush : Bool) → stored (pageAct w n flush) (diskOf w) ≡ record { main = putting (diskOf w .main) (4096 * n) x; log = diskOf w .log }
-    stored-is flush = rw (put-file (diskOf w .main) (4096 * n) x at-inside)
+    stored-is : (flush : Bool) → stored (pageAct w n flush) (diskOf w) ≡ record { main = putting (diskOf w .main) (pageSize * n) x; log = diskOf w .log }
+    stored-is flush = rw (put-file (diskOf w .main) (pageSize * n) x at-inside)
 
-    cut-is : (flush : Bool) (j : ℕ) → cutStore (pageAct w n flush) j (diskOf w) ≡ record { main = putting (diskOf w .main) (4096 * n) (take j x); log = diskOf w .log }
+    cut-is : (flush : Bool) (j : ℕ) → cutStore (pageAct w n flush) j (diskOf w) ≡ record { main = putting (diskOf w .main) (pageSize * n) (take j x); log = diskOf w .log }
     cut-is flush j =
-        rw (reach-behind (4096 * n) x j (omega (arith, low)), put-front (diskOf w .main) (4096 * n) x (min j (length x)) at-inside, take-min j x)
+        rw (reach-behind (pageSize * n) x j (omega (arith, low)), put-front (diskOf w .main) (pageSize * n) x (min j (length x)) at-inside, take-min j x)
 
     abbrev v : World
     v = paged salt answer n w
 
-    disk-is : diskOf v ≡ stored (pageAct w n (fold.none ns)) (diskOf w)
+    disk-is : diskOf v ≡ stored (pageAct w n (isEmpty ns)) (diskOf w)
     unfolding paged
     disk-is = refl
 
     on-after : OnDisk (diskOf v) b (k .l) (k .S) (k .P) [] (k .mh)
-    on-after = rw (disk-is, stored-is (fold.none ns)) (page-stored o n x x low high last-is (omega (arith, x-long)))
+    on-after = rw (disk-is, stored-is (isEmpty ns)) (page-stored o n x x low high last-is (omega (arith, x-long)))
 
-    main-after : v .main ≡ put (w .main) (4096 * n) x
-    main-after = ap (λ (d : Disk). d .main .area) (disk-is ∙ stored-is (fold.none ns))
+    main-after : v .main ≡ put (w .main) (pageSize * n) x
+    main-after = ap (λ (d : Disk). d .main .area) (disk-is ∙ stored-is (isEmpty ns))
 
-    len-after : v .pager .storage .len ≡ max main-len (4096 * n + length x)
-    len-after = ap (λ (d : Disk). d .main .len) (disk-is ∙ stored-is (fold.none ns))
+    len-after : v .pager .storage .len ≡ max main-len (pageSize * n + length x)
+    len-after = ap (λ (d : Disk). d .main .len) (disk-is ∙ stored-is (isEmpty ns))
 
     stored-after : (m : ℕ) (y : List ℕ) → 1 ≤ m → m < suc n → m < countOf (b .header) → lastIn m (k .S) ≡ some y
-        → (pageFrom (4096 * m) (v .main) ≡ y) × (4096 * suc m ≤ v .pager .storage .len)
+        → (pageFrom (pageSize * m) (v .main) ≡ y) × (pageSize * suc m ≤ v .pager .storage .len)
     stored-after m y h1 h2 h3 e = go (eq-or-not m n)
       where
         below : (m ≡ n → ⊥) → m < n
@@ -216,13 +221,13 @@ module _ (g : List ℕ) (w : World) (b : Book) (z : List ℕ) (salt p answer : �
             last (inl r) = absurd (ne (omega arith))
             last (inr r) = r
 
-        go : (m ≡ n) ⊎ (m ≡ n → ⊥) → (pageFrom (4096 * m) (v .main) ≡ y) × (4096 * suc m ≤ v .pager .storage .len)
+        go : (m ≡ n) ⊎ (m ≡ n → ⊥) → (pageFrom (pageSize * m) (v .main) ≡ y) × (pageSize * suc m ≤ v .pager .storage .len)
         go (inl q) =
             let s : lastIn n (k .S) ≡ some y = rw q at e in
             let xy : x ≡ y = cc (last-is) in
             (rw (main-after, q) (page-same (w .main) n x (omega (arith, x-long)) in-area x-long ∙ xy), omega (arith, len-after, x-long))
         go (inr q) =
-            let r = stored-below n (first .before) m y h1 (below q) h3 e in
+            let r = stored-below n (at .before) m y h1 (below q) h3 e in
             (rw main-after (page-other (w .main) n x (omega (arith, x-long)) in-area m q ∙ r .0), omega (arith, len-after, r .1))
 
     held-after : Held v g b (k .l) (k .S) (k .P) (k .mh)
@@ -233,22 +238,22 @@ module _ (g : List ℕ) (w : World) (b : Book) (z : List ℕ) (salt p answer : �
     unfolding paged
     after-ok = record { held = held-after; table = c .table; loose = c .loose; fits = c .fits; stored = stored-after }
 
-    todo-is : todo g w ≡ pageAct w n (fold.none ns) ∷ pagesTodo salt answer ns v
+    todo-is : todo g w ≡ pageAct w n (isEmpty ns) ∷ pagesTodo salt answer ns v
     unfolding commitTodo foldTodo pagesTodo
     todo-is = todo-by g w (job.Fold salt p answer) job-is ∙ ap (λ (y : List ℕ). pagesTodo salt answer y w) found
 
     left-is : todo g v ≡ pagesTodo salt answer ns v
-    unfolding commitTodo foldTodo paged folds
-    left-is = todo-by g v (job.Fold salt (suc n) answer) refl ∙ ap (λ (y : List ℕ). pagesTodo salt answer y v) (first .rest)
+    unfolding commitTodo foldTodo paged foldsBy
+    left-is = todo-by g v (job.Fold salt (suc n) answer) refl ∙ ap (λ (y : List ℕ). pagesTodo salt answer y v) rest-is
 
     next-is : advance g w ≡ v
     unfolding commitAdvance foldAdvance
     next-is = advance-by g w (job.Fold salt p answer) job-is ∙ ap (λ (y : List ℕ). pagesAdvance salt answer y w) found
 
-    cut-ok : (j : ℕ) → DiskOk (cutStore (pageAct w n (fold.none ns)) j (diskOf w)) b z
+    cut-ok : (j : ℕ) → DiskOk (cutStore (pageAct w n (isEmpty ns)) j (diskOf w)) b z
     cut-ok j =
-        let q : length (take j x) ≤ 4096 = rw length-take (omega (arith, x-long)) in
-        rw (cut-is (fold.none ns) j) (record {
+        let q : length (take j x) ≤ pageSize = rw length-take (omega (arith, x-long)) in
+        rw (cut-is (isEmpty ns) j) (record {
           l = k .l;
           S = k .S;
           P = k .P;
@@ -262,12 +267,12 @@ module _ (g : List ℕ) (w : World) (b : Book) (z : List ℕ) (salt p answer : �
     unfolding paged
     page-step =
         record {
-          act = pageAct w n (fold.none ns);
+          act = pageAct w n (isEmpty ns);
           rest = pagesTodo salt answer ns v;
           next = v;
           todoIs = todo-is;
           nextIs = next-is;
-          lies = le-leb (4096 * n + length x) 4194304 (omega (arith, x-long, small));
+          lies = le-leb (pageSize * n + length x) mainArea (omega (arith, x-long, small));
           covers = (omega (arith, x-long), omega (arith, x-long));
           fine = step-fine (c .held);
           disk = disk-is;

@@ -1,50 +1,40 @@
 -- A fold, begun or in one call. Assumes nothing.
 use mathlib.Core.Path.{_≡_, refl, sym, ap, _∙_, subst}
-use mathlib.Core.Bool.{Bool, true, false}
+use mathlib.Core.Bool.{Bool, true, false, not}
 use mathlib.Core.List.{List, []}
+use mathlib.Core.Option.{none}
 use Prim.Native.Nat.{ℕ, _^_, _<_}
 use native.Mathlib.Omega.{arith}
-use Rattle.le.specs.Choice.{pick}
-use Rattle.pager_state.specs.World.{World, busy, readOnly, withJob}
+use Rattle.refusal.specs.declared.Refusal.the-variants as refusal
+use Rattle.refusal.proofs.Judged.{met}
+use Rattle.pager_state.specs.World.{World, busy, withJob}
 use Rattle.pager_state.specs.Stores.{diskOf, stored}
 use Rattle.pager_state.specs.Fold.{foldTodo}
 use Rattle.pager_state.specs.Commit.{commitTodo}
-use Rattle.pager_state.specs.Steps.{stepFine, nothingToFold, checkpointStart, folding, beginCheckpoint, checkpointRefusal, todo, steps, onStore, checkpointWorld}
+use Rattle.pager_state.specs.Steps.{nothingToFold, checkpointRefusal, folding, beginCheckpoint, todo, stepFine, steps, mostSteps, onStore, checkpointWorld}
 use Rattle.pager_state.specs.declared.Job.the-variants as job
 use Rattle.pager_state.specs.declared.Pager.{Pager}
-use Rattle.pager_state.specs.declared.CheckpointStart.the-variants as checkpoint
+use Rattle.pager_state.proofs.Begun.{off, not-busy, begun-checkpoint, begins}
+use Rattle.pager_state.proofs.Next.{todo-by}
+use Rattle.pager_state.proofs.Done.{todo-length}
 use Rattle.history.specs.Book.{Book, tells}
 use Rattle.history.specs.Calls.{Checkpoint, BeginCheckpoint, storesOf, worldAfter}
 use Rattle.history.specs.Run.{keptAfter}
 use Rattle.history.proofs.Disk.{DiskOk}
 use Rattle.history.proofs.Rest.{Resting, Folding, Some, Inv, held-disk}
-use Rattle.history.proofs.Stepping.{todo-by}
-use Rattle.history.proofs.Running.{cut-none, RunOk, run-ok, fold-few}
-use Rattle.history.proofs.Taken.{Taken, taken-by, took, passed, idle-of, at-rest}
+use Rattle.history.proofs.Running.{cut-none, RunOk, run-ok}
+use Rattle.history.proofs.Taken.{Taken, taken-by, at-rest}
 
 -- ---- a fold
 
 module _ (w : World) (g : List ℕ) (b : Book) (z : List ℕ) (i : Inv w g b z) (salt : ℕ) (small : salt < 2 ^ 32)
-    (ok : checkpointRefusal (checkpointStart g w) ≡ 0) where
-  record Starts : Type 0 where
-    areas : stepFine g w ≡ true
-    rests : busy (w .pager) ≡ false
-    writes : readOnly (w .pager) ≡ false
-
-  starts : Starts
-  unfolding checkpointStart
-  starts =
-      let a = took checkpointRefusal (stepFine g w) _ checkpoint.Area ok (λ e. omega arith) in
-      let c = passed checkpointRefusal (busy (w .pager)) checkpoint.Busy _ (a .1) (λ e. omega arith) in
-      let d = passed checkpointRefusal (readOnly (w .pager)) checkpoint.ReadOnly _ (c .1) (λ e. omega arith) in
-      record { areas = a .0; rests = c .0; writes = d .0 }
-
-  start-is : (t : Bool) → nothingToFold w ≡ t → checkpointStart g w ≡ pick t checkpoint.Nothing checkpoint.Begun
-  unfolding checkpointStart
-  start-is t e = rw (starts .areas, starts .rests, starts .writes, e)
-
+    (taken : checkpointRefusal g w ≡ none) where
   pub idle : w .pager .job ≡ job.Idle
-  idle = idle-of (w .pager .job) (starts .rests)
+  unfolding checkpointRefusal
+  idle =
+      let a = met (stepFine g w) refusal.Area _ taken in
+      let c = met (not (busy (w .pager))) refusal.Busy _ (a .1) in
+      not-busy (w .pager .job) (off _ (c .0))
 
   k : Some (Resting w g b) z
   k = at-rest w g b z i idle
@@ -78,8 +68,8 @@ module _ (w : World) (g : List ℕ) (b : Book) (z : List ℕ) (i : Inv w g b z) 
   begun : Inv v g b z
   begun = record { l = k .l; S = k .S; P = k .P; mh = k .mh; it = folding-ok; kept = k .kept }
 
-  run : RunOk g 2200 v b z (todo g v) (diskOf w)
-  run = run-ok g 2200 v b z (todo g v) (diskOf w) refl refl (fold-few g v salt 0 (folding w) refl) begun
+  run : RunOk g mostSteps v b z (todo g v) (diskOf w)
+  run = run-ok g mostSteps v b z (todo g v) (diskOf w) refl refl (todo-length g v) begun
 
   disk-now : DiskOk (diskOf w) b z
   disk-now = held-disk (k .it .held) (k .kept)
@@ -90,12 +80,11 @@ module _ (w : World) (g : List ℕ) (b : Book) (z : List ℕ) (i : Inv w g b z) 
 
   -- with something to fold, and with nothing
   pager-is : nothingToFold w ≡ false → beginCheckpoint g w salt .pager ≡ withJob (w .pager) (job.Fold salt 0 (folding w))
-  unfolding beginCheckpoint
-  pager-is e = rw (start-is false e)
+  pager-is e = begun-checkpoint g w (begins g w taken e) salt
 
   pager-stays : nothingToFold w ≡ true → beginCheckpoint g w salt .pager ≡ w .pager
   unfolding beginCheckpoint
-  pager-stays e = rw (start-is true e)
+  pager-stays e = rw (taken, e)
 
   begin-by : (t : Bool) → nothingToFold w ≡ t → Taken (BeginCheckpoint salt) w g b z
   unfolding storesOf worldAfter tells keptAfter
@@ -115,13 +104,13 @@ module _ (w : World) (g : List ℕ) (b : Book) (z : List ℕ) (i : Inv w g b z) 
   unfolding storesOf
   stores-none e = ap (λ (p : Pager). todo g (onStore w p)) (pager-stays e) ∙ no-stores
 
-  world-is : nothingToFold w ≡ false → worldAfter (Checkpoint salt) w g ≡ steps g 2200 v
+  world-is : nothingToFold w ≡ false → worldAfter (Checkpoint salt) w g ≡ steps g mostSteps v
   unfolding worldAfter checkpointWorld
-  world-is e = rw (start-is false e) (ap (λ (p : Pager). steps g 2200 (onStore w p)) (pager-is e))
+  world-is e = rw (taken, e) (ap (λ (p : Pager). steps g mostSteps (onStore w p)) (pager-is e))
 
   world-stays : nothingToFold w ≡ true → worldAfter (Checkpoint salt) w g ≡ w
   unfolding worldAfter checkpointWorld
-  world-stays e = rw (start-is true e)
+  world-stays e = rw (taken, e)
 
   checkpoint-by : (t : Bool) → nothingToFold w ≡ t → Taken (Checkpoint salt) w g b z
   unfolding tells keptAfter

@@ -11,11 +11,13 @@ use lib.Dec.{eqb}
 use lib.ListN.{length, drop, length-drop}
 use lib.Seq.{take-at, drop-at, drop-drop, drop-append-le}
 use Rattle.le.specs.Choice.{pick, both}
-use Rattle.frame.specs.Frame.{bodyOf}
-use Rattle.wal.specs.Recovery.{chunkAt, pageOf, pageIn, batchesIn}
+use Rattle.page.specs.Page.{pageSize}
+use Rattle.frame.specs.Frame.{frameSize, bodyOf}
+use Rattle.wal.specs.Header.{headerSize}
+use Rattle.wal.specs.Recovery.{chunkAt, pageOf, batchPage, pageIn, batchesIn}
+use Rattle.wal.proofs.Frames.{batchesIn-append}
 use Rattle.wal.proofs.Laid.{joined, Whole}
 use Rattle.wal.proofs.Laid as laid
-use Rattle.wal.proofs.Frames.{batchesIn-append}
 use Rattle.pager_state.specs.Overlay.{pageFrom}
 use Rattle.pager_state.specs.Opening.{placeFrom}
 use Rattle.history.specs.Book.{Batch, batchIn, orElse}
@@ -73,16 +75,16 @@ pub page-last : (p : ℕ) (fs : List (List ℕ)) (x : List ℕ) → lastIn p fs 
 unfolding pageIn
 page-last p fs x e = page-fold p fs [] ∙ rw e
 
-pub body-long : (f : List ℕ) → length f ≡ 4112 → length (bodyOf f) ≡ 4096
+pub body-long : (f : List ℕ) → length f ≡ frameSize → length (bodyOf f) ≡ pageSize
 unfolding bodyOf
 body-long f h = length-drop 16 f ∙ omega arith
 
 -- it has a page's length
-pub last-long : (n : ℕ) {fs : List (List ℕ)} (x : List ℕ) → Whole fs → lastIn n fs ≡ some x → length x ≡ 4096
+pub last-long : (n : ℕ) {fs : List (List ℕ)} (x : List ℕ) → Whole fs → lastIn n fs ≡ some x → length x ≡ pageSize
 last-long n x laid.none e = let z : _≡_ {A = ℕ} 0 1 = cc in absurd (omega arith)
 last-long n x (laid.more {f} {fs} h w) e = go (lastIn n fs) refl (eqb (pageOf f) n) e (last-long n x w)
   where
-    go : (o : Option (List ℕ)) → lastIn n fs ≡ o → (t : Bool) → orElse o (bodyIf t f) ≡ some x → (lastIn n fs ≡ some x → length x ≡ 4096) → length x ≡ 4096
+    go : (o : Option (List ℕ)) → lastIn n fs ≡ o → (t : Bool) → orElse o (bodyIf t f) ≡ some x → (lastIn n fs ≡ some x → length x ≡ pageSize) → length x ≡ pageSize
     go (some y) p t q later = later (p ∙ q)
     go none p true q later = let s : bodyOf f ≡ x = cc in ap length (sym s) ∙ body-long f h
     go none p false q later = let z : _≡_ {A = ℕ} 0 1 = cc in absurd (omega arith)
@@ -112,8 +114,8 @@ pub place-same : (n : ℕ) (fs : List (List ℕ)) (f : List ℕ) → pageOf f �
 unfolding placeFrom
 place-same n fs f e =
     let z : 0 + length fs ≡ length fs = omega arith in
-    let q : 32 + 4112 * length fs ≡ 0 → ⊥ = λ h. omega arith in
-    place-append n 0 fs (f ∷ []) ∙ rw (z, eq-eqb (pageOf f) n e, ne-eqb (32 + 4112 * length fs) 0 q)
+    let q : headerSize + frameSize * length fs ≡ 0 → ⊥ = λ h. omega arith in
+    place-append n 0 fs (f ∷ []) ∙ rw (z, eq-eqb (pageOf f) n e, ne-eqb (headerSize + frameSize * length fs) 0 q)
 
 pub place-other : (n : ℕ) (fs : List (List ℕ)) (f : List ℕ) → (pageOf f ≡ n → ⊥) → placeFrom n 0 (fs ++ (f ∷ [])) ≡ placeFrom n 0 fs
 unfolding placeFrom
@@ -131,23 +133,23 @@ at-pick l L c true true f h k = k
 at-pick l L c false true f h k = rw h
 at-pick l L c e false f h k = rw h
 
-body-here : (l f rest : List ℕ) (i : ℕ) → length f ≡ 4112 → drop (chunkAt i) l ≡ f ++ rest → bodyAt l (chunkAt i) ≡ some (bodyOf f)
+body-here : (l f rest : List ℕ) (i : ℕ) → length f ≡ frameSize → drop (chunkAt i) l ≡ f ++ rest → bodyAt l (chunkAt i) ≡ some (bodyOf f)
 unfolding bodyOf
 body-here l f rest i h e =
-    let q : 32 + 4112 * i ≡ 0 → ⊥ = λ k. omega arith in
-    let d : drop (32 + 4112 * i + 16) l ≡ drop 16 f ++ rest = sym (drop-drop 16 (32 + 4112 * i) l) ∙ rw (e, drop-append-le 16 f rest (omega arith)) in
-    let n : length (drop 16 f) ≡ 4096 = length-drop 16 f ∙ omega arith in
-    rw (ne-eqb (32 + 4112 * i) 0 q, d, take-at (drop 16 f) rest 4096 n)
+    let q : headerSize + frameSize * i ≡ 0 → ⊥ = λ k. omega arith in
+    let d : drop (headerSize + frameSize * i + 16) l ≡ drop 16 f ++ rest = sym (drop-drop 16 (headerSize + frameSize * i) l) ∙ rw (e, drop-append-le 16 f rest (omega arith)) in
+    let n : length (drop 16 f) ≡ pageSize = length-drop 16 f ∙ omega arith in
+    rw (ne-eqb (headerSize + frameSize * i) 0 q, d, take-at (drop 16 f) rest pageSize n)
 
 pub body-last : (l : List ℕ) (n i : ℕ) {fs : List (List ℕ)} (rest : List ℕ) → Whole fs → drop (chunkAt i) l ≡ joined fs ++ rest
     → bodyAt l (placeFrom n i fs) ≡ lastIn n fs
 unfolding placeFrom joined
 body-last l n i rest laid.none e = refl
 body-last l n i rest (laid.more {f} {fs} h w) e =
-    let a : drop (32 + 4112 * i) l ≡ f ++ (joined fs ++ rest) = e ∙ simp append-assoc in
-    let m : 32 + 4112 * suc i ≡ 32 + 4112 * i + 4112 = omega arith in
-    let d : drop (32 + 4112 * suc i) l ≡ joined fs ++ rest = rw m (sym (drop-drop 4112 (32 + 4112 * i) l) ∙ rw a (drop-at f (joined fs ++ rest) 4112 h)) in
-    at-pick l (placeFrom n (suc i) fs) (32 + 4112 * i) (eqb (pageOf f) n) (eqb (placeFrom n (suc i) fs) 0) f refl (body-here l f (joined fs ++ rest) i h a)
+    let a : drop (headerSize + frameSize * i) l ≡ f ++ (joined fs ++ rest) = e ∙ simp append-assoc in
+    let m : headerSize + frameSize * suc i ≡ headerSize + frameSize * i + frameSize = omega arith in
+    let d : drop (headerSize + frameSize * suc i) l ≡ joined fs ++ rest = rw m (sym (drop-drop frameSize (headerSize + frameSize * i) l) ∙ rw a (drop-at f (joined fs ++ rest) frameSize h)) in
+    at-pick l (placeFrom n (suc i) fs) (headerSize + frameSize * i) (eqb (pageOf f) n) (eqb (placeFrom n (suc i) fs) 0) f refl (body-here l f (joined fs ++ rest) i h a)
     ∙ ap (λ (x : Option (List ℕ)). orElse x (bodyIf (eqb (pageOf f) n) f)) (body-last l n (suc i) rest w d)
 
 -- ---- batches
@@ -162,10 +164,10 @@ map-append g (x ∷ xs) ys = ap (λ (r : List _). g x ∷ r) (map-append g xs ys
 pub batches-append : (fs gs : List (List ℕ)) → batchesOf (fs ++ gs) ≡ batchesOf fs ++ batchesOf gs
 batches-append fs gs = ap (map (λ (f : List ℕ). batchIn (bodyOf f))) (batchesIn-append fs gs) ∙ map-append _ (batchesIn fs) (batchesIn gs)
 
-pub batches-page : (f : List ℕ) → (pageOf f ≡ 4294967295 → ⊥) → batchesOf (f ∷ []) ≡ []
+pub batches-page : (f : List ℕ) → (pageOf f ≡ batchPage → ⊥) → batchesOf (f ∷ []) ≡ []
 unfolding batchesIn
-batches-page f e = rw (ne-eqb (pageOf f) 4294967295 e)
+batches-page f e = rw (ne-eqb (pageOf f) batchPage e)
 
-pub batches-batch : (f : List ℕ) → pageOf f ≡ 4294967295 → batchesOf (f ∷ []) ≡ batchIn (bodyOf f) ∷ []
+pub batches-batch : (f : List ℕ) → pageOf f ≡ batchPage → batchesOf (f ∷ []) ≡ batchIn (bodyOf f) ∷ []
 unfolding batchesIn
-batches-batch f e = rw (eq-eqb (pageOf f) 4294967295 e)
+batches-batch f e = rw (eq-eqb (pageOf f) batchPage e)

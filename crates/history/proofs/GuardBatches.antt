@@ -2,20 +2,28 @@
 use mathlib.Core.Path.{_≡_, sym, ap, _∙_}
 use mathlib.Core.Bool.{true}
 use mathlib.Core.List.{List, [], _∷_, _++_}
+use mathlib.Core.Option.{none}
 use Prim.Native.Nat.{ℕ, zero, suc, _+_, _*_, _^_, _≤_, _<_}
 use native.Mathlib.Omega.{arith}
-use borrow.Author.Tests.{eq-eqb, eqb-true, le-leb}
+use borrow.Author.Tests.{le-leb}
 use lib.ListN.{length, replicate}
 use Rattle.le.specs.Le.{put, Bytes}
 use Rattle.le.proofs.Stores.{length-put}
 use Rattle.le.proofs.Compare.{no-test}
+use Rattle.page.specs.Page.{pageSize}
+use Rattle.refusal.specs.Refusal.{numberOf}
+use Rattle.refusal.specs.declared.Refusal.the-variants as refusal
+use Rattle.refusal.proofs.Rows.{accepted}
 use Rattle.header.specs.declared.DbHeader.{DbHeader}
+use Rattle.frame.specs.Frame.{frameSize}
 use Rattle.frame.proofs.Stores.{length-encodeFrame}
 use Rattle.mvcc.specs.Seen.{refusalOf, decodes, canonical}
-use Rattle.mvcc.proofs.Canonical.{canonical-length}
+use Rattle.mvcc.proofs.Canonical.{decodes-none, decodes-zero, canonical-length}
+use Rattle.wal.specs.Header.{headerSize}
+use Rattle.wal.specs.Recovery.{batchPage, walArea}
 use Rattle.wal.specs.Write.{longer, withFrame}
 use Rattle.pager_state.specs.World.{World, world, countOf, withWal}
-use Rattle.pager_state.specs.Batches.{appendAnswer, batchFrame, appendBatch, appendAfter}
+use Rattle.pager_state.specs.Batches.{appendRefusal, batchFrame, appendBatch, appendAfter}
 use Rattle.pager_state.specs.Opening.{createFine}
 use Rattle.pager_state.specs.Steps.{differing, commitWorld, commitStart, commitRefusal}
 use Rattle.pager_state.specs.declared.CommitStart.the-variants as commit
@@ -26,8 +34,8 @@ use Rattle.history.specs.Calls.{Append, Commit, Words, refusedBy, worldA
 use Rattle.history.specs.Run.{Run, whole, Whole, next, start}
 use Rattle.history.specs.Demand3.{Demand3}
 use Rattle.history.specs.Guards.{newStore, GoodHeader, Joined, Unrefused, UnrefusedBatch, LongerBy, Empty, Ends, after, Accepted, sealedBatch, framesAfter, Returned, Recovers, Filled}
-use Rattle.history.proofs.GuardRefusals.{told-begun, told-full, unrefused-batch, batch-told-full}
-use Rattle.history.proofs.GuardCommit.{begun-of, seal-idle, commit-ends}
+use Rattle.history.proofs.GuardRefusals.{told-full, none-begun, unrefused, unrefused-batch, batch-told-full}
+use Rattle.history.proofs.GuardCommit.{seal-idle, commit-ends}
 use Rattle.history.proofs.GuardNew.{fine-create, none-staged, none-differ, new-unrefused, new-made, new-count, new-none, new-len, new-frames}
 use Rattle.history.proofs.GuardHistories.{made-history}
 use Rattle.history.proofs.GuardBook.{world-after, staging-after, append-book, open-book, commit-batches}
@@ -54,7 +62,7 @@ module _ (d : Demand3) (t l m g : List ℕ) (salt : ℕ) (f : createFine t l m g
     unfolding refusedBy
     all-sealed =
         let u = reached-made reached-appended (new-made t l m g salt f) in
-        let e = begun-of (commitStart (appended .staging) (appended .world) h) c in
+        let e = accepted (commitRefusal (appended .staging) (appended .world) h) c in
         commit-batches h next appended c (seal-idle (appended .staging) (appended .world) h next (u .slots) (omega arith) e few)
         ∙ rw (append-book body r a)
 
@@ -71,26 +79,25 @@ module _ (d : Demand3) (t l m g : List ℕ) (salt : ℕ) (f : createFine t l m g
 
 -- a body that can be appended
 pub record Good (body : List ℕ) : Type 0 where
-  pub page : length body ≤ 4096
+  pub page : length body ≤ pageSize
   pub bytes : Bytes body
   pub decoded : decodes body ≡ true
 
 good-refusal : (body : List ℕ) → Good body → refusalOf body ≡ 0
-unfolding decodes
-good-refusal body k = eqb-true (refusalOf body) 0 (k .decoded)
+good-refusal body k = decodes-zero body (k .decoded)
 
 -- no refusal but 15 of a commit, nothing staged, k frames
 pub record Ready (h : DbHeader) (k : ℕ) (r : Run) : Type 0 where
   pub unrefused : Unrefused (r .staging) (r .world) h
-  pub logFile : r .world .pager .wal .len ≡ 32 + 4112 * k
-  pub none : r .world .pager .staged .count ≡ 0
+  pub logFile : r .world .pager .wal .len ≡ headerSize + frameSize * k
+  pub unstaged : r .world .pager .staged .count ≡ 0
   pub frames : r .world .pager .wal .«frame_count» ≡ k
 
 module _ (h : DbHeader) (k : ℕ) (r : Run) (u : Ready h k r) (body : List ℕ) (b : Good body) where
   unrefused-by : UnrefusedBatch (r .world .pager) (r .world .log) body
   unrefused-by =
       record {
-        log = u .unrefused .log;
+        log = u .unrefused .areas .log;
         logFile = u .unrefused .logFile;
         page = b .page;
         long = λ e. omega (arith, e, good-refusal body b);
@@ -99,19 +106,19 @@ module _ (h : DbHeader) (k : ℕ) (r : Run) (u : Ready h k r) (body : List ℕ) 
         writes = u .unrefused .writes;
       }
 
-  batch-full : k ≡ 1024 → appendAnswer (r .world .pager) (r .world .log) body ≡ append.LogFull
+  batch-full : k ≡ 1024 → appendBatch (r .world .pager) (r .world .log) body .answer ≡ append.Refused refusal.LogFull
   batch-full e = batch-told-full (r .world .pager) (r .world .log) body unrefused-by (omega (arith, u .logFile, e))
 
   module _ (low : k < 1024) where
-    append-answer : appendAnswer (r .world .pager) (r .world .log) body ≡ append.Appended
-    append-answer =
-        let room : r .world .pager .wal .len + 4112 ≤ 4210720 = omega (arith, u .logFile) in
+    append-none : appendRefusal (r .world .pager) (r .world .log) body ≡ none
+    append-none =
+        let room : r .world .pager .wal .len + frameSize ≤ walArea = omega (arith, u .logFile) in
         unrefused-batch (r .world .pager) (r .world .log) body unrefused-by
-        ∙ rw (le-leb (r .world .pager .wal .len + 4112) 4210720 room, eq-eqb (refusalOf body) 0 (good-refusal body b))
+        ∙ rw (le-leb (r .world .pager .wal .len + frameSize) walArea room) (decodes-none body (b .decoded))
 
     append-taken : Accepted (Append body) r
-    unfolding refusedBy appendBatch
-    append-taken = rw append-answer
+    unfolding refusedBy
+    append-taken = ap numberOf append-none
 
     abbrev appendedWorld : World
     appendedWorld =
@@ -120,13 +127,13 @@ module _ (h : DbHeader) (k : ℕ) (r : Run) (u : Ready h k r) (body : List ℕ) 
 
     append-world : whole (Append body) r .world ≡ appendedWorld
     unfolding worldAfter appendBatch appendAfter
-    append-world = world-after (Append body) r ∙ rw append-answer
+    append-world = world-after (Append body) r ∙ rw append-none
 
-    append-long : length (appendedWorld .log) ≡ 4210720
+    append-long : length (appendedWorld .log) ≡ walArea
     unfolding batchFrame
     append-long =
-        let n = length-encodeFrame 4294967295 0 (r .world .pager .wal .header .salt) (canonical body) (canonical-length body (b .bytes) (b .decoded) (b .page)) in
-        length-put (r .world .log) (r .world .pager .wal .len) (batchFrame (r .world .pager) body) (omega (arith, n, u .logFile, u .unrefused .log)) ∙ u .unrefused .log
+        let n = length-encodeFrame batchPage 0 (r .world .pager .wal .header .salt) (canonical body) (canonical-length body (b .bytes) (b .decoded) (b .page)) in
+        length-put (r .world .log) (r .world .pager .wal .len) (batchFrame (r .world .pager) body) (omega (arith, n, u .logFile, u .unrefused .areas .log)) ∙ u .unrefused .areas .log
 
     append-ready : Ready h (suc k) (whole (Append body) r)
     unfolding longer
@@ -134,35 +141,32 @@ module _ (h : DbHeader) (k : ℕ) (r : Run) (u : Ready h k r) (body : List ℕ) 
         let x = u .unrefused in
         let e = append-world in
         let y : whole (Append body) r .staging ≡ r .staging = staging-after (Append body) r in
-        let room : r .world .pager .wal .len + 4112 ≤ 4210720 = omega (arith, u .logFile) in
+        let room : r .world .pager .wal .len + frameSize ≤ walArea = omega (arith, u .logFile) in
         record {
           unrefused = rw (e, y)
               (record {
-                table = x .table;
-                log = append-long;
-                main = x .main;
-                staging = x .staging;
+                areas = record { table = x .areas .table; staging = x .areas .staging; log = append-long; main = x .areas .main };
                 logFile = room;
                 mainFile = x .mainFile;
                 pages = x .pages;
-                compared = λ n l o i. no-test (sym (none-staged (r .world) (u .none) n) ∙ o);
+                compared = λ n l o i. no-test (sym (none-staged (r .world) (u .unstaged) n) ∙ o);
                 rests = x .rests;
                 writes = x .writes;
                 header = x .header;
                 joined = x .joined;
               });
           logFile = rw e (omega (arith, u .logFile));
-          none = rw e (u .none);
+          unstaged = rw e (u .unstaged);
           frames = rw e (omega (arith, u .frames));
         }
 
   -- ---- and a commit
 
   none-differs : differing (r .staging) (r .world) ≡ 0
-  none-differs = none-differ (r .world) (u .none) (r .staging)
+  none-differs = none-differ (r .world) (u .unstaged) (r .staging)
 
-  ready-begun : k < 1024 → commitStart (r .staging) (r .world) h ≡ commit.Begun
-  ready-begun low = told-begun (r .staging) (r .world) h (u .unrefused) (omega (arith, u .logFile, none-differs))
+  ready-begun : k < 1024 → commitRefusal (r .staging) (r .world) h ≡ none
+  ready-begun low = unrefused (r .staging) (r .world) h (u .unrefused) (omega (arith, u .logFile, none-differs))
 
   module _ (q : Made (r .world)) (low : k < 1024) (salt : ℕ) where
     ready-ends : Ends (r .staging) (r .world) h salt
@@ -175,7 +179,7 @@ module _ (h : DbHeader) (k : ℕ) (r : Run) (u : Ready h k r) (body : List ℕ) 
     ready-folded : 99 ≤ k → Empty (commitWorld (r .staging) (r .world) h salt)
     ready-folded e = ready-ends .above (omega (arith, u .frames, none-differs))
 
-  ready-full : k ≡ 1024 → commitStart (r .staging) (r .world) h ≡ commit.LogFull
+  ready-full : k ≡ 1024 → commitStart (r .staging) (r .world) h ≡ commit.Refused refusal.LogFull
   ready-full e = told-full (r .staging) (r .world) h (u .unrefused) (omega (arith, u .logFile, none-differs, e))
 
 -- ---- from a new store on
@@ -196,7 +200,7 @@ module _ (t l m g : List ℕ) (salt : ℕ) (f : createFine t l m g ≡ true) (h 
       record {
         unrefused = new-unrefused t l m g salt f (newStore t l m g salt .pager .staged) h k j g (fine-create t l m g f .staging);
         logFile = new-len t l m g salt f;
-        none = new-none t l m g salt f;
+        unstaged = new-none t l m g salt f;
         frames = new-frames t l m g salt f;
       }
 
@@ -210,7 +214,7 @@ module _ (t l m g : List ℕ) (salt : ℕ) (f : createFine t l m g ≡ true) (h 
         logFile = u .logFile;
         longer = λ z next. ready-longer h n r u body b q (omega arith) next z;
         folded = λ z low next. ready-folded h n r u body b q low next z;
-        room = ready-begun h n r u body b;
+        room = λ low. none-begun (r .staging) (r .world) h (ready-begun h n r u body b low);
         full = ready-full h n r u body b;
         fullBatch = batch-full h n r u body b;
       }
@@ -221,7 +225,7 @@ module _ (t l m g : List ℕ) (salt : ℕ) (f : createFine t l m g ≡ true) (h 
       let r : Run = start t l m g salt in
       let a : Accepted (Append body) r = append-taken h 0 r new-ready body b (omega arith) in
       let u : Ready h 1 (whole (Append body) r) = append-ready h 0 r new-ready body b (omega arith) in
-      let e : Accepted (Commit h next) (whole (Append body) r) = ap commitRefusal (ready-begun h 1 (whole (Append body) r) u body b (omega arith)) in
+      let e : Accepted (Commit h next) (whole (Append body) r) = ap numberOf (ready-begun h 1 (whole (Append body) r) u body b (omega arith)) in
       let few : framesAfter (whole (Append body) r) < 100 = omega (arith, u .frames, none-differs h 1 (whole (Append body) r) u body b) in
       let x : Returned r body h next = returned d t l m g salt f small (reached-none r) body h next (b .bytes) v s a e few in
       record { appended = a; committed = e; sealed = x .sealed; opened = x .opened }

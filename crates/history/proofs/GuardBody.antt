@@ -10,6 +10,7 @@ use mir.Syntax.{w64}
 use Rattle.le.specs.Le.{leBytes, Bytes}
 use Rattle.le.proofs.Fields.{length-leBytes}
 use Rattle.text.specs.Utf8.{wellFormed}
+use Rattle.page.specs.Page.{pageSize}
 use Rattle.mvcc.specs.Batch.{Rec, tombstone, all, encodeText, encodeRecord, encodeBatch, padded, encodeBody, Each, GoodRecord, GoodBatch}
 use Rattle.mvcc.proofs.Bytes.{bytes-none, bytes-cons, bytes-append, bytes-leBytes, bytes-zeros}
 use Rattle.mvcc.proofs.Whole.{batch-length, batch-bytes}
@@ -46,8 +47,8 @@ module _ (time : ℕ) (row : ℤ) (early : time < 2 ^ 64) (fits : SFits w64 row)
   body-bytes : Bytes (encodeBody time rows)
   unfolding encodeBody padded
   body-bytes =
-      bytes-append (encodeBatch time rows) (replicate (4096 - length (encodeBatch time rows)) 0) (batch-bytes time rows record-bytes)
-      (bytes-zeros (4096 - length (encodeBatch time rows)))
+      bytes-append (encodeBatch time rows) (replicate (pageSize - length (encodeBatch time rows)) 0) (batch-bytes time rows record-bytes)
+      (bytes-zeros (pageSize - length (encodeBatch time rows)))
 
   pub body : Body time row (encodeBody time rows)
   unfolding batchIn

@@ -7,19 +7,20 @@ use Prim.Native.Nat.{ℕ, _≤_, _<_}
 use borrow.Author.Tests.{eq-eqb, lt-ltb, le-leb}
 use lib.Dec.{leb, eqb}
 use Rattle.le.specs.Choice.{pick}
+use Rattle.refusal.proofs.Rows.{accepted}
 use Rattle.header.specs.declared.DbHeader.{DbHeader}
 use Rattle.pager_state.specs.World.{World, countOf, withJob}
-use Rattle.pager_state.specs.Overlay.{committedBytes}
+use Rattle.pager_state.specs.Overlay.{committedIn}
 use Rattle.pager_state.specs.Stores.{Act, Other, kindOf, wholeOf}
 use Rattle.pager_state.specs.Opening.{openStores}
-use Rattle.pager_state.specs.Pages.{pagesFrom, differs, folds}
+use Rattle.pager_state.specs.Pages.{pagesFrom, differsIn, differs, folds}
 use Rattle.pager_state.specs.Fold.{paged, pagesTodo, foldTodo}
 use Rattle.pager_state.specs.Commit.{framed, sealedWorld, framesTodo, commitTodo}
-use Rattle.pager_state.specs.Steps.{differing, folding, commitStart, checkpointStart, isFolding, beginCheckpoint, todo, onStore}
+use Rattle.pager_state.specs.Steps.{differing, checkpointBegins, folding, beginCheckpoint, todo, onStore}
 use Rattle.pager_state.specs.declared.AccessMode.the-variants as mode
 use Rattle.pager_state.specs.declared.Job.{Job}
 use Rattle.pager_state.specs.declared.Job.the-variants as job
-use Rattle.pager_state.proofs.Begun.{begun-commit, commit-unrefused}
+use Rattle.pager_state.proofs.Begun.{begun-commit}
 use Rattle.history.specs.Book.{Book, bookRead, give, bookStage, bookOpen, bookWait, batchIn, entered, bookSeal, tells}
 use Rattle.history.specs.Calls.{Lent, ReadMode, Call, Ask, Open, Stage, Append, Commit, Checkpoint, refusedBy, storesOf, worldAfter, stagingAfter, bookFirst, bodyLent}
 use Rattle.history.specs.Run.{Run, kinds, whole, Left, cutCall, Attempt, cutOpening, cutOpenings, reopened, Cut, next}
@@ -118,8 +119,8 @@ module _ (h : DbHeader) (salt : ℕ) (r : Run) (k : Accepted (Commit h salt) r) 
   commitSealed = sealedWorld h salt (differing g w) (framesWorld g h salt (differing g w) (pagesFrom (differs g w) 0) begun)
 
   commit-stores : storesOf (Commit h salt) w g ≡ framesTodo g h salt (differing g w) (pagesFrom (differs g w) 0) begun
-  unfolding storesOf refusedBy todo commitTodo foldTodo differs committedBytes
-  commit-stores = rw (begun-commit g w h (commit-unrefused (commitStart g w h) k) salt) (append-nil _)
+  unfolding storesOf refusedBy todo commitTodo foldTodo differsIn committedIn
+  commit-stores = rw (begun-commit g w h (accepted _ k) salt) (append-nil _)
 
   commit-book : whole (Commit h salt) r .book ≡ tells [] (kinds (foldTodo (commitSealed .pager .job) commitSealed)) (bookSeal (give h (r .book)))
   commit-book =
@@ -142,13 +143,13 @@ module _ (h : DbHeader) (salt : ℕ) (r : Run) (k : Accepted (Commit h salt) r) 
   commit-batches e = rw (commit-book, e)
 
 module _ (salt : ℕ) (r : Run) (k : Accepted (Checkpoint salt) r) (e : r .world .pager .job ≡ job.Idle) (n : ℕ) (bytes : List ℕ) (y : Shows (r .book) n bytes) where
-  fold-by : (b : Bool) → isFolding (checkpointStart (r .staging) (r .world)) ≡ b → Shows (tells [] (kinds (storesOf (Checkpoint salt) (r .world) (r .staging))) (r .book)) n bytes
+  fold-by : (b : Bool) → checkpointBegins (r .staging) (r .world) ≡ b → Shows (tells [] (kinds (storesOf (Checkpoint salt) (r .world) (r .staging))) (r .book)) n bytes
   unfolding storesOf beginCheckpoint todo commitTodo foldTodo
   fold-by true f = rw f (fold-shows n bytes (job.Fold salt 0 (folding (r .world))) (onStore (r .world) (withJob (r .world .pager) (job.Fold salt 0 (folding (r .world))))) (r .book) y)
   fold-by false f = rw (f, e) (fold-shows n bytes job.Idle (r .world) (r .book) y)
 
   pub checkpoint-shows : Shows (whole (Checkpoint salt) r .book) n bytes
-  checkpoint-shows = rw (taken-book (Checkpoint salt) r k) (fold-by (isFolding (checkpointStart (r .staging) (r .world))) refl)
+  checkpoint-shows = rw (taken-book (Checkpoint salt) r k) (fold-by (checkpointBegins (r .staging) (r .world)) refl)
 
 -- ---- openings after a cut that falls in no store
 

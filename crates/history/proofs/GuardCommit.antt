@@ -2,23 +2,23 @@
 use mathlib.Core.Path.{_≡_, refl, sym, ap, _∙_}
 use mathlib.Core.Bool.{Bool}
 use mathlib.Core.List.{List, [], _∷_, append-nil}
+use mathlib.Core.Option.{none}
 use Prim.Native.Nat.{ℕ, suc, _+_, _-_, _*_, _^_, _≤_, _<_}
 use native.Mathlib.Nat.{suc-add}
 use native.Mathlib.Omega.{arith}
 use borrow.Author.Tests.{le-leb, lt-leb}
 use lib.ListN.{length}
 use Rattle.header.specs.declared.DbHeader.{DbHeader}
+use Rattle.frame.specs.Frame.{frameSize}
 use Rattle.wal.specs.Write.{longer}
-use Rattle.pager_state.specs.World.{World, withJob}
-use Rattle.pager_state.specs.Overlay.{isStaged, committedBytes}
+use Rattle.pager_state.specs.World.{World, stagedLimit, withJob}
+use Rattle.pager_state.specs.Overlay.{isStaged, committedIn}
 use Rattle.pager_state.specs.Stores.{Act}
-use Rattle.pager_state.specs.Pages.{pagesFrom, differs, folds}
+use Rattle.pager_state.specs.Pages.{pagesFrom, differsIn, differs, folds}
 use Rattle.pager_state.specs.Fold.{foldTodo, foldAdvance}
 use Rattle.pager_state.specs.Commit.{jobAfter, framed, sealedPager, sealedWorld, framesTodo, framesAdvance, commitTodo, commitAdvance}
-use Rattle.pager_state.specs.Steps.{differing, commitStart, commitRefusal, isBegun, beginCommit, todo, done, stepped, steps, onStore, commitAnswer, commitWorld}
+use Rattle.pager_state.specs.Steps.{differing, commitRefusal, beginCommit, todo, done, stepped, steps, mostSteps, onStore, commitAnswer, commitWorld}
 use Rattle.pager_state.specs.declared.Job.the-variants as job
-use Rattle.pager_state.specs.declared.CommitStart.{CommitStart}
-use Rattle.pager_state.specs.declared.CommitStart.the-variants as commit
 use Rattle.pager_state.proofs.Searches.{first, pages-same, pages-length}
 use Rattle.pager_state.proofs.Stored.{AllInside}
 use Rattle.pager_state.proofs.Made.{AsksOf, ReadyOf, ready-fine}
@@ -79,7 +79,7 @@ module _ (g : List ℕ) (h : DbHeader) (salt answer : ℕ) where
 
   -- each is one frame
   frames-grow : (ns : List ℕ) (w : World) → w .pager .wal .«frame_count» + length ns < 2 ^ 64
-      → (framesWorld ns w .pager .wal .len ≡ w .pager .wal .len + 4112 * length ns)
+      → (framesWorld ns w .pager .wal .len ≡ w .pager .wal .len + frameSize * length ns)
       × (framesWorld ns w .pager .wal .«frame_count» ≡ w .pager .wal .«frame_count» + length ns)
   unfolding framesWorld framed longer
   frames-grow [] w k = (omega arith, omega arith)
@@ -94,17 +94,8 @@ module _ (g : List ℕ) (h : DbHeader) (salt answer : ℕ) where
 
 -- ---- a commit that is begun
 
-pub begun-of : (a : CommitStart) → commitRefusal a ≡ 0 → a ≡ commit.Begun
-begun-of commit.Begun e = refl
-begun-of commit.Area e = absurd (omega arith)
-begun-of commit.Busy e = absurd (omega arith)
-begun-of commit.ReadOnly e = absurd (omega arith)
-begun-of commit.NewHeader e = absurd (omega arith)
-begun-of (commit.Joining n) e = absurd (omega arith)
-begun-of commit.LogFull e = absurd (omega arith)
-
-module _ (g : List ℕ) (w : World) (h : DbHeader) (salt : ℕ) (slots : length (w .pager .staged .pages) ≡ 64)
-    (few : w .pager .wal .«frame_count» ≤ 1024) (b : commitStart g w h ≡ commit.Begun) where
+module _ (g : List ℕ) (w : World) (h : DbHeader) (salt : ℕ) (slots : length (w .pager .staged .pages) ≡ stagedLimit)
+    (few : w .pager .wal .«frame_count» ≤ 1024) (b : commitRefusal g w h ≡ none) where
   abbrev answer : ℕ
   answer = differing g w
 
@@ -119,16 +110,16 @@ module _ (g : List ℕ) (w : World) (h : DbHeader) (salt : ℕ) (slots : length 
   sealed = sealedWorld h salt answer (framesWorld g h salt answer pages begun)
 
   begun-is : onStore w (beginCommit g w h salt .pager) ≡ begun
-  begun-is = rw (begun-commit g w h (ap isBegun b) salt)
+  begun-is = rw (begun-commit g w h b salt)
 
   begun-ready : ReadyOf (isStaged (w .pager .staged)) g begun
-  begun-ready = rw begun-is at (commit-ready g w h (ap isBegun b) salt slots)
+  begun-ready = rw begun-is at (commit-ready g w h b salt slots)
 
   begun-inside : AllInside (todo g begun)
-  begun-inside = rw begun-is at (commit-inside g w h (ap isBegun b) salt)
+  begun-inside = rw begun-is at (commit-inside g w h b salt)
 
   begun-pages : pagesFrom (differs g begun) 0 ≡ pages
-  unfolding differs committedBytes
+  unfolding differsIn committedIn
   begun-pages = refl
 
   seal-run : steps g (length pages + 1) begun ≡ sealed
@@ -138,15 +129,15 @@ module _ (g : List ℕ) (w : World) (h : DbHeader) (salt : ℕ) (slots : length 
   seal-ready = rw seal-run at (steps-keep g (length pages + 1) begun begun-ready)
 
   -- the steps behind the seal
-  commit-is : commitWorld g w h salt ≡ steps g (2199 - length pages) sealed
+  commit-is : commitWorld g w h salt ≡ steps g (mostSteps - (length pages + 1)) sealed
   unfolding commitWorld
   commit-is =
-      let k : length pages + 1 + (2199 - length pages) ≡ 2200 = omega (arith, pages-length (differs g w) 0) in
+      let k : length pages + 1 + (mostSteps - (length pages + 1)) ≡ mostSteps = omega (arith, pages-length (differs g w) 0) in
       rw (b, begun-is)
-      (ap (λ (n : ℕ). steps g n begun) (sym k) ∙ steps-add g (length pages + 1) (2199 - length pages) begun ∙ ap (steps g (2199 - length pages)) seal-run)
+      (ap (λ (n : ℕ). steps g n begun) (sym k) ∙ steps-add g (length pages + 1) (mostSteps - (length pages + 1)) begun ∙ ap (steps g (mostSteps - (length pages + 1))) seal-run)
 
   module _ (v : World) (e : v ≡ sealed) where
-    seal-len : v .pager .wal .len ≡ w .pager .wal .len + 4112 * (differing g w + 1)
+    seal-len : v .pager .wal .len ≡ w .pager .wal .len + frameSize * (differing g w + 1)
     unfolding sealedWorld sealedPager longer differing
     seal-len = rw e (omega (arith, frames-grow g h salt answer pages begun (omega (arith, pages-length (differs g w) 0)) .0))
 
@@ -175,14 +166,14 @@ module _ (g : List ℕ) (w : World) (h : DbHeader) (salt : ℕ) (slots : length 
   ends-below : w .pager .wal .«frame_count» + (differing g w + 1) < 100 → LongerBy w (commitWorld g w h salt) (differing g w + 1)
   ends-below k =
       let j = seal-idle k in
-      let e = commit-is ∙ idle-stays g (2199 - length pages) sealed j in
+      let e = commit-is ∙ idle-stays g (mostSteps - (length pages + 1)) sealed j in
       record { rests = rw e j; unstaged = seal-unstaged _ e; opening = seal-opening _ e; logFile = seal-len _ e; frames = seal-frames _ e }
 
   ends-above : 100 ≤ w .pager .wal .«frame_count» + (differing g w + 1) → Empty (commitWorld g w h salt)
   ends-above k =
       let j : sealed .pager .job ≡ job.Fold salt 0 answer = seal-job ∙ rw (le-leb 100 (sealed .pager .wal .«frame_count») (omega (arith, seal-frames sealed refl))) in
-      let m : length (pagesFrom (folds sealed) 0) + 4 ≤ 2199 - length pages = omega (arith, pages-length (differs g w) 0, pages-length (folds sealed) 0) in
-      rw (commit-is ∙ fold-run g salt answer (2199 - length pages) sealed j seal-ready m)
+      let m : length (pagesFrom (folds sealed) 0) + 4 ≤ mostSteps - (length pages + 1) = omega (arith, pages-length (differs g w) 0, pages-length (folds sealed) 0) in
+      rw (commit-is ∙ fold-run g salt answer (mostSteps - (length pages + 1)) sealed j seal-ready m)
       (end-empty g salt answer (pagesWorld g salt answer (pagesFrom (folds sealed) 0) sealed))
 
   pub commit-ends : Ends g w h salt

@@ -2,7 +2,7 @@
 use mathlib.Core.Path.{_≡_, sym, ap, _∙_}
 use mathlib.Core.Bool.{Bool, true, false}
 use mathlib.Core.List.{List}
-use mathlib.Core.Option.{some}
+use mathlib.Core.Option.{none, some}
 use Prim.Native.Nat.{ℕ, _+_, _*_, _^_, _<_}
 use native.Mathlib.Omega.{arith}
 use borrow.Author.Tests.{eq-eqb, ne-eqb}
@@ -11,20 +11,21 @@ use lib.ListN.{length, length-set}
 use Rattle.le.specs.Choice.{pick}
 use Rattle.le.specs.Le.{put, Bytes}
 use Rattle.le.proofs.Stores.{length-put}
+use Rattle.page.specs.Page.{pageSize}
+use Rattle.refusal.specs.Refusal.{numberOf}
 use Rattle.header.specs.declared.DbHeader.{DbHeader}
-use Rattle.pager_state.specs.World.{World, countOf, headerOf, readOnly, readOnlyBy}
-use Rattle.pager_state.specs.Overlay.{pageFrom, slotOf, inLog, onMain, below, overlay, findPage}
-use Rattle.pager_state.specs.Staging.{stageAnswer, slotted, stagePage, stageAfter}
+use Rattle.pager_state.specs.World.{World, stagingArea, stagedLimit, countOf, headerOf, busy, readOnlyBy, readOnly}
+use Rattle.pager_state.specs.Overlay.{pageFrom, slotOf, inLog, onMain, below, placePage, readRefusal, findPage}
+use Rattle.pager_state.specs.Staging.{stageRefusal, slotted, stagedAfter, stagingAfter}
 use Rattle.pager_state.specs.Opening.{createFine}
-use Rattle.pager_state.specs.Steps.{differing, commitStart, isBegun, nothingToFold, checkpointStart, isFolding, beginCheckpoint, todo, checkpointWorld, stepFine, onStore, commitWorld}
+use Rattle.pager_state.specs.Steps.{differing, commitRefusal, nothingToFold, checkpointRefusal, checkpointStart, checkpointBegins, beginCheckpoint, todo, stepFine, onStore, commitWorld, checkpointWorld}
 use Rattle.pager_state.specs.declared.Staged.{Staged}
 use Rattle.pager_state.specs.declared.Job.the-variants as job
-use Rattle.pager_state.specs.declared.StageAnswer.the-variants as stage
-use Rattle.pager_state.specs.declared.CommitStart.the-variants as commit
 use Rattle.pager_state.specs.declared.CheckpointStart.the-variants as checkpoint
 use Rattle.pager_state.specs.declared.PageFound.the-variants as found
 use Rattle.pager_state.proofs.Made.{Made}
 use Rattle.pager_state.proofs.Done.{Rests, commit-done, checkpoint-done}
+use Rattle.pager_state.proofs.Begun.{begins}
 use Rattle.history.specs.Calls.{Stage, Commit, Checkpoint, Words, refusedBy, worldAfter}
 use Rattle.history.specs.Run.{Run, whole, start}
 use Rattle.history.specs.Demand3.{readingAt, Demand3}
@@ -41,22 +42,22 @@ use Rattle.history.proofs.GuardPages.{some-same, none-some, reads-back}
 
 module _ (w : World) (g : List ℕ) (n : ℕ) (f : stepFine g w ≡ true) (i : w .pager .job ≡ job.Idle) (z : w .pager .staged .count ≡ 0)
     (l : inLog (w .table) n ≡ false) where
-  found-main : findPage w g n ≡ pick (leb (countOf (headerOf (w .pager))) n) found.Nothing (pick (onMain (w .table) n) (found.Main (4096 * n)) found.Nothing)
-  unfolding findPage overlay below
+  found-main : findPage w g n ≡ pick (leb (countOf (headerOf (w .pager))) n) found.Nothing (pick (onMain (w .table) n) (found.Main (pageSize * n)) found.Nothing)
+  unfolding findPage readRefusal placePage below
   found-main = rw (f, i, none-staged w z n, l)
 
-  main-by : (bytes : List ℕ) (a b : Bool) → readingAt w g (pick a found.Nothing (pick b (found.Main (4096 * n)) found.Nothing)) ≡ some bytes
-      → pageFrom (4096 * n) (w .main) ≡ bytes
+  main-by : (bytes : List ℕ) (a b : Bool) → readingAt w g (pick a found.Nothing (pick b (found.Main (pageSize * n)) found.Nothing)) ≡ some bytes
+      → pageFrom (pageSize * n) (w .main) ≡ bytes
   main-by bytes true b e = none-some bytes e
   main-by bytes false true e = some-same _ bytes e
   main-by bytes false false e = none-some bytes e
 
-  read-main : (bytes : List ℕ) → readingAt w g (findPage w g n) ≡ some bytes → pageFrom (4096 * n) (w .main) ≡ bytes
+  read-main : (bytes : List ℕ) → readingAt w g (findPage w g n) ≡ some bytes → pageFrom (pageSize * n) (w .main) ≡ bytes
   read-main bytes e = main-by bytes (leb (countOf (headerOf (w .pager))) n) (onMain (w .table) n) (sym (ap (readingAt w g) found-main) ∙ e)
 
 -- ---- staging it
 
-module _ (t l m g : List ℕ) (salt : ℕ) (f : createFine t l m g ≡ true) (bytes : List ℕ) (long : length bytes ≡ 4096) where
+module _ (t l m g : List ℕ) (salt : ℕ) (f : createFine t l m g ≡ true) (bytes : List ℕ) (long : length bytes ≡ pageSize) where
   abbrev new : Run
   new = start t l m g salt
 
@@ -67,17 +68,17 @@ module _ (t l m g : List ℕ) (salt : ℕ) (f : createFine t l m g ≡ true) (by
   unfolding slotOf
   slot-first = rw (new-none t l m g salt f)
 
-  new-long : length (new .staging) ≡ 262144
+  new-long : length (new .staging) ≡ stagingArea
   unfolding start
   new-long = fine-create t l m g f .staging
 
-  stage-answer : stageAnswer (w .pager) (new .staging) 1 bytes ≡ stage.Staged
-  unfolding stageAnswer
-  stage-answer = rw (eq-eqb (length (new .staging)) 262144 new-long, eq-eqb (length bytes) 4096 long, new-idle t l m g salt f, slot-first)
+  stage-none : stageRefusal (busy (w .pager)) (w .pager .staged) (new .staging) 1 bytes ≡ none
+  unfolding stageRefusal
+  stage-none = rw (eq-eqb (length (new .staging)) stagingArea new-long, eq-eqb (length bytes) pageSize long, new-idle t l m g salt f, slot-first)
 
   stage-taken : Accepted (Stage 1 bytes) new
-  unfolding refusedBy stagePage
-  stage-taken = rw stage-answer
+  unfolding refusedBy
+  stage-taken = ap numberOf stage-none
 
   -- the slots then
   abbrev slots : Staged
@@ -87,29 +88,29 @@ module _ (t l m g : List ℕ) (salt : ℕ) (f : createFine t l m g ≡ true) (by
   staged = whole (Stage 1 bytes) new
 
   staged-world : staged .world ≡ withSlots w slots
-  unfolding worldAfter stagePage
-  staged-world = world-after (Stage 1 bytes) new ∙ rw stage-answer
+  unfolding worldAfter stagedAfter
+  staged-world = world-after (Stage 1 bytes) new ∙ rw stage-none
 
   staged-staging : staged .staging ≡ put (new .staging) 0 bytes
-  unfolding stageAfter
-  staged-staging = staging-after (Stage 1 bytes) new ∙ rw (stage-answer, slot-first)
+  unfolding stagingAfter
+  staged-staging = staging-after (Stage 1 bytes) new ∙ rw (stage-none, slot-first)
 
-  staging-long : length (staged .staging) ≡ 262144
+  staging-long : length (staged .staging) ≡ stagingArea
   staging-long = ap length staged-staging ∙ length-put (new .staging) 0 bytes (omega (arith, new-long)) ∙ new-long
 
   -- ---- committing it
 
   module _ (h : DbHeader) (next : ℕ) (k : GoodHeader h) (two : countOf h ≡ 2) where
-    first-begun : commitStart (staged .staging) (staged .world) h ≡ commit.Begun
+    first-begun : commitRefusal (staged .staging) (staged .world) h ≡ none
     unfolding slotted
     first-begun =
-        let z : length (slots .pages) ≡ 64 = length-set (w .pager .staged .pages) (slotOf (w .pager .staged) 1) 1 ∙ new-made t l m g salt f .slots in
+        let z : length (slots .pages) ≡ stagedLimit = length-set (w .pager .staged .pages) (slotOf (w .pager .staged) 1) 1 ∙ new-made t l m g salt f .slots in
         rw staged-world
         (new-begun t l m g salt f slots z h k (λ n a b c. absurd (omega (arith, new-count t l m g salt f, b, c, two))) (staged .staging) staging-long)
 
     first-taken : Accepted (Commit h next) staged
     unfolding refusedBy
-    first-taken = rw first-begun
+    first-taken = ap numberOf first-begun
 
     abbrev committed : Run
     committed = committedPage 1 bytes h next new
@@ -134,7 +135,7 @@ module _ (t l m g : List ℕ) (salt : ℕ) (f : createFine t l m g ≡ true) (by
 
     committed-fine : stepFine (committed .staging) (committed .world) ≡ true
     committed-fine =
-        rw (committed-world, committed-staging) (commit-done (staged .staging) (staged .world) h next (ap isBegun first-begun) (staged-made .slots) .ready .right)
+        rw (committed-world, committed-staging) (commit-done (staged .staging) (staged .world) h next first-begun (staged-made .slots) .ready .right)
 
     committed-made : Made (committed .world)
     committed-made = made-whole (Commit h next) staged staged-made
@@ -148,9 +149,16 @@ module _ (t l m g : List ℕ) (salt : ℕ) (f : createFine t l m g ≡ true) (by
     unfolding nothingToFold
     some-frames = rw (ne-eqb (committed .world .pager .wal .«frame_count») 0 (λ e. omega (arith, e, first-longer .frames)))
 
+    fold-none : checkpointRefusal (committed .staging) (committed .world) ≡ none
+    unfolding checkpointRefusal
+    fold-none = rw (committed-fine, first-longer .rests, committed-writes)
+
+    fold-begins : checkpointBegins (committed .staging) (committed .world) ≡ true
+    fold-begins = begins (committed .staging) (committed .world) fold-none some-frames
+
     fold-begun : checkpointStart (committed .staging) (committed .world) ≡ checkpoint.Begun
     unfolding checkpointStart
-    fold-begun = rw (committed-fine, first-longer .rests, committed-writes, some-frames)
+    fold-begun = rw (fold-none, some-frames)
 
     module _ (last : ℕ) where
       abbrev folded : Run
@@ -158,22 +166,22 @@ module _ (t l m g : List ℕ) (salt : ℕ) (f : createFine t l m g ≡ true) (by
 
       fold-taken : Accepted (Checkpoint last) committed
       unfolding refusedBy
-      fold-taken = rw fold-begun
+      fold-taken = ap numberOf fold-none
 
       folded-world : folded .world ≡ checkpointWorld (committed .staging) (committed .world) last
       unfolding worldAfter
       folded-world = world-after (Checkpoint last) committed
 
       fold-done : Rests (λ (n : ℕ). false) (committed .staging) (todo (committed .staging) (onStore (committed .world) (beginCheckpoint (committed .staging) (committed .world) last .pager))) (committed .world) (folded .world)
-      fold-done = rw folded-world (checkpoint-done (committed .staging) (committed .world) last (ap isFolding fold-begun) (committed-made .slots))
+      fold-done = rw folded-world (checkpoint-done (committed .staging) (committed .world) last fold-begins (committed-made .slots))
 
       fold-to : FoldedTo (committed .world) (folded .world)
       fold-to =
           let u = made-framed (committed .world) committed-made in
-          rw folded-world (fold-leaves (committed .staging) (committed .world) last (u .0) (u .1 (first-longer .rests)) fold-begun)
+          rw folded-world (fold-leaves (committed .staging) (committed .world) last (u .0) (u .1 (first-longer .rests)) fold-begins)
 
       -- no page is staged or in the log: it is read from the main file
-      in-main : reading folded 1 ≡ some bytes → pageFrom 4096 (folded .world .main) ≡ bytes
+      in-main : reading folded 1 ≡ some bytes → pageFrom pageSize (folded .world .main) ≡ bytes
       in-main e =
           let fine : stepFine (folded .staging) (folded .world) ≡ true = rw (staging-after (Checkpoint last) committed) (fold-done .ready .right) in
           let unstaged : folded .world .pager .staged .count ≡ 0 = rw (fold-to .staged) (first-longer .unstaged) in

@@ -1,26 +1,32 @@
 -- A fold that is begun, run to its end: the log has its header alone, and the pages that it had are in the main file. Assumes nothing.
 use mathlib.Core.Path.{_≡_, refl, sym, ap, _∙_}
-use mathlib.Core.Bool.{Bool, true, false}
+use mathlib.Core.Bool.{Bool, true, false, not}
 use mathlib.Core.List.{List, [], _∷_}
 use mathlib.Core.Logic.{_⊎_, inl, inr}
+use mathlib.Core.Option.{Option, none, some}
 use Prim.Native.Nat.{ℕ, zero, suc, _+_, _-_, _*_, _/_, _%_, _≤_, _<_}
 use native.Mathlib.Nat.{suc-add}
 use native.Mathlib.Omega.{arith}
 use borrow.Author.Tests.{le-leb, lt-leb, lt-ltb, leb-true, ltb-true, eqb-true, eqb-false, ne-eqb, not-true}
 use lib.Dec.{leb, ltb, eqb}
 use lib.ListN.{length, drop, replicate, getD, length-take, length-drop}
+use Rattle.le.specs.Choice.{pick, both}
 use Rattle.le.proofs.Compare.{no-test, both-true}
 use Rattle.le.proofs.Tests.{le-or-lt, eq-or-not}
+use Rattle.page.specs.Page.{pageSize}
+use Rattle.refusal.specs.Refusal.{accepts, answered}
+use Rattle.refusal.specs.declared.Refusal.{Refusal}
+use Rattle.refusal.proofs.Judged.{accepts-none}
 use Rattle.header.specs.Header.{encodeHeader}
 use Rattle.header.proofs.Encoding.{length-encodeHeader}
 use Rattle.wal.specs.Write.{emptyWal}
-use Rattle.pager_state.specs.World.{World, countOf, headerOf, withJob}
+use Rattle.pager_state.specs.World.{World, mainArea, stagedLimit, pageLimit, countOf, headerOf, withJob}
 use Rattle.pager_state.specs.Overlay.{pageFrom, frameOf, inLog, onMain, logBytes}
 use Rattle.pager_state.specs.Stores.{File, diskOf, Act, grown, putFile, lenFile}
-use Rattle.pager_state.specs.Pages.{pagesFrom, folds}
+use Rattle.pager_state.specs.Pages.{pagesFrom, foldsBy, folds}
 use Rattle.pager_state.specs.Fold.{foldedFrom, paged, headed, lengthened, emptied, folded, pagesTodo, foldTodo, foldAdvance, pagesAdvance}
 use Rattle.pager_state.specs.Commit.{commitTodo, commitAdvance}
-use Rattle.pager_state.specs.Steps.{todo, done, stepped, steps, folding, checkpointStart, isFolding, beginCheckpoint, checkpointAnswer, checkpointWorld, onStore}
+use Rattle.pager_state.specs.Steps.{nothingToFold, checkpointRefusal, checkpointStart, checkpointBegins, folding, beginCheckpoint, todo, done, stepped, steps, mostSteps, onStore, checkpointAnswer, checkpointWorld}
 use Rattle.pager_state.specs.declared.Job.{Job}
 use Rattle.pager_state.specs.declared.Job.the-variants as job
 use Rattle.pager_state.specs.declared.CheckpointStart.the-variants as checkpoint
@@ -33,7 +39,7 @@ use Rattle.pager_state.proofs.Made.{Fine, ReadyOf, ready-fine}
 use Rattle.pager_state.proofs.Next.{todo-by, advance-by}
 use Rattle.pager_state.proofs.Steps.{step-keeps}
 use Rattle.pager_state.proofs.Runs.{steps-add, idle-stays}
-use Rattle.pager_state.proofs.Begun.{begun-checkpoint, checkpoint-ready}
+use Rattle.pager_state.proofs.Begun.{off, begun-checkpoint, checkpoint-ready}
 use Rattle.history.proofs.Files.{page-other, page-same}
 use Rattle.history.specs.Guards.{FramesInside, Empty, FoldedTo}
 
@@ -41,29 +47,29 @@ use Rattle.history.specs.Guards.{FramesInside, Empty, FoldedTo}
 
 -- a whole page of it
 pub record Has (n : ℕ) (x : List ℕ) (f : File) : Type 0 where
-  pub bytes : pageFrom (4096 * n) (f .area) ≡ x
-  pub inside : 4096 * suc n ≤ f .len
+  pub bytes : pageFrom (pageSize * n) (f .area) ≡ x
+  pub inside : pageSize * suc n ≤ f .len
 
-module _ (f : File) (s : Lies 4194304 f) where
+module _ (f : File) (s : Lies mainArea f) where
   -- growing leaves it
-  has-grown : (n m : ℕ) (x : List ℕ) → Has n x f → pageFrom (4096 * n) (grown f m) ≡ x
+  has-grown : (n m : ℕ) (x : List ℕ) → Has n x f → pageFrom (pageSize * n) (grown f m) ≡ x
   unfolding grown
   has-grown n m x h =
-      part-before (f .area) (f .len) (replicate (m - f .len) 0) (4096 * n) 4096 (omega (arith, h .inside)) (omega (arith, s .area, s .len)) ∙ h .bytes
+      part-before (f .area) (f .len) (replicate (m - f .len) 0) (pageSize * n) pageSize (omega (arith, h .inside)) (omega (arith, s .area, s .len)) ∙ h .bytes
 
-  module _ (i : ℕ) (xs : List ℕ) (l : length xs ≡ 4096) (b : i < 1024) where
-    grown-long : length (grown f (4096 * i)) ≡ 4194304
-    grown-long = length-grown f (4096 * i) (omega (arith, s .area, s .len)) (omega (arith, s .area)) ∙ s .area
+  module _ (i : ℕ) (xs : List ℕ) (l : length xs ≡ pageSize) (b : i < pageLimit) where
+    grown-long : length (grown f (pageSize * i)) ≡ mainArea
+    grown-long = length-grown f (pageSize * i) (omega (arith, s .area, s .len)) (omega (arith, s .area)) ∙ s .area
 
-    put-own : Has i xs (putFile f (4096 * i) xs)
+    put-own : Has i xs (putFile f (pageSize * i) xs)
     unfolding putFile
-    put-own = record { bytes = page-same (grown f (4096 * i)) i xs (omega arith) (omega (arith, grown-long)) l; inside = omega arith }
+    put-own = record { bytes = page-same (grown f (pageSize * i)) i xs (omega arith) (omega (arith, grown-long)) l; inside = omega arith }
 
-    put-other : (n : ℕ) (x : List ℕ) → (n ≡ i → ⊥) → Has n x f → Has n x (putFile f (4096 * i) xs)
+    put-other : (n : ℕ) (x : List ℕ) → (n ≡ i → ⊥) → Has n x f → Has n x (putFile f (pageSize * i) xs)
     unfolding putFile
     put-other n x ne h =
         record {
-          bytes = page-other (grown f (4096 * i)) i xs (omega arith) (omega (arith, grown-long)) n ne ∙ has-grown n (4096 * i) x h;
+          bytes = page-other (grown f (pageSize * i)) i xs (omega arith) (omega (arith, grown-long)) n ne ∙ has-grown n (pageSize * i) x h;
           inside = omega (arith, h .inside);
         }
 
@@ -137,7 +143,7 @@ module _ (g : List ℕ) (salt answer : ℕ) where
   paged-job n w = refl
 
   paged-left : (w : World) (p n : ℕ) (ns : List ℕ) → pagesFrom (folds w) p ≡ n ∷ ns → pagesFrom (folds (paged salt answer n w)) (suc n) ≡ ns
-  unfolding paged folds
+  unfolding paged foldsBy
   paged-left w p n ns e =
       let s = first (folds w) p n ns e .split in
       cc
@@ -175,26 +181,26 @@ module _ (g : List ℕ) (salt answer : ℕ) where
     pub log : v .log ≡ w .log
     pub staged : v .pager .staged ≡ w .pager .staged
     pub header : headerOf (v .pager) ≡ headerOf (w .pager)
-    pub lies : Lies 4194304 (mainOf v)
+    pub lies : Lies mainArea (mainOf v)
 
   -- every frame that the table names has a whole page
   abbrev Wholes : World → Type 0
-  Wholes w = (n : ℕ) → n < 1024 → inLog (w .table) n ≡ true → length (logBytes (w .table) (w .log) n) ≡ 4096
+  Wholes w = (n : ℕ) → n < pageLimit → inLog (w .table) n ≡ true → length (logBytes (w .table) (w .log) n) ≡ pageSize
 
   folds-so : (w : World) (n : ℕ) → folds w n ≡ true → (1 ≤ n) × (n < countOf (headerOf (w .pager))) × (inLog (w .table) n ≡ true)
-  unfolding folds
+  unfolding foldsBy
   folds-so w n e =
       let a = both-true (leb 1 n) _ e in
       let b = both-true (ltb n (countOf (headerOf (w .pager)))) (inLog (w .table) n) (a .1) in
       (leb-true 1 n (a .0), ltb-true _ _ (b .0), b .1)
 
-  module _ (w : World) (s : Lies 4194304 (mainOf w)) (n : ℕ) (b : n < 1024) (l : length (logBytes (w .table) (w .log) n) ≡ 4096) where
-    paged-main : mainOf (paged salt answer n w) ≡ putFile (mainOf w) (4096 * n) (logBytes (w .table) (w .log) n)
+  module _ (w : World) (s : Lies mainArea (mainOf w)) (n : ℕ) (b : n < pageLimit) (l : length (logBytes (w .table) (w .log) n) ≡ pageSize) where
+    paged-main : mainOf (paged salt answer n w) ≡ putFile (mainOf w) (pageSize * n) (logBytes (w .table) (w .log) n)
     unfolding paged
     paged-main = refl
 
-    paged-lies : Lies 4194304 (mainOf (paged salt answer n w))
-    paged-lies = rw paged-main (put-lies 4194304 (mainOf w) (4096 * n) (logBytes (w .table) (w .log) n) (omega arith) s)
+    paged-lies : Lies mainArea (mainOf (paged salt answer n w))
+    paged-lies = rw paged-main (put-lies mainArea (mainOf w) (pageSize * n) (logBytes (w .table) (w .log) n) (omega arith) s)
 
     paged-own : Has n (logBytes (w .table) (w .log) n) (mainOf (paged salt answer n w))
     paged-own = rw paged-main (put-own (mainOf w) s n (logBytes (w .table) (w .log) n) l b)
@@ -203,14 +209,14 @@ module _ (g : List ℕ) (salt answer : ℕ) where
     paged-other m x ne h = rw paged-main (put-other (mainOf w) s n (logBytes (w .table) (w .log) n) l b m x ne h)
 
   -- the world behind the first page
-  module _ (w : World) (p n : ℕ) (ns : List ℕ) (e : pagesFrom (folds w) p ≡ n ∷ ns) (k : Wholes w) (s : Lies 4194304 (mainOf w)) where
+  module _ (w : World) (p n : ℕ) (ns : List ℕ) (e : pagesFrom (folds w) p ≡ n ∷ ns) (k : Wholes w) (s : Lies mainArea (mainOf w)) where
     at : First (folds w) p n
     at = first (folds w) p n ns e
 
-    whole : length (logBytes (w .table) (w .log) n) ≡ 4096
+    whole : length (logBytes (w .table) (w .log) n) ≡ pageSize
     whole = k n (at .below) (folds-so w n (at .holds) .2)
 
-    behind-lies : Lies 4194304 (mainOf (paged salt answer n w))
+    behind-lies : Lies mainArea (mainOf (paged salt answer n w))
     behind-lies = paged-lies w s n (at .below) whole
 
     behind-own : Has n (logBytes (w .table) (w .log) n) (mainOf (paged salt answer n w))
@@ -225,7 +231,7 @@ module _ (g : List ℕ) (salt answer : ℕ) where
     behind-wholes = k
 
   -- they leave table, log and header
-  pages-keep : (l : List ℕ) (w : World) (p : ℕ) → pagesFrom (folds w) p ≡ l → Wholes w → Lies 4194304 (mainOf w) → Paged w (pagesWorld l w)
+  pages-keep : (l : List ℕ) (w : World) (p : ℕ) → pagesFrom (folds w) p ≡ l → Wholes w → Lies mainArea (mainOf w) → Paged w (pagesWorld l w)
   unfolding pagesWorld paged
   pages-keep [] w p e k s = record { table = refl; log = refl; staged = refl; header = refl; lies = s }
   pages-keep (n ∷ ns) w p e k s =
@@ -234,9 +240,9 @@ module _ (g : List ℕ) (salt answer : ℕ) where
       record { table = i .table; log = i .log; staged = i .staged; header = i .header; lies = i .lies }
 
   -- every page that they are not of stays
-  pages-kept : (l : List ℕ) (w : World) (p : ℕ) → pagesFrom (folds w) p ≡ l → Wholes w → Lies 4194304 (mainOf w)
+  pages-kept : (l : List ℕ) (w : World) (p : ℕ) → pagesFrom (folds w) p ≡ l → Wholes w → Lies mainArea (mainOf w)
       → (m : ℕ) (x : List ℕ) → (m < p) ⊎ (folds w m ≡ false) → Has m x (mainOf w) → Has m x (mainOf (pagesWorld l w))
-  unfolding pagesWorld paged folds
+  unfolding pagesWorld paged foldsBy
   pages-kept [] w p e k s m x h y = y
   pages-kept (n ∷ ns) w p e k s m x h y =
       pages-kept ns (paged salt answer n w) (suc n) (paged-left w p n ns e) (behind-wholes w p n ns e k s) (behind-lies w p n ns e k s) m x
@@ -247,9 +253,9 @@ module _ (g : List ℕ) (salt answer : ℕ) where
       still (inr z) = inr z
 
   -- and each of theirs is there
-  pages-brought : (l : List ℕ) (w : World) (p : ℕ) → pagesFrom (folds w) p ≡ l → Wholes w → Lies 4194304 (mainOf w)
-      → (m : ℕ) → p ≤ m → m < 1024 → folds w m ≡ true → Has m (logBytes (w .table) (w .log) m) (mainOf (pagesWorld l w))
-  unfolding pagesWorld paged folds
+  pages-brought : (l : List ℕ) (w : World) (p : ℕ) → pagesFrom (folds w) p ≡ l → Wholes w → Lies mainArea (mainOf w)
+      → (m : ℕ) → p ≤ m → m < pageLimit → folds w m ≡ true → Has m (logBytes (w .table) (w .log) m) (mainOf (pagesWorld l w))
+  unfolding pagesWorld paged foldsBy
   pages-brought [] w p e k s m a b t = no-test (sym (pages-none (folds w) p e m a b) ∙ t)
   pages-brought (n ∷ ns) w p e k s m a b t =
       let v : World = paged salt answer n w in
@@ -276,25 +282,25 @@ module _ (g : List ℕ) (salt answer : ℕ) where
   -- ---- and the stores behind them
 
   module _ (v : World) where
-    headed-main : mainOf (headed salt answer v) ≡ putFile (mainOf v) (4096 * 0) (encodeHeader (headerOf (v .pager)))
+    headed-main : mainOf (headed salt answer v) ≡ putFile (mainOf v) (pageSize * 0) (encodeHeader (headerOf (v .pager)))
     unfolding headed
     headed-main = refl
 
-    headed-lies : Lies 4194304 (mainOf v) → Lies 4194304 (mainOf (headed salt answer v))
+    headed-lies : Lies mainArea (mainOf v) → Lies mainArea (mainOf (headed salt answer v))
     headed-lies s =
         let l = length-encodeHeader (headerOf (v .pager)) in
-        rw headed-main (put-lies 4194304 (mainOf v) (4096 * 0) (encodeHeader (headerOf (v .pager))) (omega arith) s)
+        rw headed-main (put-lies mainArea (mainOf v) (pageSize * 0) (encodeHeader (headerOf (v .pager))) (omega arith) s)
 
-    end-main : endWorld v .main ≡ grown (mainOf (headed salt answer v)) (4096 * countOf (headerOf (v .pager)))
+    end-main : endWorld v .main ≡ grown (mainOf (headed salt answer v)) (pageSize * countOf (headerOf (v .pager)))
     unfolding folded emptied lengthened headed lenFile
     end-main = refl
 
-    end-page : Lies 4194304 (mainOf v) → (n : ℕ) (x : List ℕ) → 1 ≤ n → Has n x (mainOf v) → pageFrom (4096 * n) (endWorld v .main) ≡ x
+    end-page : Lies mainArea (mainOf v) → (n : ℕ) (x : List ℕ) → 1 ≤ n → Has n x (mainOf v) → pageFrom (pageSize * n) (endWorld v .main) ≡ x
     end-page s n x a h =
         let l = length-encodeHeader (headerOf (v .pager)) in
         let y : Has n x (mainOf (headed salt answer v)) =
         rw headed-main (put-other (mainOf v) s 0 (encodeHeader (headerOf (v .pager))) l (omega arith) n x (λ e. omega arith) h) in
-        rw end-main (has-grown (mainOf (headed salt answer v)) (headed-lies s) n (4096 * countOf (headerOf (v .pager))) x y)
+        rw end-main (has-grown (mainOf (headed salt answer v)) (headed-lies s) n (pageSize * countOf (headerOf (v .pager))) x y)
 
     -- the log has its header alone
     pub end-empty : Empty (endWorld v)
@@ -329,16 +335,26 @@ main-entry t n e z =
 
 -- ---- a fold that is begun
 
-module _ (g : List ℕ) (w : World) (salt : ℕ) (slots : length (w .pager .staged .pages) ≡ 64) (i : FramesInside w)
-    (b : checkpointStart g w ≡ checkpoint.Begun) where
+-- as the answer says
+begins-by : (v : Option Refusal) (b : Bool) → answered checkpoint.Refused (pick b checkpoint.Nothing checkpoint.Begun) v ≡ checkpoint.Begun → both (accepts v) (not b) ≡ true
+begins-by none false e = refl
+begins-by none true e = let z : _≡_ {A = ℕ} 0 1 = cc in absurd (omega arith)
+begins-by (some r) b e = let z : _≡_ {A = ℕ} 0 1 = cc in absurd (omega arith)
+
+pub start-begins : (g : List ℕ) (w : World) → checkpointStart g w ≡ checkpoint.Begun → checkpointBegins g w ≡ true
+unfolding checkpointStart
+start-begins g w e = begins-by (checkpointRefusal g w) (nothingToFold w) e
+
+module _ (g : List ℕ) (w : World) (salt : ℕ) (slots : length (w .pager .staged .pages) ≡ stagedLimit) (i : FramesInside w)
+    (b : checkpointBegins g w ≡ true) where
   abbrev begun : World
   begun = onStore w (withJob (w .pager) (job.Fold salt 0 (folding w)))
 
   begun-is : onStore w (beginCheckpoint g w salt .pager) ≡ begun
-  begun-is = rw (begun-checkpoint g w (ap isFolding b) salt)
+  begun-is = rw (begun-checkpoint g w b salt)
 
   begun-ready : ReadyOf (λ (n : ℕ). false) g begun
-  begun-ready = rw begun-is at (checkpoint-ready g w (ap isFolding b) salt slots)
+  begun-ready = rw begun-is at (checkpoint-ready g w b salt slots)
 
   -- after the pages
   abbrev written : World
@@ -346,27 +362,27 @@ module _ (g : List ℕ) (w : World) (salt : ℕ) (slots : length (w .pager .stag
 
   fold-is : checkpointWorld g w salt ≡ endWorld g salt (folding w) written
   unfolding checkpointWorld
-  fold-is = rw (b, begun-is) (fold-run g salt (folding w) 2200 begun refl begun-ready (omega (arith, pages-length (folds begun) 0)))
+  fold-is = rw (b, begun-is) (fold-run g salt (folding w) mostSteps begun refl begun-ready (omega (arith, pages-length (folds begun) 0)))
 
   begun-fine : Fine begun
   begun-fine = ready-fine g begun (begun-ready .right) .0
 
-  wholes : (n : ℕ) → n < 1024 → inLog (w .table) n ≡ true → length (logBytes (w .table) (w .log) n) ≡ 4096
+  wholes : (n : ℕ) → n < pageLimit → inLog (w .table) n ≡ true → length (logBytes (w .table) (w .log) n) ≡ pageSize
   unfolding logBytes
   wholes n h e =
-      length-take 4096 (drop (frameOf (w .table) n + 16) (w .log))
+      length-take pageSize (drop (frameOf (w .table) n + 16) (w .log))
       ∙ omega (arith, length-drop (frameOf (w .table) n + 16) (w .log), i n h e, begun-fine .files .log .len, begun-fine .files .log .area)
 
   paged-all : Paged g salt (folding w) begun written
   paged-all = pages-keep g salt (folding w) (pagesFrom (folds begun) 0) begun 0 refl wholes (begun-fine .files .main)
 
   begun-folds : (n : ℕ) → 1 ≤ n → n < countOf (headerOf (w .pager)) → folds begun n ≡ inLog (w .table) n
-  unfolding folds
+  unfolding foldsBy
   begun-folds n a c = rw (le-leb 1 n a, lt-ltb n (countOf (headerOf (w .pager))) c)
 
   -- a page that stands in the main file then, of an entry of the table
   settled : (n : ℕ) (x : List ℕ) → 1 ≤ n → n < countOf (headerOf (w .pager)) → (getD (w .table) n 0 ≡ 0 → ⊥) → Has n x (diskOf written .main)
-      → (pageFrom (4096 * n) (checkpointWorld g w salt .main) ≡ x) × (onMain (checkpointWorld g w salt .table) n ≡ true)
+      → (pageFrom (pageSize * n) (checkpointWorld g w salt .main) ≡ x) × (onMain (checkpointWorld g w salt .table) n ≡ true)
   unfolding folded emptied lengthened headed
   settled n x a c z h =
       let k = paged-all in (
@@ -385,11 +401,13 @@ module _ (g : List ℕ) (w : World) (salt : ℕ) (slots : length (w .pager .stag
         mainFile = rw (fold-is, k .header);
         brought = λ n a c e. settled n (logBytes (w .table) (w .log) n) a c (log-entry (w .table) n e)
             (pages-brought g salt (folding w) (pagesFrom (folds begun) 0) begun 0 refl wholes (begun-fine .files .main) n (omega arith) (omega arith) (begun-folds n a c ∙ e));
-        stayed = λ n a c e f h. settled n (pageFrom (4096 * n) (w .main)) a c (main-entry (w .table) n f)
-            (pages-kept g salt (folding w) (pagesFrom (folds begun) 0) begun 0 refl wholes (begun-fine .files .main) n (pageFrom (4096 * n) (w .main))
+        stayed = λ n a c e f h. settled n (pageFrom (pageSize * n) (w .main)) a c (main-entry (w .table) n f)
+            (pages-kept g salt (folding w) (pagesFrom (folds begun) 0) begun 0 refl wholes (begun-fine .files .main) n (pageFrom (pageSize * n) (w .main))
             (inr (begun-folds n a c ∙ e)) (record { bytes = refl; inside = h }));
       }
 
   pub fold-answer : checkpointAnswer g w ≡ answer.Written (folding w)
   unfolding checkpointAnswer
-  fold-answer = rw b
+  fold-answer =
+      let x = both-true (accepts (checkpointRefusal g w)) (not (nothingToFold w)) b in
+      rw (accepts-none (checkpointRefusal g w) (x .0), off (nothingToFold w) (x .1))

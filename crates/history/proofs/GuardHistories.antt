@@ -2,12 +2,14 @@
 use mathlib.Core.Path.{_≡_, refl}
 use mathlib.Core.Bool.{Bool, true, false}
 use mathlib.Core.List.{List, [], _∷_}
+use mathlib.Core.Option.{Option, none, some}
 use Prim.Native.Nat.{ℕ}
+use Rattle.refusal.specs.declared.Refusal.{Refusal}
 use Rattle.header.specs.declared.DbHeader.{DbHeader}
 use Rattle.pager_state.specs.World.{World}
 use Rattle.pager_state.specs.Stores.{Disk}
 use Rattle.pager_state.specs.Opening.{openTable, openLogArea}
-use Rattle.pager_state.specs.Steps.{commitStart, isBegun, beginCommit, checkpointStart, isFolding, beginCheckpoint, onStore, commitWorld, checkpointWorld}
+use Rattle.pager_state.specs.Steps.{commitRefusal, beginCommit, checkpointBegins, beginCheckpoint, mostSteps, onStore, commitWorld, checkpointWorld}
 use Rattle.pager_state.specs.declared.AccessMode.{AccessMode}
 use Rattle.pager_state.specs.declared.AccessMode.the-variants as mode
 use Rattle.pager_state.specs.Opened.{Opens}
@@ -28,15 +30,7 @@ module _ (m : AccessMode) (lent : Lent) (d : Disk) (w : World) (k : Made w) wher
   made-by : (a : Opens) → opening m lent d ≡ a
       → Made (openedOr a w (openTable (cleanly m) (lent .table) (laid lent d) (lent .staging)) (openLogArea (cleanly m) (lent .table) (laid lent d) (lent .staging)) (laid lent d .main .area))
   made-by (opened.Opened p) e = open-made (cleanly m) (lent .table) (laid lent d) (lent .staging) p e _ _
-  made-by opened.Area e = k
-  made-by opened.Short e = k
-  made-by opened.Magic e = k
-  made-by opened.Version e = k
-  made-by opened.PageSize e = k
-  made-by opened.Limit e = k
-  made-by opened.MainShort e = k
-  made-by opened.PageZero e = k
-  made-by opened.ReadOnly e = k
+  made-by (opened.Refused r) e = k
 
   made-opened : Made (openedWorld m lent d w)
   unfolding openedWorld
@@ -45,24 +39,24 @@ module _ (m : AccessMode) (lent : Lent) (d : Disk) (w : World) (k : Made w) wher
 -- ---- commits and folds
 
 module _ (g : List ℕ) (w : World) (salt : ℕ) (k : Made w) where
-  made-begun : (h : DbHeader) (b : Bool) → isBegun (commitStart g w h) ≡ b → Made (onStore w (beginCommit g w h salt .pager))
+  made-begun : (h : DbHeader) (v : Option Refusal) → commitRefusal g w h ≡ v → Made (onStore w (beginCommit g w h salt .pager))
   unfolding beginCommit
-  made-begun h true e = commit-made g w h e salt k .made
-  made-begun h false e = rw e k
+  made-begun h none e = commit-made g w h e salt k .made
+  made-begun h (some r) e = rw e k
 
-  made-commit : (h : DbHeader) (b : Bool) → isBegun (commitStart g w h) ≡ b → Made (commitWorld g w h salt)
+  made-commit : (h : DbHeader) (v : Option Refusal) → commitRefusal g w h ≡ v → Made (commitWorld g w h salt)
   unfolding commitWorld
-  made-commit h true e = rw e (made-steps g 2200 (onStore w (beginCommit g w h salt .pager)) (made-begun h true e))
-  made-commit h false e = rw e k
+  made-commit h none e = rw e (made-steps g mostSteps (onStore w (beginCommit g w h salt .pager)) (made-begun h none e))
+  made-commit h (some r) e = rw e k
 
-  made-folding : (b : Bool) → isFolding (checkpointStart g w) ≡ b → Made (onStore w (beginCheckpoint g w salt .pager))
+  made-folding : (b : Bool) → checkpointBegins g w ≡ b → Made (onStore w (beginCheckpoint g w salt .pager))
   unfolding beginCheckpoint
   made-folding true e = checkpoint-made g w e salt k .made
   made-folding false e = rw e k
 
-  made-fold : (b : Bool) → isFolding (checkpointStart g w) ≡ b → Made (checkpointWorld g w salt)
+  made-fold : (b : Bool) → checkpointBegins g w ≡ b → Made (checkpointWorld g w salt)
   unfolding checkpointWorld
-  made-fold true e = rw e (made-steps g 2200 (onStore w (beginCheckpoint g w salt .pager)) (made-folding true e))
+  made-fold true e = rw e (made-steps g mostSteps (onStore w (beginCheckpoint g w salt .pager)) (made-folding true e))
   made-fold false e = rw e k
 
 -- ---- any call
@@ -75,10 +69,10 @@ made-after (Stage n bytes) w g k = stage-made w g n bytes k
 made-after Clear w g k = clear-made w k
 made-after (Append body) w g k = append-made w body k
 made-after (Observe c) w g k = observe-made w c k
-made-after (Commit h salt) w g k = made-commit g w salt k h (isBegun (commitStart g w h)) refl
-made-after (Checkpoint salt) w g k = made-fold g w salt k (isFolding (checkpointStart g w)) refl
-made-after (BeginCommit h salt) w g k = made-begun g w salt k h (isBegun (commitStart g w h)) refl
-made-after (BeginCheckpoint salt) w g k = made-folding g w salt k (isFolding (checkpointStart g w)) refl
+made-after (Commit h salt) w g k = made-commit g w salt k h (commitRefusal g w h) refl
+made-after (Checkpoint salt) w g k = made-fold g w salt k (checkpointBegins g w) refl
+made-after (BeginCommit h salt) w g k = made-begun g w salt k h (commitRefusal g w h) refl
+made-after (BeginCheckpoint salt) w g k = made-folding g w salt k (checkpointBegins g w) refl
 made-after Step w g k = made-keeps g w k
 
 pub made-whole : (c : Call) (r : Run) → Made (r .world) → Made (whole c r .world)

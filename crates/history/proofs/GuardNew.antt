@@ -2,30 +2,31 @@
 use mathlib.Core.Path.{_≡_, refl, sym, ap, subst, _∙_}
 use mathlib.Core.Bool.{Bool, true, false}
 use mathlib.Core.List.{List, [], _∷_}
+use mathlib.Core.Option.{none}
 use Prim.Native.Nat.{ℕ, zero, suc, _+_, _≤_, _<_}
 use native.Mathlib.Omega.{arith}
-use borrow.Author.Tests.{ltb-true, le-leb, le-ltb, eq-eqb, eqb-true, eqb-false, ne-eqb}
-use lib.Dec.{leb, eqb}
+use borrow.Author.Tests.{ltb-true, le-leb, le-ltb, eqb-true, eqb-false, ne-eqb}
+use lib.Dec.{eqb}
 use lib.ListN.{length, length-take}
 use Rattle.le.specs.Choice.{pick}
-use Rattle.le.proofs.Compare.{no-test, both-true}
-use Rattle.page.specs.Page.{emptyTablePage}
+use Rattle.le.proofs.Compare.{no-test}
+use Rattle.page.specs.Page.{pageSize, emptyTablePage}
 use Rattle.page.proofs.Written.{length-emptyTablePage}
 use Rattle.header.specs.Header.{encodeHeader}
 use Rattle.header.specs.declared.DbHeader.{DbHeader}
 use Rattle.header.proofs.Encoding.{length-encodeHeader}
-use Rattle.wal.specs.Header.{encodeWalHeader}
+use Rattle.wal.specs.Header.{headerSize, encodeWalHeader}
+use Rattle.wal.specs.Recovery.{walArea}
 use Rattle.wal.specs.Write.{createdHeader, emptyWal}
 use Rattle.wal.proofs.Encoding.{length-encodeWalHeader}
-use Rattle.pager_state.specs.World.{World, world, countOf, headerOf, tableFine, logFine, mainFine, stagingFine, readOnly}
+use Rattle.pager_state.specs.World.{World, world, mainArea, stagingArea, stagedLimit, pageLimit, countOf, headerOf, readOnly}
 use Rattle.pager_state.specs.Overlay.{findIn, stagedPages, slotOf, isStaged}
 use Rattle.pager_state.specs.Pages.{among, pagesFrom, differs}
 use Rattle.pager_state.specs.Opening.{tableOf, emptyStaged, opensAs, firstHeader, logStores, createStores, emptyFile, createdDisk, createdPager, createFine, createTable, createLog, createMain}
-use Rattle.pager_state.specs.Steps.{differing, commitStart}
+use Rattle.pager_state.specs.Steps.{differing, commitRefusal}
 use Rattle.pager_state.specs.declared.Job.{Job}
 use Rattle.pager_state.specs.declared.Job.the-variants as job
 use Rattle.pager_state.specs.declared.Staged.{Staged}
-use Rattle.pager_state.specs.declared.CommitStart.the-variants as commit
 use Rattle.pager_state.proofs.Stored.{Areas, AllInside, all-areas}
 use Rattle.pager_state.proofs.Sizes.{empty-len}
 use Rattle.pager_state.proofs.Steps.{differs-staged}
@@ -33,34 +34,16 @@ use Rattle.pager_state.proofs.Made.{AsksOf, Made, every}
 use Rattle.pager_state.proofs.Opened.{created-made}
 use Rattle.history.specs.Run.{start}
 use Rattle.history.specs.Guards.{newStore, GoodHeader, Joined, Unrefused, withSlots, FramesInside, CommittedAlone}
-use Rattle.history.proofs.Opening.{table-long}
-use Rattle.history.proofs.GuardRefusals.{told-begun}
+use Rattle.history.proofs.Opening.{fine-sized, table-long}
+use Rattle.history.proofs.GuardRefusals.{none-begun, unrefused}
 use Rattle.history.proofs.GuardCommit.{commit-ends}
+use Rattle.history.specs.Demand3.{Sized}
 
 -- ---- areas
 
-pub create-fine : (t l m g : List ℕ) → length t ≡ 1024 → length l ≡ 4210720 → length m ≡ 4194304 → length g ≡ 262144 → createFine t l m g ≡ true
-create-fine t l m g a b c d =
-    rw (eq-eqb (length t) 1024 a, eq-eqb (length l) 4210720 b, eq-eqb (length m) 4194304 c, eq-eqb (length g) 262144 d)
-
 -- the lengths that creation asks for
-pub record Lent (t l m g : List ℕ) : Type 0 where
-  pub table : length t ≡ 1024
-  pub log : length l ≡ 4210720
-  pub main : length m ≡ 4194304
-  pub staging : length g ≡ 262144
-
-pub fine-create : (t l m g : List ℕ) → createFine t l m g ≡ true → Lent t l m g
-fine-create t l m g e =
-    let a = both-true (tableFine t) _ e in
-    let b = both-true (logFine 0 l) _ (a .1) in
-    let c = both-true (mainFine 0 m) (stagingFine g) (b .1) in
-    record {
-      table = eqb-true _ _ (a .0);
-      log = eqb-true _ _ (both-true (eqb (length l) 4210720) (leb 0 4210720) (b .0) .0);
-      main = eqb-true _ _ (both-true (eqb (length m) 4194304) (leb 0 4194304) (c .0) .0);
-      staging = eqb-true _ _ (c .1);
-    }
+pub fine-create : (t l m g : List ℕ) → createFine t l m g ≡ true → Sized (record { table = t; staging = g; log = l; main = m })
+fine-create t l m g e = fine-sized (record { table = t; staging = g; log = l; main = m }) 0 0 e
 
 -- ---- no more pages are staged than there are slots
 
@@ -114,13 +97,13 @@ few-among (x ∷ xs) f k p h = omega (arith, one-less f x k p, few-among xs (wit
         let y : suc (findIn xs n) < suc (length xs) = rw q at z in
         omega arith
 
-pub few-differ : (g : List ℕ) (w : World) → length (w .pager .staged .pages) ≡ 64 → differing g w ≤ 64
+pub few-differ : (g : List ℕ) (w : World) → length (w .pager .staged .pages) ≡ stagedLimit → differing g w ≤ stagedLimit
 unfolding differing pagesFrom isStaged slotOf
 few-differ g w h =
     omega (
       arith,
       length-take (w .pager .staged .count) (w .pager .staged .pages),
-      few-among (stagedPages (w .pager .staged)) (differs g w) 1024 0 (λ n e. ltb-true _ _ (differs-staged g w n e)),
+      few-among (stagedPages (w .pager .staged)) (differs g w) pageLimit 0 (λ n e. ltb-true _ _ (differs-staged g w n e)),
     )
 
 -- ---- the store that creation leaves
@@ -133,16 +116,16 @@ create-inside salt =
     let c = length-encodeWalHeader (createdHeader salt) in (
       refl,
       (
-        le-leb (0 + length (encodeHeader firstHeader)) 4194304 (omega arith),
+        le-leb (0 + length (encodeHeader firstHeader)) mainArea (omega arith),
         (
-          le-leb (4096 + length emptyTablePage) 4194304 (omega arith),
-          (refl, (le-leb (0 + length (encodeWalHeader (createdHeader salt))) 4210720 (omega arith), tt)),
+          le-leb (pageSize + length emptyTablePage) mainArea (omega arith),
+          (refl, (le-leb (0 + length (encodeWalHeader (createdHeader salt))) walArea (omega arith), tt)),
         ),
       ),
     )
 
 -- what the guards of commits and folds ask, of a store as the laws of steps ask
-pub made-framed : (w : World) → Made w → (length (w .pager .staged .pages) ≡ 64) × (w .pager .job ≡ job.Idle → FramesInside w)
+pub made-framed : (w : World) → Made w → (length (w .pager .staged .pages) ≡ stagedLimit) × (w .pager .job ≡ job.Idle → FramesInside w)
 made-framed w k = (k .slots, λ e n h i. subst (λ (j : Job). AsksOf every j w) e (k .asked) n h refl i)
 
 module _ (t l m g : List ℕ) (salt : ℕ) (f : createFine t l m g ≡ true) where
@@ -165,17 +148,14 @@ module _ (t l m g : List ℕ) (salt : ℕ) (f : createFine t l m g ≡ true) whe
       (record { log = record { area = k .log; len = omega arith }; main = record { area = k .main; len = omega arith } })
 
   -- no refusal but 15 is left for a commit in it
-  pub new-unrefused : (s : Staged) (h : DbHeader) → GoodHeader h → Joined (withSlots (newStore t l m g salt) s) h → (staging : List ℕ) → length staging ≡ 262144
+  pub new-unrefused : (s : Staged) (h : DbHeader) → GoodHeader h → Joined (withSlots (newStore t l m g salt) s) h → (staging : List ℕ) → length staging ≡ stagingArea
       → Unrefused staging (withSlots (newStore t l m g salt) s) h
   unfolding createdPager opensAs firstHeader
   new-unrefused s h k j staging e =
       let a = created-areas in
       let n = new-is in
       record {
-        table = rw n (table-long firstHeader []);
-        log = rw n (a .log .area);
-        main = rw n (a .main .area);
-        staging = e;
+        areas = record { table = rw n (table-long firstHeader []); staging = e; log = rw n (a .log .area); main = rw n (a .main .area) };
         logFile = rw n (omega (arith, empty-len (createdHeader salt)));
         mainFile = rw n (omega arith);
         pages = rw n (omega arith);
@@ -186,15 +166,15 @@ module _ (t l m g : List ℕ) (salt : ℕ) (f : createFine t l m g ≡ true) whe
         joined = j;
       }
 
-  pub new-len : newStore t l m g salt .pager .wal .len ≡ 32
+  pub new-len : newStore t l m g salt .pager .wal .len ≡ headerSize
   unfolding createdPager opensAs
   new-len = rw new-is (empty-len (createdHeader salt))
 
-  pub new-begun : (s : Staged) → length (s .pages) ≡ 64 → (h : DbHeader) → GoodHeader h → Joined (withSlots (newStore t l m g salt) s) h
-      → (staging : List ℕ) → length staging ≡ 262144 → commitStart staging (withSlots (newStore t l m g salt) s) h ≡ commit.Begun
+  pub new-begun : (s : Staged) → length (s .pages) ≡ stagedLimit → (h : DbHeader) → GoodHeader h → Joined (withSlots (newStore t l m g salt) s) h
+      → (staging : List ℕ) → length staging ≡ stagingArea → commitRefusal staging (withSlots (newStore t l m g salt) s) h ≡ none
   new-begun s z h k j staging e =
       let w : World = withSlots (newStore t l m g salt) s in
-      told-begun staging w h (new-unrefused s h k j staging e) (omega (arith, new-len, few-differ staging w z))
+      unrefused staging w h (new-unrefused s h k j staging e) (omega (arith, new-len, few-differ staging w z))
 
 -- ---- a commit with nothing staged
 
@@ -207,7 +187,7 @@ module _ (w : World) (z : w .pager .staged .count ≡ 0) where
 
   pub none-differ : (g : List ℕ) → differing g w ≡ 0
   unfolding differing pagesFrom
-  none-differ g = ap length (none-among (differs g w) 1024 0 (λ n e. no-test (sym (none-staged n) ∙ differs-staged g w n e)))
+  none-differ g = ap length (none-among (differs g w) pageLimit 0 (λ n e. no-test (sym (none-staged n) ∙ differs-staged g w n e)))
 
 module _ (t l m g : List ℕ) (salt : ℕ) (f : createFine t l m g ≡ true) where
   abbrev new : World
@@ -233,7 +213,7 @@ module _ (t l m g : List ℕ) (salt : ℕ) (f : createFine t l m g ≡ true) whe
   none-counted = none-differ new new-none g
 
   module _ (h : DbHeader) (k : GoodHeader h) (c : countOf h ≤ 2) where
-    alone-begun : commitStart g new h ≡ commit.Begun
+    alone-begun : commitRefusal g new h ≡ none
     alone-begun =
         new-begun t l m g salt f (new .pager .staged) (new-made t l m g salt f .slots) h k (λ n a b d. absurd (omega (arith, new-count, b, c, d))) g (fine-create t l m g f .staging)
 
@@ -242,7 +222,7 @@ module _ (t l m g : List ℕ) (salt : ℕ) (f : createFine t l m g ≡ true) whe
         let e = commit-ends g new h next (new-made t l m g salt f .slots) (omega (arith, new-frames)) alone-begun in
         let v = e .below (omega (arith, new-frames, none-counted)) in
         record {
-          begun = alone-begun;
+          begun = none-begun g new h alone-begun;
           answer = e .answer ∙ rw none-counted;
           rests = v .rests;
           logFile = v .logFile ∙ omega (arith, none-counted, new-len t l m g salt f);

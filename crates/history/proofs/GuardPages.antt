@@ -7,19 +7,19 @@ use Prim.Native.Nat.{ℕ, _^_, _≤_, _<_}
 use native.Mathlib.Omega.{arith}
 use borrow.Author.Tests.{eq-eqb}
 use Rattle.le.specs.Le.{Bytes}
+use Rattle.refusal.proofs.Rows.{accepted}
 use Rattle.header.specs.declared.DbHeader.{DbHeader}
 use Rattle.pager_state.specs.World.{World, countOf, busyWith}
 use Rattle.pager_state.specs.Overlay.{findPage, readPage, bytesAt}
 use Rattle.pager_state.specs.Queries.{header}
 use Rattle.pager_state.specs.Opening.{createFine}
-use Rattle.pager_state.specs.Steps.{commitStart, checkpointStart, isFolding, checkpointWorld}
+use Rattle.pager_state.specs.Steps.{checkpointBegins, checkpointWorld}
 use Rattle.pager_state.specs.declared.AccessMode.the-variants as mode
 use Rattle.pager_state.specs.declared.Job.the-variants as job
 use Rattle.pager_state.specs.declared.PageFound.{PageFound}
 use Rattle.pager_state.specs.declared.PageFound.the-variants as found
 use Rattle.pager_state.specs.declared.HeaderRead.the-variants as head
 use Rattle.pager_state.proofs.Made.{Made}
-use Rattle.pager_state.proofs.Begun.{commit-unrefused}
 use Rattle.pager_state.proofs.Done.{commit-done, checkpoint-done}
 use Rattle.history.specs.Calls.{ReadMode, Ask, Open, Stage, Commit, Checkpoint, Words, refusedBy, worldAfter}
 use Rattle.history.specs.Run.{Run, whole, Cut, start}
@@ -36,9 +36,9 @@ module _ (r : Run) (k : Made (r .world)) (salt : ℕ) where
   unfolding worldAfter refusedBy
   commit-rests h e =
       rw (world-after (Commit h salt) r)
-      (commit-done (r .staging) (r .world) h salt (commit-unrefused (commitStart (r .staging) (r .world) h) e) (k .slots) .idle)
+      (commit-done (r .staging) (r .world) h salt (accepted _ e) (k .slots) .idle)
 
-  fold-by : r .world .pager .job ≡ job.Idle → (b : Bool) → isFolding (checkpointStart (r .staging) (r .world)) ≡ b
+  fold-by : r .world .pager .job ≡ job.Idle → (b : Bool) → checkpointBegins (r .staging) (r .world) ≡ b
       → checkpointWorld (r .staging) (r .world) salt .pager .job ≡ job.Idle
   unfolding checkpointWorld
   fold-by i true e = checkpoint-done (r .staging) (r .world) salt e (k .slots) .idle
@@ -46,7 +46,7 @@ module _ (r : Run) (k : Made (r .world)) (salt : ℕ) where
 
   fold-rests : r .world .pager .job ≡ job.Idle → Accepted (Checkpoint salt) r → whole (Checkpoint salt) r .world .pager .job ≡ job.Idle
   unfolding worldAfter
-  fold-rests i e = rw (world-after (Checkpoint salt) r) (fold-by i (isFolding (checkpointStart (r .staging) (r .world))) refl)
+  fold-rests i e = rw (world-after (Checkpoint salt) r) (fold-by i (checkpointBegins (r .staging) (r .world)) refl)
 
 -- ---- a reading's bytes
 
@@ -61,8 +61,7 @@ read-bytes w g (found.Staged at) bytes e = some-same _ bytes e
 read-bytes w g (found.Log at) bytes e = some-same _ bytes e
 read-bytes w g (found.Main at) bytes e = some-same _ bytes e
 read-bytes w g found.Nothing bytes e = none-some bytes e
-read-bytes w g found.Area bytes e = none-some bytes e
-read-bytes w g found.Busy bytes e = none-some bytes e
+read-bytes w g (found.Refused r) bytes e = none-some bytes e
 
 -- ---- where demand 3 holds
 

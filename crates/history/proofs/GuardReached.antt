@@ -3,8 +3,8 @@ use mathlib.Core.Path.{_≡_, refl, ap, subst, _∙_}
 use mathlib.Core.Bool.{Bool, true, false}
 use mathlib.Core.List.{List, [], _∷_, _++_}
 use Prim.Native.Nat.{ℕ, _^_, _≤_, _<_}
-use native.Mathlib.Omega.{arith}
 use lib.Dec.{eqb}
+use Rattle.refusal.proofs.Rows.{numbered}
 use Rattle.pager_state.specs.World.{World, busy, busyWith}
 use Rattle.pager_state.specs.Queries.{header}
 use Rattle.pager_state.specs.Stores.{Disk, diskOf, cutAll}
@@ -87,15 +87,7 @@ module _ (lent : Lent) (d : Disk) (w : World) where
   opened-by : (a : Opens) → opening mode.ReadWrite lent d ≡ a → openRefusal a ≡ 0 → (t l m : List ℕ)
       → busy (openedOr a w t l m .pager) ≡ false
   opened-by (opened.Opened p) e z t l m = ap busyWith (open-idle (cleanly mode.ReadWrite) (lent .table) (laid lent d) (lent .staging) p e)
-  opened-by opened.Area e z t l m = absurd (omega arith)
-  opened-by opened.Short e z t l m = absurd (omega arith)
-  opened-by opened.Magic e z t l m = absurd (omega arith)
-  opened-by opened.Version e z t l m = absurd (omega arith)
-  opened-by opened.PageSize e z t l m = absurd (omega arith)
-  opened-by opened.Limit e z t l m = absurd (omega arith)
-  opened-by opened.MainShort e z t l m = absurd (omega arith)
-  opened-by opened.PageZero e z t l m = absurd (omega arith)
-  opened-by opened.ReadOnly e z t l m = absurd (omega arith)
+  opened-by (opened.Refused r) e z t l m = absurd (numbered r z)
 
   opened-rests : openRefusal (opening mode.ReadWrite lent d) ≡ 0
       → busy (openedWorld mode.ReadWrite lent d w .pager) ≡ false

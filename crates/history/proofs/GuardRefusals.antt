@@ -4,52 +4,74 @@ use mathlib.Core.Path.{_≡_, refl, sym, ap, _∙_}
 use mathlib.Core.Bool.{Bool, true, false, not}
 use mathlib.Core.List.{List}
 use mathlib.Core.Logic.{_⊎_, inl, inr}
+use mathlib.Core.Option.{Option, none, some}
 use Prim.Native.Nat.{ℕ, _+_, _*_, _≤_, _<_}
 use native.Mathlib.Omega.{arith}
-use borrow.Author.Tests.{leb-true, leb-false, ltb-true, ltb-false, eqb-true, eqb-false, le-leb, lt-leb, lt-ltb, le-ltb, eq-eqb, ne-eqb, not-true, not-false}
+use borrow.Author.Tests.{leb-true, leb-false, ltb-true, le-leb, lt-leb, lt-ltb, eq-eqb, not-true, not-false, eqb-true}
 use lib.Dec.{leb, ltb, eqb}
 use lib.ListN.{length}
 use Rattle.le.specs.Choice.{pick, both}
+use Rattle.le.specs.Le.{field}
 use Rattle.le.proofs.Compare.{no-test, both-true}
 use Rattle.le.proofs.Tests.{le-or-lt}
+use Rattle.page.specs.Page.{pageSize}
+use Rattle.refusal.specs.Refusal.{number, unless, first, numberOf, answered}
+use Rattle.refusal.specs.declared.Refusal.{Refusal}
+use Rattle.refusal.specs.declared.Refusal.the-variants as refusal
+use Rattle.refusal.proofs.Rows.{numbered}
+use Rattle.refusal.proofs.Judged.{met, resulted}
 use Rattle.header.specs.Header.{isVersion}
 use Rattle.header.specs.declared.DbHeader.{DbHeader}
-use Rattle.mvcc.specs.Seen.{refusalOf}
+use Rattle.frame.specs.Frame.{frameSize}
+use Rattle.mvcc.specs.Decode.{magic}
+use Rattle.mvcc.specs.Seen.{decodeRefusal, headingRefusal}
+use Rattle.mvcc.proofs.Heading.{heading-none}
+use Rattle.wal.specs.Recovery.{walArea}
 use Rattle.wal.specs.Write.{hasRoom}
 use Rattle.pager_state.specs.World.{World, pageLimit, countOf, headerOf, logFine, busy, readOnly}
 use Rattle.pager_state.specs.Overlay.{isStaged}
 use Rattle.pager_state.specs.Pages.{pagesFrom, firstOf, lacks}
-use Rattle.pager_state.specs.Batches.{appendAnswer, appendRefusal, decodedAs}
+use Rattle.pager_state.specs.Batches.{appendRefusal, appendBatch}
 use Rattle.pager_state.specs.Steps.{headerGood, differing, lacking, roomFor, tableFits, commitFine, commitStart, commitRefusal, stepFine}
 use Rattle.pager_state.specs.declared.Pager.{Pager}
 use Rattle.pager_state.specs.declared.Staged.{Staged}
-use Rattle.pager_state.specs.declared.CommitStart.{CommitStart}
 use Rattle.pager_state.specs.declared.CommitStart.the-variants as commit
 use Rattle.pager_state.specs.declared.BatchAnswer.the-variants as append
 use Rattle.pager_state.proofs.Searches.{no-lowest, lowest, pages-none}
 use Rattle.pager_state.proofs.Made.{Fine, ready-fine, fine-ready}
 use Rattle.pager_state.proofs.Before.{stands-frame, before-staged, staged-before}
-use Rattle.pager_state.proofs.Begun.{not-busy}
+use Rattle.pager_state.proofs.Begun.{off, not-busy}
 use Rattle.history.specs.Guards.{GoodHeader, Joined, Unrefused, Full, UnrefusedBatch}
+use Rattle.history.proofs.GuardDecoding.{decoding-late, decoding-number}
 
--- ---- choices that came out with the number k
+-- ---- judgements that came out with v
 
-module _ {A : Type 0} (f : A → ℕ) {k : ℕ} where
-  chosen : (t : Bool) (x r : A) → (f r ≡ k → ⊥) → f (pick t x r) ≡ k → (t ≡ true) × (f x ≡ k)
-  chosen true x r n e = (refl, e)
-  chosen false x r n e = absurd (n e)
+module _ {v : Option Refusal} where
+  passed : (b : Bool) (r : Refusal) (rest : Option Refusal) → (some r ≡ v → ⊥) → unless b r rest ≡ v → (b ≡ true) × (rest ≡ v)
+  passed true r rest n e = (refl, e)
+  passed false r rest n e = absurd (n e)
 
-  passed : (t : Bool) (x r : A) → (f r ≡ k → ⊥) → f (pick t r x) ≡ k → (t ≡ false) × (f x ≡ k)
-  passed true x r n e = absurd (n e)
-  passed false x r n e = (refl, e)
+  passed-first : (a rest : Option Refusal) → ((r : Refusal) → a ≡ some r → some r ≡ v → ⊥) → first a rest ≡ v → (a ≡ none) × (rest ≡ v)
+  passed-first none rest n e = (refl, e)
+  passed-first (some r) rest n e = absurd (n r refl e)
+
+-- another number is another refusal
+apart : {q r : Refusal} → (number q ≡ number r → ⊥) → some q ≡ some r → ⊥
+apart n e = n (ap numberOf e)
+
+-- an answer that is a refusal comes of that refusal
+told-by : {A : Type 0} (refused : Refusal → A) (result : A) (r : Refusal) → (result ≡ refused r → ⊥) → ((q : Refusal) → refused q ≡ refused r → q ≡ r)
+    → (v : Option Refusal) → answered refused result v ≡ refused r → v ≡ some r
+told-by refused result r n same none e = absurd (n e)
+told-by refused result r n same (some q) e = ap {B = Option Refusal} some (same q e)
 
 -- ---- 13
 
 good-header : (h : DbHeader) → headerGood h ≡ true → GoodHeader h
 good-header h e =
     let v : Bool = isVersion (h .«format_version») in
-    let a = both-true (leb 1 (countOf h)) (both (leb (countOf h) 1024) v) e in
-    let b = both-true (leb (countOf h) 1024) v (a .1) in
+    let a = both-true (leb 1 (countOf h)) (both (leb (countOf h) pageLimit) v) e in
+    let b = both-true (leb (countOf h) pageLimit) v (a .1) in
     let c = both-true (leb 4 (h .«format_version»)) (leb (h .«format_version») 6) (b .1) in
     record { low = leb-true _ _ (a .0); high = leb-true _ _ (b .0); oldest = leb-true _ _ (c .0); newest = leb-true _ _ (c .1) }
 
@@ -57,7 +79,7 @@ header-good : (h : DbHeader) → GoodHeader h → headerGood h ≡ true
 header-good h k =
     rw (
       le-leb 1 (countOf h) (k .low),
-      le-leb (countOf h) 1024 (k .high),
+      le-leb (countOf h) pageLimit (k .high),
       le-leb 4 (h .«format_version») (k .oldest),
       le-leb (h .«format_version») 6 (k .newest),
     )
@@ -82,18 +104,18 @@ module _ (w : World) (h : DbHeader) where
   abbrev lack : ℕ → Bool
   lack = lacks (w .pager .staged) (countOf (headerOf (w .pager))) (countOf h)
 
-  joined-by : ltb (lacking w h) 1024 ≡ false → countOf h ≤ 1024 → Joined w h
+  joined-by : pageLimit ≤ lacking w h → countOf h ≤ pageLimit → Joined w h
   unfolding lacking
   joined-by e k n a b c =
-      let z = pages-none lack 0 (no-lowest lack 0 (ltb-false (lacking w h) 1024 e)) n (omega arith) (omega arith) in
+      let z = pages-none lack 0 (no-lowest lack 0 e) n (omega arith) (omega arith) in
       lacks-not (w .pager .staged) (countOf (headerOf (w .pager))) (countOf h) n z a b c
 
-  by-joined : Joined w h → ltb (lacking w h) 1024 ≡ false
+  by-joined : Joined w h → pageLimit ≤ lacking w h
   unfolding lacking
-  by-joined j = go (le-or-lt 1024 (firstOf (pagesFrom lack 0)))
+  by-joined j = go (le-or-lt pageLimit (firstOf (pagesFrom lack 0)))
     where
-      go : (1024 ≤ firstOf (pagesFrom lack 0)) ⊎ (firstOf (pagesFrom lack 0) < 1024) → ltb (firstOf (pagesFrom lack 0)) 1024 ≡ false
-      go (inl k) = le-ltb (firstOf (pagesFrom lack 0)) 1024 k
+      go : (pageLimit ≤ firstOf (pagesFrom lack 0)) ⊎ (firstOf (pagesFrom lack 0) < pageLimit) → pageLimit ≤ firstOf (pagesFrom lack 0)
+      go (inl k) = k
       go (inr k) =
           let n : ℕ = firstOf (pagesFrom lack 0) in
           let x = lacks-so (w .pager .staged) (countOf (headerOf (w .pager))) (countOf h) n (lowest lack 0 n refl k .holds) in
@@ -102,36 +124,34 @@ module _ (w : World) (h : DbHeader) where
 -- ---- a commit
 
 module _ (g : List ℕ) (w : World) (h : DbHeader) where
-  last-test : CommitStart
-  last-test = pick (roomFor w (differing g w + 1)) commit.Begun commit.LogFull
+  -- the last of its tests
+  abbrev lastTest : Option Refusal
+  lastTest = unless (roomFor w (differing g w + 1)) refusal.LogFull none
 
   -- none of the first five
-  past : (k : ℕ) → commitRefusal (commitStart g w h) ≡ k → (k ≡ 1 → ⊥) → (k ≡ 9 → ⊥) → (k ≡ 10 → ⊥) → (k ≡ 13 → ⊥) → (k ≡ 14 → ⊥)
-      → Unrefused g w h × (commitRefusal last-test ≡ k)
-  unfolding commitStart last-test
-  past k e n₁ n₉ n₁₀ n₁₃ n₁₄ =
-      let a = chosen commitRefusal (commitFine g w) _ commit.Area (λ z. n₁ (sym z)) e in
-      let b = passed commitRefusal (busy (w .pager)) _ commit.Busy (λ z. n₉ (sym z)) (a .1) in
-      let c = passed commitRefusal (readOnly (w .pager)) _ commit.ReadOnly (λ z. n₁₀ (sym z)) (b .1) in
-      let d = chosen commitRefusal (headerGood h) _ commit.NewHeader (λ z. n₁₃ (sym z)) (c .1) in
-      let i = passed commitRefusal (ltb (lacking w h) pageLimit) _ (commit.Joining (lacking w h)) (λ z. n₁₄ (sym z)) (d .1) in
+  past : (v : Option Refusal) → ((r : Refusal) → number r < 15 → some r ≡ v → ⊥) → commitRefusal g w h ≡ v → Unrefused g w h × (lastTest ≡ v)
+  unfolding commitRefusal
+  past v late e =
+      let a = passed (commitFine g w) refusal.Area _ (late refusal.Area (omega arith)) e in
+      let b = passed (not (busy (w .pager))) refusal.Busy _ (late refusal.Busy (omega arith)) (a .1) in
+      let c = passed (not (readOnly (w .pager))) refusal.ReadOnly _ (late refusal.ReadOnly (omega arith)) (b .1) in
+      let d = passed (headerGood h) refusal.NewHeader _ (late refusal.NewHeader (omega arith)) (c .1) in
+      let i = passed (leb pageLimit (lacking w h)) (refusal.Joining (lacking w h)) _ (late (refusal.Joining (lacking w h)) (omega arith)) (d .1) in
       let t = both-true (stepFine g w) (pick (busy (w .pager)) true (tableFits w)) (a .0) in
-      let v : tableFits w ≡ true = rw (b .0) at (t .1) in
+      let q : busy (w .pager) ≡ false = off _ (b .0) in
+      let y : tableFits w ≡ true = rw q at (t .1) in
       let f = ready-fine g w (t .0) in
       let k = good-header h (d .0) in (
         record {
-          table = f .0 .table;
-          log = f .0 .files .log .area;
-          main = f .0 .files .main .area;
-          staging = f .1;
+          areas = record { table = f .0 .table; staging = f .1; log = f .0 .files .log .area; main = f .0 .files .main .area };
           logFile = f .0 .files .log .len;
           mainFile = f .0 .files .main .len;
           pages = f .0 .count;
-          compared = λ n l o i. stands-frame (w .table) (w .pager .wal .len) n (before-staged (w .table) (w .pager .wal .len) (w .pager .staged) v n o) i;
-          rests = not-busy (w .pager .job) (b .0);
-          writes = c .0;
+          compared = λ n l o i. stands-frame (w .table) (w .pager .wal .len) n (before-staged (w .table) (w .pager .wal .len) (w .pager .staged) y n o) i;
+          rests = not-busy (w .pager .job) q;
+          writes = off _ (c .0);
           header = k;
-          joined = joined-by w h (i .0) (k .high);
+          joined = joined-by w h (leb-true _ _ (i .0)) (k .high);
         },
         i .1,
       )
@@ -139,86 +159,124 @@ module _ (g : List ℕ) (w : World) (h : DbHeader) where
   unrefused-fine : Unrefused g w h → Fine w
   unrefused-fine u =
       record {
-        table = u .table;
-        files = record { log = record { area = u .log; len = u .logFile }; main = record { area = u .main; len = u .mainFile } };
+        table = u .areas .table;
+        files = record { log = record { area = u .areas .log; len = u .logFile }; main = record { area = u .areas .main; len = u .mainFile } };
         count = u .pages;
       }
 
   -- then the room decides
-  reached : Unrefused g w h → commitStart g w h ≡ last-test
-  unfolding commitStart last-test lacking differing
+  reached : Unrefused g w h → commitRefusal g w h ≡ lastTest
+  unfolding commitRefusal lacking differing
   reached u =
-      rw (fine-ready g w (unrefused-fine u) (u .staging), staged-before (w .table) (w .pager .wal .len) (w .pager .staged) (λ n l o i. u .compared n (omega (arith, u .table, l)) o i), u .rests, u .writes, header-good h (u .header), by-joined w h (u .joined))
+      rw (
+        fine-ready g w (unrefused-fine u) (u .areas .staging),
+        staged-before (w .table) (w .pager .wal .len) (w .pager .staged) (λ n l o i. u .compared n (omega (arith, u .areas .table, l)) o i),
+        u .rests,
+        u .writes,
+        header-good h (u .header),
+        le-leb pageLimit (lacking w h) (by-joined w h (u .joined)),
+      )
 
-  pub full-told : commitStart g w h ≡ commit.LogFull → Unrefused g w h × Full (w .pager) (differing g w + 1)
-  unfolding last-test
+  pub refused-told : (r : Refusal) → commitStart g w h ≡ commit.Refused r → commitRefusal g w h ≡ some r
+  unfolding commitStart
+  refused-told r e = told-by commit.Refused commit.Begun r begun-not (λ q s. cc) (commitRefusal g w h) e
+    where
+      begun-not : commit.Begun ≡ commit.Refused r → ⊥
+      begun-not q = let z : _≡_ {A = ℕ} 0 1 = cc in omega arith
+
+  pub full-told : commitStart g w h ≡ commit.Refused refusal.LogFull → Unrefused g w h × Full (w .pager) (differing g w + 1)
   full-told e =
-      let a = past 15 (ap commitRefusal e) (λ z. omega arith) (λ z. omega arith) (λ z. omega arith) (λ z. omega arith) (λ z. omega arith) in
-      let b = passed commitRefusal (roomFor w (differing g w + 1)) commit.LogFull commit.Begun (λ z. omega arith) (a .1) in
-      (a .0, leb-false _ _ (b .0))
+      let a = past (some refusal.LogFull) (λ q l. apart (λ s. omega (arith, l, s))) (refused-told refusal.LogFull e) in
+      (a .0, full-by (roomFor w (differing g w + 1)) refl (a .1))
+    where
+      full-by : (b : Bool) → roomFor w (differing g w + 1) ≡ b → unless b refusal.LogFull none ≡ some refusal.LogFull → Full (w .pager) (differing g w + 1)
+      full-by true k q = let z : _≡_ {A = ℕ} 0 1 = cc in absurd (omega arith)
+      full-by false k q = leb-false _ _ k
 
-  pub told-full : Unrefused g w h → Full (w .pager) (differing g w + 1) → commitStart g w h ≡ commit.LogFull
-  unfolding last-test
-  told-full u f = reached u ∙ rw (lt-leb (w .pager .wal .len + 4112 * (differing g w + 1)) 4210720 f)
+  pub told-full : Unrefused g w h → Full (w .pager) (differing g w + 1) → commitStart g w h ≡ commit.Refused refusal.LogFull
+  unfolding commitStart
+  told-full u f = rw (reached u, lt-leb (w .pager .wal .len + frameSize * (differing g w + 1)) walArea f)
 
-  pub begun-told : commitStart g w h ≡ commit.Begun → Unrefused g w h × (w .pager .wal .len + 4112 * (differing g w + 1) ≤ 4210720)
-  unfolding last-test
+  pub begun-none : commitStart g w h ≡ commit.Begun → commitRefusal g w h ≡ none
+  unfolding commitStart
+  begun-none e = resulted commit.Refused commit.Begun commit.Begun refused-not (commitRefusal g w h) e .0
+    where
+      refused-not : (r : Refusal) → commit.Refused r ≡ commit.Begun → ⊥
+      refused-not r q = let z : _≡_ {A = ℕ} 0 1 = cc in omega arith
+
+  pub none-begun : commitRefusal g w h ≡ none → commitStart g w h ≡ commit.Begun
+  unfolding commitStart
+  none-begun e = rw e
+
+  pub begun-told : commitStart g w h ≡ commit.Begun → Unrefused g w h × (w .pager .wal .len + frameSize * (differing g w + 1) ≤ walArea)
   begun-told e =
-      let a = past 0 (ap commitRefusal e) (λ z. omega arith) (λ z. omega arith) (λ z. omega arith) (λ z. omega arith) (λ z. omega arith) in
-      let b = chosen commitRefusal (roomFor w (differing g w + 1)) commit.Begun commit.LogFull (λ z. omega arith) (a .1) in
-      (a .0, leb-true _ _ (b .0))
+      let a = past none (λ r l q. numbered r (ap numberOf q)) (begun-none e) in
+      (a .0, leb-true _ _ (met (roomFor w (differing g w + 1)) refusal.LogFull none (a .1) .0))
 
-  pub told-begun : Unrefused g w h → w .pager .wal .len + 4112 * (differing g w + 1) ≤ 4210720 → commitStart g w h ≡ commit.Begun
-  unfolding last-test
-  told-begun u f = reached u ∙ rw (le-leb (w .pager .wal .len + 4112 * (differing g w + 1)) 4210720 f)
+  pub unrefused : Unrefused g w h → w .pager .wal .len + frameSize * (differing g w + 1) ≤ walArea → commitRefusal g w h ≡ none
+  unrefused u f = reached u ∙ rw (le-leb (w .pager .wal .len + frameSize * (differing g w + 1)) walArea f)
+
+  pub told-begun : Unrefused g w h → w .pager .wal .len + frameSize * (differing g w + 1) ≤ walArea → commitStart g w h ≡ commit.Begun
+  told-begun u f = none-begun (unrefused u f)
 
 -- ---- a batch append
 
--- decoding's refusals are others
-decoded-not : (a b c : Bool) → appendRefusal (pick a append.Appended (pick b append.Truncated (pick c append.Tag append.Text))) ≡ 15 → ⊥
-decoded-not true b c e = omega arith
-decoded-not false true c e = omega arith
-decoded-not false false true e = omega arith
-decoded-not false false false e = omega arith
+-- a heading's refusals are others
+heading-by : (a b : Bool) → unless a refusal.Short (unless b refusal.Magic none) ≡ some refusal.LogFull → ⊥
+heading-by true true e = let z : _≡_ {A = ℕ} 0 15 = ap numberOf e in omega arith
+heading-by true false e = let z : _≡_ {A = ℕ} 3 15 = ap numberOf e in omega arith
+heading-by false b e = let z : _≡_ {A = ℕ} 2 15 = ap numberOf e in omega arith
+
+heading-apart : (body : List ℕ) → headingRefusal body ≡ some refusal.LogFull → ⊥
+unfolding headingRefusal
+heading-apart body e = heading-by (leb 18 (length body)) (eqb (field 8 0 body) magic) e
 
 module _ (p : Pager) (l body : List ℕ) where
-  pub batch-full-told : appendAnswer p l body ≡ append.LogFull → UnrefusedBatch p l body × Full p 1
-  unfolding appendAnswer
-  batch-full-told e =
-      let r : ℕ = refusalOf body in
-      let a = chosen appendRefusal (both (logFine (p .wal .len) l) (leb (length body) 4096)) _ append.Area (λ z. omega arith) (ap appendRefusal e) in
-      let b = passed appendRefusal (eqb r 2) _ append.Short (λ z. omega arith) (a .1) in
-      let c = passed appendRefusal (eqb r 3) _ append.Magic (λ z. omega arith) (b .1) in
-      let d = passed appendRefusal (busy p) _ append.Busy (λ z. omega arith) (c .1) in
-      let i = passed appendRefusal (readOnly p) _ append.ReadOnly (λ z. omega arith) (d .1) in
-      let k = passed appendRefusal (hasRoom (p .wal)) append.LogFull (decodedAs r) (decoded-not (eqb r 0) (eqb r 17) (eqb r 18)) (i .1) in
-      let x = both-true (logFine (p .wal .len) l) (leb (length body) 4096) (a .0) in
-      let y = both-true (eqb (length l) 4210720) (leb (p .wal .len) 4210720) (x .0) in
-      let z = leb-false (p .wal .len + 4112) 4210720 (k .0) in (
-        record {
-          log = eqb-true _ _ (y .0);
-          logFile = leb-true _ _ (y .1);
-          page = leb-true _ _ (x .1);
-          long = eqb-false _ _ (b .0);
-          marked = eqb-false _ _ (c .0);
-          rests = not-busy (p .job) (d .0);
-          writes = i .0;
-        },
-        omega arith,
-      )
-
-  pub unrefused-batch : UnrefusedBatch p l body → appendAnswer p l body ≡ pick (hasRoom (p .wal)) (decodedAs (refusalOf body)) append.LogFull
-  unfolding appendAnswer
+  pub unrefused-batch : UnrefusedBatch p l body → appendRefusal p l body ≡ unless (hasRoom (p .wal)) refusal.LogFull (decodeRefusal body)
+  unfolding appendRefusal
   unrefused-batch u =
       rw (
-        eq-eqb (length l) 4210720 (u .log),
-        le-leb (p .wal .len) 4210720 (u .logFile),
-        le-leb (length body) 4096 (u .page),
-        ne-eqb (refusalOf body) 2 (u .long),
-        ne-eqb (refusalOf body) 3 (u .marked),
+        eq-eqb (length l) walArea (u .log),
+        le-leb (p .wal .len) walArea (u .logFile),
+        le-leb (length body) pageSize (u .page),
+        heading-none body (u .long) (u .marked),
         u .rests,
         u .writes,
       )
 
-  pub batch-told-full : UnrefusedBatch p l body → Full p 1 → appendAnswer p l body ≡ append.LogFull
-  batch-told-full u f = unrefused-batch u ∙ rw (lt-leb (p .wal .len + 4112) 4210720 (omega arith))
+  pub batch-full-told : appendBatch p l body .answer ≡ append.Refused refusal.LogFull → UnrefusedBatch p l body × Full p 1
+  unfolding appendBatch appendRefusal
+  batch-full-told e =
+      let v : Option Refusal = some refusal.LogFull in
+      let r : appendRefusal p l body ≡ v = told-by append.Refused append.Appended refusal.LogFull (λ q. appended-not q) (λ q s. cc) (appendRefusal p l body) e in
+      let a = passed (both (logFine (p .wal .len) l) (leb (length body) pageSize)) refusal.Area _ (apart (λ s. omega arith)) r in
+      let b = passed-first (headingRefusal body) _ heading-not (a .1) in
+      let c = passed (not (busy p)) refusal.Busy _ (apart (λ s. omega arith)) (b .1) in
+      let d = passed (not (readOnly p)) refusal.ReadOnly _ (apart (λ s. omega arith)) (c .1) in
+      let x = both-true (logFine (p .wal .len) l) (leb (length body) pageSize) (a .0) in
+      let y = both-true (eqb (length l) walArea) (leb (p .wal .len) walArea) (x .0) in (
+        record {
+          log = eqb-true _ _ (y .0);
+          logFile = leb-true _ _ (y .1);
+          page = leb-true _ _ (x .1);
+          long = decoding-number body (b .0) 2 (omega arith) (omega arith);
+          marked = decoding-number body (b .0) 3 (omega arith) (omega arith);
+          rests = not-busy (p .job) (off _ (c .0));
+          writes = off _ (d .0);
+        },
+        full-by (b .0) (hasRoom (p .wal)) refl (d .1),
+      )
+    where
+      appended-not : append.Appended ≡ append.Refused refusal.LogFull → ⊥
+      appended-not q = let z : _≡_ {A = ℕ} 0 1 = cc in omega arith
+
+      heading-not : (r : Refusal) → headingRefusal body ≡ some r → some r ≡ some refusal.LogFull → ⊥
+      heading-not r h q = heading-apart body (h ∙ q)
+
+      full-by : headingRefusal body ≡ none → (b : Bool) → hasRoom (p .wal) ≡ b → unless b refusal.LogFull (decodeRefusal body) ≡ some refusal.LogFull → Full p 1
+      full-by h true k q = absurd (omega (arith, decoding-late body h refusal.LogFull q))
+      full-by h false k q = let z = leb-false (p .wal .len + frameSize) walArea k in omega arith
+
+  pub batch-told-full : UnrefusedBatch p l body → Full p 1 → appendBatch p l body .answer ≡ append.Refused refusal.LogFull
+  unfolding appendBatch
+  batch-told-full u f = rw (unrefused-batch u, lt-leb (p .wal .len + frameSize) walArea (omega arith))

@@ -4,15 +4,18 @@ use Prim.Native.Nat.{ℕ}
 use native.Mathlib.Omega.{arith}
 use lib.ListN.{length, length-replicate}
 use Rattle.le.specs.Le.{Bytes}
+use Rattle.page.specs.Page.{pageSize}
 use Rattle.mvcc.proofs.Bytes.{bytes-zeros}
+use Rattle.wal.specs.Recovery.{walArea}
 use Rattle.pager_state.specs.Opening.{firstHeader}
+use Rattle.pager_state.specs.World.{mainArea, stagingArea, pageLimit}
 use Rattle.history.specs.Run.{start}
 use Rattle.history.specs.Guards.{zeros, zeroAreas, Met, LogFullGuard, BegunGuard, BatchFullGuard, CommitGuard, CommitEndsGuard, EmptyCommitGuard, FoldGuard, SoundGuard, TableGuard, OpeningGuard, HeaderGuard, PageGuard, NewPageGuard, BatchGuard, NewBatchGuard, FilledGuard, BodyGuard}
 use Rattle.history.proofs.Demand3Holds.{demand3}
-use Rattle.history.proofs.GuardRefusals.{full-told, told-full, begun-told, told-begun, batch-full-told, batch-told-full}
-use Rattle.history.proofs.GuardFold.{fold-leaves, fold-answer}
+use Rattle.history.proofs.GuardRefusals.{full-told, told-full, begun-none, none-begun, begun-told, told-begun, batch-full-told, batch-told-full}
+use Rattle.history.proofs.GuardFold.{start-begins, fold-leaves, fold-answer}
 use Rattle.history.proofs.GuardCommit.{commit-ends}
-use Rattle.history.proofs.GuardNew.{create-fine, new-begun, new-made, made-framed, committed-alone}
+use Rattle.history.proofs.GuardNew.{made-framed, new-made, new-begun, committed-alone}
 use Rattle.history.proofs.GuardHistories.{made-history}
 use Rattle.history.proofs.GuardTable.{table-taken}
 use Rattle.history.proofs.GuardReached.{reached-after, opening-taken}
@@ -20,6 +23,8 @@ use Rattle.history.proofs.GuardPages.{header-back, reads-back}
 use Rattle.history.proofs.GuardFirst.{keeps}
 use Rattle.history.proofs.GuardBatches.{returned, recovers, fills}
 use Rattle.history.proofs.GuardBody.{body}
+use Rattle.history.specs.Demand3.{Sized}
+use Rattle.history.proofs.Opening.{sized-fine}
 
 -- ---- what they ask can be met
 
@@ -31,17 +36,21 @@ bytes-of-zeros : (n : ℕ) → Bytes (zeros n)
 unfolding zeros
 bytes-of-zeros n = bytes-zeros n
 
+zeros-sized : Sized zeroAreas
+unfolding zeroAreas
+zeros-sized = record { table = length-zeros pageLimit; staging = length-zeros stagingArea; log = length-zeros walArea; main = length-zeros mainArea }
+
 pub met : Met
 unfolding zeroAreas firstHeader
 met =
     record {
-      areas = create-fine (zeros 1024) (zeros 4210720) (zeros 4194304) (zeros 262144) (length-zeros 1024) (length-zeros 4210720) (length-zeros 4194304) (length-zeros 262144);
-      lent = record { table = length-zeros 1024; staging = length-zeros 262144; log = length-zeros 4210720; main = length-zeros 4194304 };
+      areas = sized-fine zeroAreas 0 0 zeros-sized (omega arith) (omega arith);
+      lent = zeros-sized;
       good = record { low = omega arith; high = omega arith; oldest = omega arith; newest = omega arith };
       words = record { count = omega arith; root = omega arith; version = omega arith; freelist = omega arith };
       two = refl;
-      long = length-zeros 4096;
-      bytes = bytes-of-zeros 4096;
+      long = length-zeros pageSize;
+      bytes = bytes-of-zeros pageSize;
       row = record { sfits = omega arith };
     }
 
@@ -61,11 +70,11 @@ batch-full p l body = (batch-full-told p l body, batch-told-full p l body)
 
 pub new-commit : CommitGuard
 unfolding CommitGuard
-new-commit t l m g salt f s z h k j staging e = new-begun t l m g salt f s z h k j staging e
+new-commit t l m g salt f s z h k j staging e = none-begun _ _ h (new-begun t l m g salt f s z h k j staging e)
 
 pub commit-end : CommitEndsGuard
 unfolding CommitEndsGuard
-commit-end g w h salt z few b = commit-ends g w h salt z few b
+commit-end g w h salt z few b = commit-ends g w h salt z few (begun-none g w h b)
 
 pub empty-commit : EmptyCommitGuard
 unfolding EmptyCommitGuard
@@ -73,7 +82,7 @@ empty-commit t l m g salt f h k c next = committed-alone t l m g salt f h k c ne
 
 pub fold : FoldGuard
 unfolding FoldGuard
-fold g w salt z i b = (fold-answer g w salt z i b, fold-leaves g w salt z i b)
+fold g w salt z i b = let e = start-begins g w b in (fold-answer g w salt z i e, fold-leaves g w salt z i e)
 
 pub filled : FilledGuard
 unfolding FilledGuard

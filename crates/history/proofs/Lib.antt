@@ -2,7 +2,6 @@
 pub mod Files
 pub mod Frames
 pub mod Disk
-pub mod PagesFrom
 pub mod Slots
 pub mod Rest
 pub mod Opening
@@ -28,6 +27,7 @@ pub mod NextStep
 pub mod Creation
 pub mod Refused
 pub mod Demand3Holds
+pub mod GuardDecoding
 pub mod GuardRefusals
 pub mod GuardFold
 pub mod GuardCommit

@@ -14,21 +14,22 @@ use Rattle.le.specs.Choice.{pick, both}
 use Rattle.le.specs.Le.{field}
 use Rattle.le.proofs.Fields.{drop-take, field-part}
 use Rattle.le.proofs.Compare.{both-true}
+use Rattle.page.specs.Page.{pageSize}
 use Rattle.header.specs.Header.{decodeHeader, headerIn}
 use Rattle.header.specs.declared.DbHeader.{DbHeader}
 use Rattle.header.specs.declared.HeaderDecoded.the-variants as main
 use Rattle.header.proofs.RoundTrip.{decoded-as}
-use Rattle.wal.specs.Header.{encodeWalHeader, decodeWalHeader}
-use Rattle.wal.specs.Recovery.{batchesIn, chunkAt, goodFront, lastCount, recovered, sealedFrames, commitPoint, walOf, Recovered}
+use Rattle.wal.specs.Header.{headerSize, encodeWalHeader, decodeWalHeader}
+use Rattle.wal.specs.Recovery.{chunkAt, goodFront, lastCount, batchesIn, Recovered, recovered, sealedFrames, commitPoint, walOf, walArea}
 use Rattle.wal.specs.declared.WalHeader.{WalHeader}
 use Rattle.wal.specs.declared.WalHeaderDecoded.the-variants as log
 use Rattle.wal.specs.declared.Wal.{Wal}
 use Rattle.wal.proofs.HeaderRoundTrip.{decode-encode}
 use Rattle.wal.proofs.Frames.{all-good-cons}
 use Rattle.wal.proofs.Recovered.{recovered-cut, cut-sealed}
-use Rattle.wal.proofs.Opening.{length-cut}
 use Rattle.wal.proofs.Laid.{joined}
-use Rattle.pager_state.specs.World.{world, countOf}
+use Rattle.wal.proofs.Opening.{length-cut}
+use Rattle.pager_state.specs.World.{world, mainArea, stagingArea, pageLimit, countOf, inArea, lengthsFine}
 use Rattle.pager_state.specs.Overlay.{pageFrom, entry, isStaged, slotOf}
 use Rattle.pager_state.specs.Opening.{tabulate, placeFrom, hasPage, tableOf, emptyStaged, opensAs, keptOf, foundIn, foundBy, mainHeader, headerBy, openedAs, judged, openFine, openPager, openRefusal, openStores, openTable, openLogArea}
 use Rattle.pager_state.specs.Stores.{File, Disk, content, SetLen, Other, lenFile, lenCut, cutAll, wholeOf, storedAll}
@@ -53,19 +54,19 @@ pub part-same : (a c : List ℕ) (len at n : ℕ) → take len a ≡ take len c 
 part-same a c len at n e h =
     sym (drop-take at n a) ∙ ap (drop at) (sym (take-take (at + n) len a h) ∙ ap (take (at + n)) e ∙ take-take (at + n) len c h) ∙ drop-take at n c
 
-main-same : (mh : DbHeader) (a c : List ℕ) (len n : ℕ) → take len a ≡ take len c → 4096 * countOf mh ≤ len → mainPage mh a n ≡ mainPage mh c n
+main-same : (mh : DbHeader) (a c : List ℕ) (len n : ℕ) → take len a ≡ take len c → pageSize * countOf mh ≤ len → mainPage mh a n ≡ mainPage mh c n
 main-same mh a c len n e h = go (leb 1 n) (ltb n (countOf mh)) refl
   where
-    go : (s t : Bool) → ltb n (countOf mh) ≡ t → pick (both s t) (some (pageFrom (4096 * n) a)) none ≡ pick (both s t) (some (pageFrom (4096 * n) c)) none
+    go : (s t : Bool) → ltb n (countOf mh) ≡ t → pick (both s t) (some (pageFrom (pageSize * n) a)) none ≡ pick (both s t) (some (pageFrom (pageSize * n) c)) none
     go false t q = refl
     go true false q = refl
     go true true q =
-        let k : 4096 * n + 4096 ≤ len = omega (arith, leb-true (suc n) (countOf mh) q) in
-        ap {B = Option (List ℕ)} some (part-same a c len (4096 * n) 4096 e k)
+        let k : pageSize * n + pageSize ≤ len = omega (arith, leb-true (suc n) (countOf mh) q) in
+        ap {B = Option (List ℕ)} some (part-same a c len (pageSize * n) pageSize e k)
 
 -- the same log in another file, and the same book over another main file
-pub log-again : {f : File} {l : WalHeader} {S P : List (List ℕ)} {t : List ℕ} → LogIs f l S P t → (g : File) → content g ≡ content f → length (g .area) ≡ 4210720
-    → g .len ≤ 4210720 → LogIs g l S P t
+pub log-again : {f : File} {l : WalHeader} {S P : List (List ℕ)} {t : List ℕ} → LogIs f l S P t → (g : File) → content g ≡ content f → length (g .area) ≡ walArea
+    → g .len ≤ walArea → LogIs g l S P t
 log-again o g e a n =
     record {
       written = o .written;
@@ -94,8 +95,8 @@ book-over o top pages =
     }
 
 pub re-lay : {d : Disk} {b : Book} {l : WalHeader} {S P : List (List ℕ)} {t : List ℕ} {mh : DbHeader} → OnDisk d b l S P t mh → (e : Disk)
-    → content (e .log) ≡ content (d .log) → length (e .log .area) ≡ 4210720 → e .log .len ≤ 4210720
-    → e .main .len ≡ d .main .len → take (d .main .len) (e .main .area) ≡ take (d .main .len) (d .main .area) → length (e .main .area) ≡ 4194304
+    → content (e .log) ≡ content (d .log) → length (e .log .area) ≡ walArea → e .log .len ≤ walArea
+    → e .main .len ≡ d .main .len → take (d .main .len) (e .main .area) ≡ take (d .main .len) (d .main .area) → length (e .main .area) ≡ mainArea
     → OnDisk e b l S P t mh
 re-lay {d} {b} {l} {S} {P} {t} {mh} o e h₁ h₂ h₃ h₄ h₅ h₆ =
     record {
@@ -106,7 +107,7 @@ re-lay {d} {b} {l} {S} {P} {t} {mh} o e h₁ h₂ h₃ h₄ h₅ h₆ =
             fits = rw h₄ (o .main .fits);
             long = rw h₄ (o .main .long);
             has = rw h₄ (o .main .has);
-            head = ap decodeHeader (part-same (e .main .area) (d .main .area) (d .main .len) 0 4096 h₅ (o .main .long)) ∙ o .main .head;
+            head = ap decodeHeader (part-same (e .main .area) (d .main .area) (d .main .len) 0 pageSize h₅ (o .main .long)) ∙ o .main .head;
           };
       book = book-over (o .book) (o .book .top) (λ n n1 n2. rw (main-same mh (e .main .area) (d .main .area) (d .main .len) n h₅ (o .main .has)) (o .book .pages n n1 n2));
     }
@@ -133,11 +134,37 @@ re-book o c e₁ e₂ e₃ =
 
 -- ---- the areas lent
 
-pub record Areas (lent : Lent) (d : Disk) : Type 0 where
-  pub table : length (lent .table) ≡ 1024
-  pub staging : length (lent .staging) ≡ 262144
-  pub log : length (laid lent d .log .area) ≡ 4210720
-  pub main : length (laid lent d .main .area) ≡ 4194304
+-- what refusal 1 asks of areas and of the lengths of the files in them
+pub fine-sized : (a : Lent) (l m : ℕ) → lengthsFine (length (a .table)) (length (a .log)) l (length (a .main)) m (length (a .staging)) ≡ true → Sized a
+fine-sized a l m e =
+    let x = both-true (eqb (length (a .table)) pageLimit) _ e in
+    let y = both-true (inArea walArea (length (a .log)) l) _ (x .1) in
+    let z = both-true (inArea mainArea (length (a .main)) m) (eqb (length (a .staging)) stagingArea) (y .1) in
+    record {
+      table = eqb-true _ _ (x .0);
+      staging = eqb-true _ _ (z .1);
+      log = eqb-true _ _ (both-true (eqb (length (a .log)) walArea) (leb l walArea) (y .0) .0);
+      main = eqb-true _ _ (both-true (eqb (length (a .main)) mainArea) (leb m mainArea) (z .0) .0);
+    }
+
+pub sized-fine : (a : Lent) (l m : ℕ) → Sized a → l ≤ walArea → m ≤ mainArea
+    → lengthsFine (length (a .table)) (length (a .log)) l (length (a .main)) m (length (a .staging)) ≡ true
+sized-fine a l m s h k =
+    rw (
+      eq-eqb (length (a .table)) pageLimit (s .table),
+      eq-eqb (length (a .log)) walArea (s .log),
+      le-leb l walArea h,
+      eq-eqb (length (a .main)) mainArea (s .main),
+      le-leb m mainArea k,
+      eq-eqb (length (a .staging)) stagingArea (s .staging),
+    )
+
+-- the areas with both files read into them
+abbrev pub laidAreas : Lent → Disk → Lent
+laidAreas lent d = record { table = lent .table; staging = lent .staging; log = laid lent d .log .area; main = laid lent d .main .area }
+
+abbrev pub Areas : Lent → Disk → Type 0
+Areas lent d = Sized (laidAreas lent d)
 
 pub laid-content : (f : File) (a : List ℕ) → f .len ≤ length (f .area) → content (laidIn a f) ≡ content f
 laid-content f a h = take-at (content f) (drop (f .len) a) (f .len) (length-content f h)
@@ -154,8 +181,8 @@ module _ {d : Disk} {b : Book} {l : WalHeader} {S P : List (List ℕ)} {t : List
       record {
         table = s .table;
         staging = s .staging;
-        log = laid-long (d .log) (lent .log) 4210720 (log-inside o) (o .log .fits) (s .log);
-        main = laid-long (d .main) (lent .main) 4194304 main-inside (o .main .fits) (s .main);
+        log = laid-long (d .log) (lent .log) walArea (log-inside o) (o .log .fits) (s .log);
+        main = laid-long (d .main) (lent .main) mainArea main-inside (o .main .fits) (s .main);
       }
 
   pub laid-on : (lent : Lent) → Areas lent d → OnDisk (laid lent d) b l S P t mh
@@ -164,19 +191,7 @@ module _ {d : Disk} {b : Book} {l : WalHeader} {S P : List (List ℕ)} {t : List
       (laid-content (d .main) (lent .main) main-inside) (a .main)
 
 pub fine-areas : (lent : Lent) (d : Disk) → openFine (lent .table) (laid lent d) (lent .staging) ≡ true → Areas lent d
-fine-areas lent d e =
-    let x : Disk = laid lent d in
-    let a = both-true (eqb (length (lent .table)) 1024) _ e in
-    let b = both-true (both (eqb (length (x .log .area)) 4210720) (leb (x .log .len) 4210720)) _ (a .1) in
-    let c = both-true (eqb (length (x .log .area)) 4210720) (leb (x .log .len) 4210720) (b .0) in
-    let f = both-true (both (eqb (length (x .main .area)) 4194304) (leb (x .main .len) 4194304)) _ (b .1) in
-    let h = both-true (eqb (length (x .main .area)) 4194304) (leb (x .main .len) 4194304) (f .0) in
-    record {
-      table = eqb-true _ _ (a .0);
-      staging = eqb-true _ _ (f .1);
-      log = eqb-true _ _ (c .0);
-      main = eqb-true _ _ (h .0);
-    }
+fine-areas lent d e = fine-sized (laidAreas lent d) (laid lent d .log .len) (laid lent d .main .len) e
 
 -- ---- fronts of good frames
 
@@ -189,10 +204,10 @@ good-left salt (f ∷ fs) gs e =
 
 -- ---- what the opening finds and answers
 
-header-inside : (l : List ℕ) → headerIn (take 4096 l) ≡ headerIn l
+header-inside : (l : List ℕ) → headerIn (take pageSize l) ≡ headerIn l
 unfolding headerIn
 header-inside l =
-    let f : (w k : ℕ) → k + w ≤ 4096 → field w k (take 4096 l) ≡ field w k l = λ w k h. rw zero-add at (field-part w k 4096 0 l h) in
+    let f : (w k : ℕ) → k + w ≤ pageSize → field w k (take pageSize l) ≡ field w k l = λ w k h. rw zero-add at (field-part w k pageSize 0 l h) in
     rw (f 4 20 (omega arith), f 4 24 (omega arith), f 2 16 (omega arith), f 4 28 (omega arith))
 
 module _ {x : Disk} {b : Book} {l : WalHeader} {S P : List (List ℕ)} {t : List ℕ} {mh : DbHeader} (o : OnDisk x b l S P t mh) where
@@ -211,7 +226,7 @@ module _ {x : Disk} {b : Book} {l : WalHeader} {S P : List (List ℕ)} {t : List
   pub point-is : commitPoint (recovered (content (x .log))) ≡ chunkAt (length S)
   point-is = ap (λ (fs : List (List ℕ)). chunkAt (length fs)) (sealed-is o)
 
-  long-enough : 32 ≤ length (content (x .log))
+  long-enough : headerSize ≤ length (content (x .log))
   long-enough = omega (arith, length-content (x .log) (log-inside o), log-len o)
 
   pub open-len : openLog .len ≡ chunkAt (length S)
@@ -224,7 +239,7 @@ module _ {x : Disk} {b : Book} {l : WalHeader} {S P : List (List ℕ)} {t : List
 
   main-is : mainHeader (x .main) ≡ main.Header mh
   unfolding mainHeader
-  main-is = rw (le-leb 4096 (x .main .len) (o .main .long)) (o .main .head)
+  main-is = rw (le-leb pageSize (x .main .len) (o .main .long)) (o .main .head)
 
   found-frames : (m : AccessMode) → foundBy (cleanly m) (x .log) .frames ≡ S
   unfolding foundBy foundIn keptOf
@@ -249,36 +264,30 @@ module _ {x : Disk} {b : Book} {l : WalHeader} {S P : List (List ℕ)} {t : List
   unfolding judged
   judged-is m = rw (log-decodes, header-by m)
 
-  module _ (T G : List ℕ) (tl : length T ≡ 1024) (gl : length G ≡ 262144) where
+  module _ (T G : List ℕ) (tl : length T ≡ pageLimit) (gl : length G ≡ stagingArea) where
     fine-is : openFine T x G ≡ true
     fine-is =
-        rw (
-          eq-eqb (length T) 1024 tl,
-          eq-eqb (length (x .log .area)) 4210720 (o .log .area),
-          le-leb (x .log .len) 4210720 (o .log .fits),
-          eq-eqb (length (x .main .area)) 4194304 (o .main .area),
-          le-leb (x .main .len) 4194304 (o .main .fits),
-          eq-eqb (length G) 262144 gl,
-        )
+        sized-fine (record { table = T; staging = G; log = x .log .area; main = x .main .area }) (x .log .len) (x .main .len)
+        (record { table = tl; staging = gl; log = o .log .area; main = o .main .area }) (o .log .fits) (o .main .fits)
 
     opening-is : (m : AccessMode) → openPager (cleanly m) T x G ≡ openedAs (cleanly m) x mh (foundBy (cleanly m) (x .log)) (b .header)
     unfolding openPager
-    opening-is m = rw (fine-is, main-is, le-leb (4096 * countOf mh) (x .main .len) (o .main .has)) (judged-is m)
+    opening-is m = rw (fine-is, main-is, le-leb (pageSize * countOf mh) (x .main .len) (o .main .has)) (judged-is m)
 
     -- read-write it is not refused
     pub opens : openPager (cleanly mode.ReadWrite) T x G ≡ opened.Opened openStore
     unfolding openedAs
     opens =
         opening-is mode.ReadWrite
-        ∙ rw (le-leb (countOf (b .header)) 1024 (o .book .most), found-log mode.ReadWrite, found-frames mode.ReadWrite)
+        ∙ rw (le-leb (countOf (b .header)) pageLimit (o .book .most), found-log mode.ReadWrite, found-frames mode.ReadWrite)
 
     -- read-only it is (10)
     pub refuses : openRefusal (openPager (cleanly mode.ReadOnly) T x G) ≡ 10
     unfolding openedAs
-    refuses = rw (opening-is mode.ReadOnly, le-leb (countOf (b .header)) 1024 (o .book .most))
+    refuses = rw (opening-is mode.ReadOnly, le-leb (countOf (b .header)) pageLimit (o .book .most))
 
     own-header : headerIn (x .main .area) ≡ mh
-    own-header = sym (header-inside (x .main .area)) ∙ decoded-as (take 4096 (x .main .area)) mh (o .main .head) .fields
+    own-header = sym (header-inside (x .main .area)) ∙ decoded-as (take pageSize (x .main .area)) mh (o .main .head) .fields
 
     pub table-is : openTable (cleanly mode.ReadWrite) T x G ≡ tableOf mh S
     unfolding openTable
@@ -345,14 +354,14 @@ unfolding tabulate
 length-tabulate g i zero = refl
 length-tabulate g i (suc k) = ap suc (length-tabulate g (suc i) k)
 
-pub table-long : (h : DbHeader) (fs : List (List ℕ)) → length (tableOf h fs) ≡ 1024
+pub table-long : (h : DbHeader) (fs : List (List ℕ)) → length (tableOf h fs) ≡ pageLimit
 unfolding tableOf
-table-long h fs = length-tabulate _ 0 1024
+table-long h fs = length-tabulate _ 0 pageLimit
 
-pub table-at : (h : DbHeader) (fs : List (List ℕ)) (n : ℕ) → n < 1024 → getD (tableOf h fs) n 0 ≡ entry (placeFrom n 0 fs) (hasPage h n)
+pub table-at : (h : DbHeader) (fs : List (List ℕ)) (n : ℕ) → n < pageLimit → getD (tableOf h fs) n 0 ≡ entry (placeFrom n 0 fs) (hasPage h n)
 unfolding tableOf
 table-at h fs n k =
-    tabulate-at (λ (m : ℕ). entry (placeFrom m 0 fs) (hasPage h m)) 0 1024 n k
+    tabulate-at (λ (m : ℕ). entry (placeFrom m 0 fs) (hasPage h m)) 0 pageLimit n k
     ∙ ap (λ (m : ℕ). entry (placeFrom m 0 fs) (hasPage h m)) (zero-add n)
 
 pub empty-slots : Slots emptyStaged
@@ -365,7 +374,7 @@ empty-none n = refl
 
 -- a store with nothing staged and nothing part done, whose files are these
 pub rests : (x : Disk) (b : Book) (l : WalHeader) (S : List (List ℕ)) (mh own : DbHeader) (v : Wal) (end : ℕ) (G : List ℕ)
-    → OnDisk x b l S [] [] mh → v .len ≡ x .log .len → v .header .salt ≡ l .salt → v .header .«clock_high_water» < 2 ^ 64 → length G ≡ 262144
+    → OnDisk x b l S [] [] mh → v .len ≡ x .log .len → v .header .salt ≡ l .salt → v .header .«clock_high_water» < 2 ^ 64 → length G ≡ stagingArea
     → ((n : ℕ) → b .staged n ≡ none) → b .waiting ≡ []
     → Resting (world (opensAs (b .header) own (x .main .len) v end opening.Clean) (tableOf mh S) (x .log .area) (x .main .area)) G b l S [] mh
 unfolding opensAs batchesIn

@@ -10,9 +10,10 @@ use lib.ListN.{length, take, drop, getD, length-take, length-drop, drop-of-lengt
 use lib.Seq.{take-take}
 use Rattle.le.specs.Choice.{pick}
 use Rattle.le.proofs.Fields.{part-part}
-use Rattle.frame.specs.Frame.{frameAt, bodyOf}
+use Rattle.frame.specs.Frame.{frameSize, frameAt, bodyOf}
 use Rattle.frame.proofs.Places.{body-there}
-use Rattle.wal.specs.Recovery.{chunks, chunkAt, isBatch, batchesIn}
+use Rattle.wal.specs.Header.{headerSize}
+use Rattle.wal.specs.Recovery.{chunks, chunkAt, isBatch, batchesIn, walArea}
 use Rattle.wal.specs.Read.{batchFrom, nextBatch}
 use Rattle.wal.specs.declared.WalHeader.{WalHeader}
 use Rattle.wal.specs.declared.BatchFound.{BatchFound}
@@ -23,7 +24,7 @@ use Rattle.wal.proofs.Reading.{Walked, batches-walked}
 use Rattle.pager_state.specs.World.{World, world, logFine, busy}
 use Rattle.pager_state.specs.Overlay.{pageFrom}
 use Rattle.pager_state.specs.Opening.{tableOf, opensAs, openRefusal}
-use Rattle.pager_state.specs.Batches.{nextRecovered, recoveredAs}
+use Rattle.pager_state.specs.Batches.{recoveredAs, recoveredRefusal, nextRecovered}
 use Rattle.pager_state.specs.Stores.{Disk, content}
 use Rattle.pager_state.specs.declared.AccessMode.the-variants as mode
 use Rattle.history.specs.Book.{Book, Batch, batchIn, bookOpen, tells}
@@ -64,18 +65,18 @@ within-more e n (batch.Batch j at) h w = omega arith
 within-more e n batch.Nothing h w = tt
 
 module _ (w : World) (S : List (List ℕ)) (fine : logFine (w .pager .wal .len) (w .log) ≡ true) (idle : busy (w .pager) ≡ false)
-    (end : w .pager .recovered ≡ chunkAt (length S)) (front : chunks (take (chunkAt (length S)) (w .log)) ≡ S) (long : 32 + 4112 * length S ≤ length (w .log)) where
+    (end : w .pager .recovered ≡ chunkAt (length S)) (front : chunks (take (chunkAt (length S)) (w .log)) ≡ S) (long : headerSize + frameSize * length S ≤ length (w .log)) where
   next-is : (i : ℕ) → nextRecovered (w .pager) (w .log) i ≡ recoveredAs (batchFrom i (drop i S))
-  unfolding nextRecovered nextBatch
+  unfolding nextRecovered recoveredRefusal nextBatch
   next-is i = rw (fine, idle, end, front)
 
   body-is : (j : ℕ) → j < length S → pageFrom (chunkAt j + 16) (w .log) ≡ bodyOf (getD S j [])
   body-is j h =
-      let n : length (take (chunkAt (length S)) (w .log)) ≡ 32 + 4112 * length S = length-take (chunkAt (length S)) (w .log) ∙ omega arith in
+      let n : length (take (chunkAt (length S)) (w .log)) ≡ headerSize + frameSize * length S = length-take (chunkAt (length S)) (w .log) ∙ omega arith in
       let g : getD (chunks (take (chunkAt (length S)) (w .log))) j [] ≡ frameAt (chunkAt j) (take (chunkAt (length S)) (w .log)) =
       get-chunk j (take (chunkAt (length S)) (w .log)) (omega arith) in
       let f : frameAt (chunkAt j) (take (chunkAt (length S)) (w .log)) ≡ frameAt (chunkAt j) (w .log) =
-      rw zero-add at (part-part 4112 (chunkAt j) (chunkAt (length S)) 0 (w .log) (omega arith)) in
+      rw zero-add at (part-part frameSize (chunkAt j) (chunkAt (length S)) 0 (w .log) (omega arith)) in
       let e : getD S j [] ≡ frameAt (chunkAt j) (w .log) = rw front at (g ∙ f) in
       sym (rw e (body-there (chunkAt j) (w .log)))
 
@@ -132,10 +133,10 @@ module _ {d : Disk} {b : Book} {z : List ℕ} (k : DiskOk d b z) (lent : Lent) (
   returned : walked 1025 opensTo 0 ≡ b .sealed
   unfolding opensAs
   returned =
-      let len : openLog on .len ≤ 4210720 = rw (open-len on) (omega (arith, sealed-len on, on .log .fits)) in
+      let len : openLog on .len ≤ walArea = rw (open-len on) (omega (arith, sealed-len on, on .log .fits)) in
       let fine : logFine (openLog on .len) (laid lent d .log .area) ≡ true =
-      rw (eq-eqb (length (laid lent d .log .area)) 4210720 (on .log .area), le-leb (openLog on .len) 4210720 len) in
-      let few : 32 + 4112 * length (k .S) ≤ 4210720 = omega (arith, sealed-len on, on .log .fits) in
+      rw (eq-eqb (length (laid lent d .log .area)) walArea (on .log .area), le-leb (openLog on .len) walArea len) in
+      let few : headerSize + frameSize * length (k .S) ≤ walArea = omega (arith, sealed-len on, on .log .fits) in
       let front : chunks (take (chunkAt (length (k .S))) (laid lent d .log .area)) ≡ k .S =
       ap chunks (sym (take-take (chunkAt (length (k .S))) (d .log .len) (laid lent d .log .area) (sealed-len on)) ∙ ap (λ (m : ℕ). take m (content (laid lent d .log))) (sym (point-is on)))
       ∙ committed-sealed (content (laid lent d .log)) ∙ sealed-is on in

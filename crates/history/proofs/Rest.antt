@@ -11,12 +11,17 @@ use lib.Dec.{leb, eqb}
 use lib.ListN.{length, drop, getD}
 use Rattle.le.specs.Choice.{pick}
 use Rattle.le.proofs.Tests.{le-or-lt}
+use Rattle.page.specs.Page.{pageSize}
+use Rattle.refusal.specs.Refusal.{numberOf, answered}
+use Rattle.refusal.specs.declared.Refusal.{Refusal}
 use Rattle.header.specs.declared.DbHeader.{DbHeader}
 use Rattle.header.proofs.RoundTrip.{Plain}
+use Rattle.frame.specs.Frame.{frameSize}
+use Rattle.wal.specs.Recovery.{walArea}
 use Rattle.wal.specs.declared.WalHeader.{WalHeader}
 use Rattle.wal.proofs.Laid.{joined}
-use Rattle.pager_state.specs.World.{World, countOf, headerOf, fine, busy, busyWith}
-use Rattle.pager_state.specs.Overlay.{pageFrom, isStaged, stagedBytes, frameOf, inLog, onMain, entry, logAt, logBytes, committedBytes, below, overlay, findPage, findRefusal}
+use Rattle.pager_state.specs.World.{World, mainArea, stagingArea, pageLimit, countOf, headerOf, fine, busyWith, busy}
+use Rattle.pager_state.specs.Overlay.{pageFrom, isStaged, stagedAt, stagedBytes, frameOf, inLog, onMain, entry, logAt, mainAt, logBytes, committedIn, committedBytes, below, placePage, overlay, readRefusal, findPage, findRefusal}
 use Rattle.pager_state.specs.Queries.{header}
 use Rattle.pager_state.specs.Opening.{placeFrom, hasPage}
 use Rattle.pager_state.specs.Pages.{pagesFrom, differs}
@@ -28,6 +33,8 @@ use Rattle.pager_state.specs.declared.Job.the-variants as job
 use Rattle.pager_state.specs.declared.Opening.the-variants as opening
 use Rattle.pager_state.specs.declared.PageFound.the-variants as found
 use Rattle.pager_state.specs.declared.HeaderRead.the-variants as head
+use Rattle.pager_state.specs.declared.Staged.{Staged}
+use Rattle.pager_state.specs.declared.PageFound.{PageFound}
 use Rattle.history.specs.Book.{Book, bookRead, orElse}
 use Rattle.history.specs.Run.{Run}
 use Rattle.history.specs.Demand3.{readingAt, Same}
@@ -39,8 +46,8 @@ use Rattle.history.proofs.Disk.{mainPage, viewOf, OnDisk, DiskOk, all-l
 
 pub record Held (w : World) (g : List ℕ) (b : Book) (l : WalHeader) (S P : List (List ℕ)) (mh : DbHeader) : Type 0 where
   pub on : OnDisk (diskOf w) b l S P [] mh
-  pub tableLong : length (w .table) ≡ 1024
-  pub stagingLong : length g ≡ 262144
+  pub tableLong : length (w .table) ≡ pageLimit
+  pub stagingLong : length g ≡ stagingArea
   pub salt : w .pager .wal .header .salt ≡ l .salt
   pub clock : w .pager .wal .header .«clock_high_water» < 2 ^ 64
   pub header : headerOf (w .pager) ≡ b .header
@@ -51,15 +58,15 @@ pub record Held (w : World) (g : List ℕ) (b : Book) (l : WalHeader) (S P : Lis
 
 -- the page table: the last frames of the log, and the main file's pages
 abbrev pub Tabled : World → List (List ℕ) → DbHeader → Type 0
-Tabled w fs mh = (n : ℕ) → n < 1024 → getD (w .table) n 0 ≡ entry (placeFrom n 0 fs) (hasPage mh n)
+Tabled w fs mh = (n : ℕ) → n < pageLimit → getD (w .table) n 0 ≡ entry (placeFrom n 0 fs) (hasPage mh n)
 
 -- no page's frame is among these
 abbrev pub Loose : List (List ℕ) → Type 0
-Loose P = (n : ℕ) → n < 1024 → lastIn n P ≡ none
+Loose P = (n : ℕ) → n < pageLimit → lastIn n P ≡ none
 
 -- the log's page, else the main file's, by the table
 abbrev pub worldPage : World → ℕ → Option (List ℕ)
-worldPage w n = pick (inLog (w .table) n) (some (logBytes (w .table) (w .log) n)) (pick (onMain (w .table) n) (some (pageFrom (4096 * n) (w .main))) none)
+worldPage w n = pick (inLog (w .table) n) (some (logBytes (w .table) (w .log) n)) (pick (onMain (w .table) n) (some (pageFrom (pageSize * n) (w .main))) none)
 
 -- ---- what is part done
 
@@ -75,12 +82,12 @@ pub record Committing (h : DbHeader) (salt p : ℕ) (w : World) (g : List ℕ) (
   pub given : b .given ≡ h
   pub plain : Plain h
   pub least : 1 ≤ countOf h
-  pub most : countOf h ≤ 1024
+  pub most : countOf h ≤ pageLimit
   pub fits : salt < 2 ^ 32
-  pub unstaged : (n : ℕ) → n < 1024 → isStaged (w .pager .staged) n ≡ false → lastIn n P ≡ none
-  pub done : (n : ℕ) → n < 1024 → n < p → isStaged (w .pager .staged) n ≡ true → worldPage w n ≡ some (stagedBytes (w .pager .staged) g n)
+  pub unstaged : (n : ℕ) → n < pageLimit → isStaged (w .pager .staged) n ≡ false → lastIn n P ≡ none
+  pub done : (n : ℕ) → n < pageLimit → n < p → isStaged (w .pager .staged) n ≡ true → worldPage w n ≡ some (stagedBytes (w .pager .staged) g n)
   pub joins : (n : ℕ) → 1 ≤ n → countOf (b .header) ≤ n → n < countOf h → isStaged (w .pager .staged) n ≡ true
-  pub room : w .pager .wal .len + 4112 * (length (pagesFrom (differs g w) p) + 1) ≤ 4210720
+  pub room : w .pager .wal .len + frameSize * (length (pagesFrom (differs g w) p) + 1) ≤ walArea
 
 -- a fold that has looked at the pages below p: those that the log has stand in the main file
 pub record Folding (salt p : ℕ) (w : World) (g : List ℕ) (b : Book) (l : WalHeader) (S P : List (List ℕ)) (mh : DbHeader) : Type 0 where
@@ -89,13 +96,13 @@ pub record Folding (salt p : ℕ) (w : World) (g : List ℕ) (b : Book) (l : Wal
   pub loose : Loose P
   pub fits : salt < 2 ^ 32
   pub stored : (n : ℕ) (x : List ℕ) → 1 ≤ n → n < p → n < countOf (b .header) → lastIn n S ≡ some x
-      → (pageFrom (4096 * n) (w .main) ≡ x) × (4096 * suc n ≤ w .pager .storage .len)
+      → (pageFrom (pageSize * n) (w .main) ≡ x) × (pageSize * suc n ≤ w .pager .storage .len)
 
 -- the main file alone has every page, with the header that counts
 pub record Flattened (salt : ℕ) (w : World) (g : List ℕ) (b : Book) (l : WalHeader) (S P : List (List ℕ)) (mh : DbHeader) : Type 0 where
   pub held : Held w g b l S P mh
   pub own : mh ≡ b .header
-  pub flat : (n : ℕ) → 1 ≤ n → n < countOf (b .header) → b .pages n ≡ some (pageFrom (4096 * n) (w .main))
+  pub flat : (n : ℕ) → 1 ≤ n → n < countOf (b .header) → b .pages n ≡ some (pageFrom (pageSize * n) (w .main))
   pub full : (n : ℕ) → 1 ≤ n → n < countOf (b .header) → getD (w .table) n 0 ≡ 0 → ⊥
   pub fits : salt < 2 ^ 32
 
@@ -167,18 +174,18 @@ module _ {w : World} {g : List ℕ} {b : Book} {l : WalHeader} {S P : List (List
   unfolding fine
   held-fine =
       let o = k .on in
-      let c : countOf (headerOf (w .pager)) ≤ 1024 = rw (k .header) (o .book .most) in
+      let c : countOf (headerOf (w .pager)) ≤ pageLimit = rw (k .header) (o .book .most) in
       rw (
-        eq-eqb (length (w .table)) 1024 (k .tableLong),
-        eq-eqb (length (w .log)) 4210720 (o .log .area),
-        le-leb (w .pager .wal .len) 4210720 (o .log .fits),
-        eq-eqb (length (w .main)) 4194304 (o .main .area),
-        le-leb (w .pager .storage .len) 4194304 (o .main .fits),
-        le-leb (countOf (headerOf (w .pager))) 1024 c,
+        eq-eqb (length (w .table)) pageLimit (k .tableLong),
+        eq-eqb (length (w .log)) walArea (o .log .area),
+        le-leb (w .pager .wal .len) walArea (o .log .fits),
+        eq-eqb (length (w .main)) mainArea (o .main .area),
+        le-leb (w .pager .storage .len) mainArea (o .main .fits),
+        le-leb (countOf (headerOf (w .pager))) pageLimit c,
       )
 
   pub step-fine : stepFine g w ≡ true
-  step-fine = rw (held-fine, eq-eqb (length g) 262144 (k .stagingLong))
+  step-fine = rw (held-fine, eq-eqb (length g) stagingArea (k .stagingLong))
 
 -- ---- entries of the table
 
@@ -200,10 +207,10 @@ log-page l p y true e = refl
 log-page l p y false e = refl
 
 module _ {w : World} {g : List ℕ} {b : Book} {l : WalHeader} {S P : List (List ℕ)} {mh : DbHeader} (k : Held w g b l S P mh) (t : Tabled w (S ++ P) mh) where
-  pub in-log : (n : ℕ) → n < 1024 → bodyAt (w .log) (placeFrom n 0 (S ++ P)) ≡ lastIn n (S ++ P)
+  pub in-log : (n : ℕ) → n < pageLimit → bodyAt (w .log) (placeFrom n 0 (S ++ P)) ≡ lastIn n (S ++ P)
   in-log n h = body-last (w .log) n 0 (drop (w .pager .wal .len) (w .log)) (k .on .log .whole) (all-lie (k .on))
 
-  pub page-view : (n : ℕ) → n < 1024 → worldPage w n ≡ viewOf (S ++ P) mh (w .main) n
+  pub page-view : (n : ℕ) → n < pageLimit → worldPage w n ≡ viewOf (S ++ P) mh (w .main) n
   unfolding inLog logBytes
   page-view n h =
       let p : ℕ = placeFrom n 0 (S ++ P) in
@@ -213,7 +220,7 @@ module _ {w : World} {g : List ℕ} {b : Book} {l : WalHeader} {S P : List (List
       ∙ ap (λ (x : Option (List ℕ)). orElse x (mainPage mh (w .main) n)) (in-log n h))
 
   -- the log has the page, or has it not
-  pub log-has : (n : ℕ) → n < 1024 → inLog (w .table) n ≡ true → lastIn n (S ++ P) ≡ some (logBytes (w .table) (w .log) n)
+  pub log-has : (n : ℕ) → n < pageLimit → inLog (w .table) n ≡ true → lastIn n (S ++ P) ≡ some (logBytes (w .table) (w .log) n)
   unfolding inLog logBytes
   log-has n h e =
       let p : ℕ = placeFrom n 0 (S ++ P) in
@@ -221,7 +228,7 @@ module _ {w : World} {g : List ℕ} {b : Book} {l : WalHeader} {S P : List (List
       let z : eqb p 0 ≡ false = not-true (eqb p 0) (rw f at e) in
       sym (in-log n h) ∙ rw (f, z)
 
-  pub log-lacks : (n : ℕ) → n < 1024 → inLog (w .table) n ≡ false → lastIn n (S ++ P) ≡ none
+  pub log-lacks : (n : ℕ) → n < pageLimit → inLog (w .table) n ≡ false → lastIn n (S ++ P) ≡ none
   unfolding inLog
   log-lacks n h e =
       let p : ℕ = placeFrom n 0 (S ++ P) in
@@ -230,15 +237,15 @@ module _ {w : World} {g : List ℕ} {b : Book} {l : WalHeader} {S P : List (List
       sym (in-log n h) ∙ rw z
 
   -- where no frame of the page waits, it is the sealed frames'
-  pub page-sealed : (n : ℕ) → n < 1024 → lastIn n P ≡ none → worldPage w n ≡ viewOf S mh (w .main) n
+  pub page-sealed : (n : ℕ) → n < pageLimit → lastIn n P ≡ none → worldPage w n ≡ viewOf S mh (w .main) n
   page-sealed n h e = page-view n h ∙ rw (last-append n S P, e)
 
 pub committed-bytes : (w : World) (n : ℕ) → committedBytes w n ≡ orGive (worldPage w n) []
-unfolding committedBytes
+unfolding committedIn
 committed-bytes w n = go (inLog (w .table) n) (onMain (w .table) n)
   where
-    go : (i m : Bool) → pick i (logBytes (w .table) (w .log) n) (pick m (pageFrom (4096 * n) (w .main)) [])
-        ≡ orGive (pick i (some (logBytes (w .table) (w .log) n)) (pick m (some (pageFrom (4096 * n) (w .main))) none)) []
+    go : (i m : Bool) → pick i (logBytes (w .table) (w .log) n) (pick m (pageFrom (pageSize * n) (w .main)) [])
+        ≡ orGive (pick i (some (logBytes (w .table) (w .log) n)) (pick m (some (pageFrom (pageSize * n) (w .main))) none)) []
     go true m = refl
     go false true = refl
     go false false = refl
@@ -246,31 +253,44 @@ committed-bytes w n = go (inLog (w .table) n) (onMain (w .table) n)
 -- ---- reads at rest
 
 reading-below : (w : World) (g : List ℕ) (n : ℕ) (i m : Bool)
-    → readingAt w g (pick i (found.Log (logAt (w .table) n)) (pick m (found.Main (4096 * n)) found.Nothing))
-    ≡ pick i (some (logBytes (w .table) (w .log) n)) (pick m (some (pageFrom (4096 * n) (w .main))) none)
+    → readingAt w g (pick i (found.Log (logAt (w .table) n)) (pick m (found.Main (pageSize * n)) found.Nothing))
+    ≡ pick i (some (logBytes (w .table) (w .log) n)) (pick m (some (pageFrom (pageSize * n) (w .main))) none)
 unfolding logBytes
 reading-below w g n true m = refl
 reading-below w g n false true = refl
 reading-below w g n false false = refl
 
-refusal-below : (w : World) (n : ℕ) (c i m : Bool)
-    → findRefusal (pick c found.Nothing (pick i (found.Log (logAt (w .table) n)) (pick m (found.Main (4096 * n)) found.Nothing))) ≡ 0
-refusal-below w n true i m = refl
-refusal-below w n false true m = refl
-refusal-below w n false false true = refl
-refusal-below w n false false false = refl
+-- what is found is numbered as the reading's refusal
+place-number : (count : ℕ) (s : Staged) (t : List ℕ) (n : ℕ) → findRefusal (placePage count s t n) ≡ 0
+unfolding placePage below
+place-number count s t n = go (isStaged s n) (leb count n) (inLog t n) (onMain t n)
+  where
+    go : (a c i m : Bool)
+        → findRefusal (pick a (found.Staged (stagedAt s n)) (pick c found.Nothing (pick i (found.Log (logAt t n)) (pick m (found.Main (mainAt n)) found.Nothing)))) ≡ 0
+    go true c i m = refl
+    go false true i m = refl
+    go false false true m = refl
+    go false false false true = refl
+    go false false false false = refl
+
+answer-number : (v : Option Refusal) (f : PageFound) → findRefusal f ≡ 0 → findRefusal (answered found.Refused f v) ≡ numberOf v
+answer-number none f e = e
+answer-number (some r) f e = refl
+
+pub find-number : (w : World) (g : List ℕ) (n : ℕ) → findRefusal (findPage w g n) ≡ numberOf (readRefusal w g)
+unfolding findPage
+find-number w g n =
+    answer-number (readRefusal w g) (overlay (w .pager) (w .table) n) (place-number (countOf (headerOf (w .pager))) (w .pager .staged) (w .table) n)
 
 module _ (r : Run) (l : WalHeader) (S P : List (List ℕ)) (mh : DbHeader) (k : Resting (r .world) (r .staging) (r .book) l S P mh)
     (idle : busy (r .world .pager) ≡ false) where
+  read-none : readRefusal (r .world) (r .staging) ≡ none
+  unfolding readRefusal
+  read-none = rw (held-fine (k .held), eq-eqb (length (r .staging)) stagingArea (k .held .stagingLong), idle)
+
   find-is : (n : ℕ) → findPage (r .world) (r .staging) n ≡ overlay (r .world .pager) (r .world .table) n
   unfolding findPage
-  find-is n = rw (held-fine (k .held), eq-eqb (length (r .staging)) 262144 (k .held .stagingLong), idle)
-
-  refusal-is : (n : ℕ) (t : Bool) → isStaged (r .world .pager .staged) n ≡ t → findRefusal (overlay (r .world .pager) (r .world .table) n) ≡ 0
-  unfolding overlay below
-  refusal-is n true e = rw e
-  refusal-is n false e =
-      rw e (refusal-below (r .world) n (leb (countOf (headerOf (r .world .pager))) n) (inLog (r .world .table) n) (onMain (r .world .table) n))
+  find-is n = rw read-none
 
   book-staged : (n : ℕ) (t : Bool) → isStaged (r .world .pager .staged) n ≡ t
       → r .book .staged n ≡ pick t (some (stagedBytes (r .world .pager .staged) (r .staging) n)) none
@@ -280,7 +300,7 @@ module _ (r : Run) (l : WalHeader) (S P : List (List ℕ)) (mh : DbHeader) (k : 
       → readingAt (r .world) (r .staging) (below (countOf (headerOf (r .world .pager))) (r .world .table) n) ≡ r .book .pages n
   unfolding below
   below-is n h (inl c) =
-      let hn : n < 1024 = omega (arith, k .held .on .book .most) in
+      let hn : n < pageLimit = omega (arith, k .held .on .book .most) in
       ap (λ (c : ℕ). readingAt (r .world) (r .staging) (below c (r .world .table) n)) (ap countOf (k .held .header))
       ∙ rw (lt-leb (countOf (r .book .header)) n c)
       (reading-below (r .world) (r .staging) n (inLog (r .world .table) n) (onMain (r .world .table) n)
@@ -292,7 +312,7 @@ module _ (r : Run) (l : WalHeader) (S P : List (List ℕ)) (mh : DbHeader) (k : 
 
   page-is : (n : ℕ) → 1 ≤ n → (t : Bool) → isStaged (r .world .pager .staged) n ≡ t
       → readingAt (r .world) (r .staging) (overlay (r .world .pager) (r .world .table) n) ≡ bookRead (r .book) n
-  unfolding overlay bookRead stagedBytes
+  unfolding placePage bookRead stagedBytes
   page-is n h true e = rw (e, book-staged n true e)
   page-is n h false e = rw (e, book-staged n false e) (below-is n h (le-or-lt (suc n) (countOf (r .book .header))))
 
@@ -301,7 +321,7 @@ module _ (r : Run) (l : WalHeader) (S P : List (List ℕ)) (mh : DbHeader) (k : 
   same-at-rest =
       record {
         sameHeader = rw idle (ap head.Header (k .held .header));
-        answered = λ n. rw (find-is n) (refusal-is n (isStaged (r .world .pager .staged) n) refl);
+        answered = λ n. find-number (r .world) (r .staging) n ∙ ap numberOf read-none;
         samePage = λ n h. rw (find-is n) (page-is n h (isStaged (r .world .pager .staged) n) refl);
       }
 

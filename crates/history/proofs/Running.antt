@@ -1,33 +1,32 @@
 -- Steps run to the end, cut anywhere. Assumes nothing.
 use mathlib.Core.Path.{_≡_, refl, sym, ap, _∙_, subst}
 use mathlib.Core.Bool.{Bool, true, false}
-use mathlib.Core.List.{List, [], _∷_, append-nil}
+use mathlib.Core.List.{List, [], _∷_}
 use mathlib.Core.Logic.{_⊎_, inl, inr}
 use Prim.Native.Nat.{ℕ, zero, suc, _+_, min, _≤_, _<_}
 use native.Mathlib.Omega.{arith}
 use borrow.Author.Tests.{le-leb, lt-leb, le-ltb}
-use lib.Dec.{leb}
 use lib.ListN.{length}
 use lib.Seq.{take-length}
 use Rattle.le.specs.Choice.{pick}
 use Rattle.le.proofs.Tests.{le-or-lt}
 use Rattle.header.specs.declared.DbHeader.{DbHeader}
-use Rattle.wal.specs.Write.{withFrame}
-use Rattle.pager_state.specs.World.{World, countOf, busyWith}
+use Rattle.wal.specs.Header.{headerSize}
+use Rattle.pager_state.specs.World.{World, busyWith}
 use Rattle.pager_state.specs.Pages.{pagesFrom, differs, folds}
 use Rattle.pager_state.specs.Stores.{Disk, File, diskOf, Act, Put, SetLen, kindOf, stored, cutStore, sizeOf, cutAll, wholeOf, reach, putFront, putFile, lenCut}
-use Rattle.pager_state.specs.Fold.{pagesTodo, foldTodo, paged}
-use Rattle.pager_state.specs.Commit.{framesTodo, commitTodo, framed, sealedWorld, sealedPager}
-use Rattle.pager_state.specs.Steps.{todo, advance, done, stepped, steps, stepFine}
+use Rattle.pager_state.specs.Fold.{foldTodo}
+use Rattle.pager_state.specs.Commit.{commitTodo}
+use Rattle.pager_state.specs.Steps.{todo, advance, done, stepFine, stepped, steps}
 use Rattle.pager_state.specs.declared.FileKind.the-variants as file
 use Rattle.pager_state.specs.declared.Job.{Job}
 use Rattle.pager_state.specs.declared.Job.the-variants as job
+use Rattle.pager_state.proofs.Next.{todo-by}
 use Rattle.history.specs.Book.{Book, tell, tells}
 use Rattle.history.specs.Run.{kinds, keptBy, keptAfter}
-use Rattle.history.proofs.PagesFrom.{pages-most}
 use Rattle.history.proofs.Disk.{DiskOk}
 use Rattle.history.proofs.Rest.{Inv, InvJob, inv-disk}
-use Rattle.history.proofs.Stepping.{Covers, StepOk, todo-by}
+use Rattle.history.proofs.Stepping.{Covers, StepOk}
 use Rattle.history.proofs.CommitFrame.{frame-step}
 use Rattle.history.proofs.CommitSeal.{seal-step}
 use Rattle.history.proofs.FoldPage.{page-step}
@@ -50,11 +49,11 @@ whole-front : (f : File) (at : ℕ) (bs : List ℕ) (n : ℕ) → length bs ≡ 
 unfolding putFront
 whole-front f at bs n e = rw (← e, take-length bs)
 
-put-over : (f : File) (at : ℕ) (bs : List ℕ) (k : ℕ) → 32 ≤ at + length bs → 1 ≤ length bs → length bs ≤ k → putFront f at bs (reach at bs k) ≡ putFile f at bs
+put-over : (f : File) (at : ℕ) (bs : List ℕ) (k : ℕ) → headerSize ≤ at + length bs → 1 ≤ length bs → length bs ≤ k → putFront f at bs (reach at bs k) ≡ putFile f at bs
 unfolding reach
 put-over f at bs k h l e =
     let m : min k (length bs) ≡ length bs = omega arith in
-    rw (m, le-ltb (at + length bs) 32 h) (all (length bs) refl)
+    rw (m, le-ltb (at + length bs) headerSize h) (all (length bs) refl)
   where
     all : (n : ℕ) → length bs ≡ n → putFront f at bs n ≡ putFile f at bs
     all zero q = absurd (omega arith)
@@ -179,32 +178,3 @@ run-ok g (suc n) w b z acts d e q h i =
         let m : length (s .rest) ≤ n = omega (arith, ap length p) in
         rw (p, ← q) (run-cons g n w b z s (later s m))
     go (inr s) later = let p : acts ≡ [] = sym e ∙ s in rw (p, ← q) (run-none g (suc n) w b z s i)
-
--- ---- no commit or fold has more than 2,200 stores
-
-pages-length : (salt answer : ℕ) (ns : List ℕ) (w : World) → length (pagesTodo salt answer ns w) ≡ length ns + 4
-unfolding pagesTodo
-pages-length salt answer [] w = refl
-pages-length salt answer (n ∷ ns) w = ap suc (pages-length salt answer ns (paged salt answer n w)) ∙ omega arith
-
-after-length : (salt answer : ℕ) (w : World) (t : Bool) → length (foldTodo (pick t (job.Fold salt 0 answer) job.Idle) w) ≤ 1028
-unfolding foldTodo
-after-length salt answer w true = omega (arith, pages-length salt answer (pagesFrom (folds w) 0) w, pages-most (folds w) 0)
-after-length salt answer w false = omega arith
-
-frames-length : (g : List ℕ) (h : DbHeader) (salt answer : ℕ) (ns : List ℕ) (w : World) → length (framesTodo g h salt answer ns w) ≤ length ns + 1029
-unfolding framesTodo sealedWorld sealedPager
-frames-length g h salt answer [] w = omega (arith, after-length salt answer (sealedWorld h salt answer w) (leb 100 (withFrame (w .pager .wal) (countOf h) .«frame_count»)))
-frames-length g h salt answer (n ∷ ns) w = omega (arith, frames-length g h salt answer ns (framed g h salt answer n w))
-
-pub commit-few : (g : List ℕ) (w : World) (h : DbHeader) (salt p answer : ℕ) → w .pager .job ≡ job.Commit h salt p answer → length (todo g w) ≤ 2200
-unfolding commitTodo foldTodo
-commit-few g w h salt p answer e =
-    let q : todo g w ≡ framesTodo g h salt answer (pagesFrom (differs g w) p) w = todo-by g w (job.Commit h salt p answer) e ∙ append-nil _ in
-    rw q (omega (arith, frames-length g h salt answer (pagesFrom (differs g w) p) w, pages-most (differs g w) p))
-
-pub fold-few : (g : List ℕ) (w : World) (salt p answer : ℕ) → w .pager .job ≡ job.Fold salt p answer → length (todo g w) ≤ 2200
-unfolding commitTodo foldTodo
-fold-few g w salt p answer e =
-    let q : todo g w ≡ pagesTodo salt answer (pagesFrom (folds w) p) w = todo-by g w (job.Fold salt p answer) e in
-    rw q (omega (arith, pages-length salt answer (pagesFrom (folds w) p) w, pages-most (folds w) p))

@@ -13,10 +13,12 @@ use lib.Seq.{length-take-le, getD-take, set-getD, take-suc-set}
 use Rattle.le.specs.Choice.{pick}
 use Rattle.le.specs.Le.{put}
 use Rattle.le.proofs.Tests.{le-or-lt, eq-or-not}
+use Rattle.page.specs.Page.{pageSize}
 use Rattle.pager_state.specs.Overlay.{pageFrom, findIn, stagedPages, slotOf, isStaged, stagedBytes}
 use Rattle.pager_state.specs.Staging.{slotted}
 use Rattle.pager_state.specs.declared.Staged.{Staged}
 use Rattle.pager_state.proofs.Slots.{find-length, find-there}
+use Rattle.pager_state.specs.World.{stagingArea, stagedLimit}
 use Rattle.history.proofs.Files.{page-other, page-same}
 
 -- what is staged for a page
@@ -24,8 +26,8 @@ abbrev pub stagedFor : Staged → List ℕ → ℕ → Option (List ℕ)
 stagedFor s g n = pick (isStaged s n) (some (stagedBytes s g n)) none
 
 pub record Slots (s : Staged) : Type 0 where
-  pub few : s .count ≤ 64
-  pub long : length (s .pages) ≡ 64
+  pub few : s .count ≤ stagedLimit
+  pub long : length (s .pages) ≡ stagedLimit
 
 -- ---- finding a page
 
@@ -50,18 +52,18 @@ find-out (x ∷ xs) ys n h = go (eqb x n) h (find-out xs ys n)
 -- ---- the view of a list of slots
 
 abbrev slotFor : List ℕ → List ℕ → ℕ → Option (List ℕ)
-slotFor xs g n = pick (ltb (findIn xs n) (length xs)) (some (pageFrom (4096 * findIn xs n) g)) none
+slotFor xs g n = pick (ltb (findIn xs n) (length xs)) (some (pageFrom (pageSize * findIn xs n) g)) none
 
-module _ (xs g bytes : List ℕ) (n : ℕ) (hb : length bytes ≡ 4096) (hg : 4096 * length xs ≤ length g) where
+module _ (xs g bytes : List ℕ) (n : ℕ) (hb : length bytes ≡ pageSize) (hg : pageSize * length xs ≤ length g) where
   -- the page has a slot
-  again : findIn xs n < length xs → (m : ℕ) → slotFor xs (put g (4096 * findIn xs n) bytes) m ≡ pick (eqb m n) (some bytes) (slotFor xs g m)
+  again : findIn xs n < length xs → (m : ℕ) → slotFor xs (put g (pageSize * findIn xs n) bytes) m ≡ pick (eqb m n) (some bytes) (slotFor xs g m)
   again h m = go (eq-or-not m n) (le-or-lt (suc (findIn xs m)) (length xs))
     where
-      room : 4096 * findIn xs n ≤ length g
+      room : pageSize * findIn xs n ≤ length g
       room = omega arith
 
       go : (m ≡ n) ⊎ (m ≡ n → ⊥) → (findIn xs m < length xs) ⊎ (length xs < suc (findIn xs m))
-          → slotFor xs (put g (4096 * findIn xs n) bytes) m ≡ pick (eqb m n) (some bytes) (slotFor xs g m)
+          → slotFor xs (put g (pageSize * findIn xs n) bytes) m ≡ pick (eqb m n) (some bytes) (slotFor xs g m)
       go (inl e) c = rw (e, eq-eqb n n refl, lt-ltb (findIn xs n) (length xs) h, page-same g (findIn xs n) bytes (omega arith) room hb)
       go (inr e) (inl c) =
           let ne : findIn xs m ≡ findIn xs n → ⊥ = λ q. e (sym (find-there xs m c) ∙ ap (λ (k : ℕ). getD xs k 0) q ∙ find-there xs n h) in
@@ -69,20 +71,20 @@ module _ (xs g bytes : List ℕ) (n : ℕ) (hb : length bytes ≡ 4096) (hg : 40
       go (inr e) (inr c) = rw (ne-eqb m n e, le-ltb (findIn xs m) (length xs) (omega arith))
 
   -- it gets the next
-  more : length xs ≤ findIn xs n → (m : ℕ) → slotFor (xs ++ (n ∷ [])) (put g (4096 * findIn xs n) bytes) m ≡ pick (eqb m n) (some bytes) (slotFor xs g m)
+  more : length xs ≤ findIn xs n → (m : ℕ) → slotFor (xs ++ (n ∷ [])) (put g (pageSize * findIn xs n) bytes) m ≡ pick (eqb m n) (some bytes) (slotFor xs g m)
   more h m = go (eq-or-not m n) (le-or-lt (suc (findIn xs m)) (length xs))
     where
       here : findIn xs n ≡ length xs
       here = omega (arith, find-length xs n)
 
-      room : 4096 * findIn xs n ≤ length g
+      room : pageSize * findIn xs n ≤ length g
       room = omega (arith, here)
 
       long : length (xs ++ (n ∷ [])) ≡ length xs + 1
       long = length-append xs (n ∷ [])
 
       go : (m ≡ n) ⊎ (m ≡ n → ⊥) → (findIn xs m < length xs) ⊎ (length xs < suc (findIn xs m))
-          → slotFor (xs ++ (n ∷ [])) (put g (4096 * findIn xs n) bytes) m ≡ pick (eqb m n) (some bytes) (slotFor xs g m)
+          → slotFor (xs ++ (n ∷ [])) (put g (pageSize * findIn xs n) bytes) m ≡ pick (eqb m n) (some bytes) (slotFor xs g m)
       go (inl e) c =
           let f : findIn (xs ++ (n ∷ [])) n ≡ findIn xs n = find-out xs (n ∷ []) n h ∙ rw (eq-eqb n n refl) (omega (arith, here)) in
           let lt : findIn xs n < length xs + 1 = omega (arith, here) in
@@ -113,16 +115,16 @@ module _ (s : Staged) (k : Slots s) where
   unfolding slotOf
   slot-most n = omega (arith, find-length (stagedPages s) n, slots-few)
 
-  pub slot-staged : (n : ℕ) → isStaged s n ≡ true → slotOf s n < 64
+  pub slot-staged : (n : ℕ) → isStaged s n ≡ true → slotOf s n < stagedLimit
   unfolding isStaged
   slot-staged n e = omega (arith, ltb-true (slotOf s n) (length (stagedPages s)) e, slots-few, k .few)
 
-  pub staged-long : (g : List ℕ) (n : ℕ) → length g ≡ 262144 → isStaged s n ≡ true → length (stagedBytes s g n) ≡ 4096
+  pub staged-long : (g : List ℕ) (n : ℕ) → length g ≡ stagingArea → isStaged s n ≡ true → length (stagedBytes s g n) ≡ pageSize
   unfolding stagedBytes
   staged-long g n hg e =
-      length-take 4096 (drop (4096 * slotOf s n) g) ∙ omega (arith, length-drop (4096 * slotOf s n) g, slot-staged n e)
+      length-take pageSize (drop (pageSize * slotOf s n) g) ∙ omega (arith, length-drop (pageSize * slotOf s n) g, slot-staged n e)
 
-  module _ (n : ℕ) (low : slotOf s n < 64) where
+  module _ (n : ℕ) (low : slotOf s n < stagedLimit) where
     pub slotted-slots : Slots (slotted s (slotOf s n) n)
     unfolding slotted
     slotted-slots = record { few = omega (arith, k .few); long = length-set (s .pages) (slotOf s n) n ∙ k .long }
@@ -146,15 +148,15 @@ module _ (s : Staged) (k : Slots s) where
         rw (c, e) (take-suc-set (s .pages) (s .count) n (omega (arith, k .long, slot-most n, low)))
 
     -- "that page is staged anew"
-    pub staged-anew : (g bytes : List ℕ) → length g ≡ 262144 → length bytes ≡ 4096 → (m : ℕ)
-        → stagedFor (slotted s (slotOf s n) n) (put g (4096 * slotOf s n) bytes) m ≡ pick (eqb m n) (some bytes) (stagedFor s g m)
+    pub staged-anew : (g bytes : List ℕ) → length g ≡ stagingArea → length bytes ≡ pageSize → (m : ℕ)
+        → stagedFor (slotted s (slotOf s n) n) (put g (pageSize * slotOf s n) bytes) m ≡ pick (eqb m n) (some bytes) (stagedFor s g m)
     unfolding isStaged stagedBytes slotOf
     staged-anew g bytes hg hb m = go (le-or-lt (suc (findIn (stagedPages s) n)) (length (stagedPages s)))
       where
-        room : 4096 * length (stagedPages s) ≤ length g
+        room : pageSize * length (stagedPages s) ≤ length g
         room = omega (arith, slots-few, k .few)
 
         go : (findIn (stagedPages s) n < length (stagedPages s)) ⊎ (length (stagedPages s) < suc (findIn (stagedPages s) n))
-            → stagedFor (slotted s (slotOf s n) n) (put g (4096 * slotOf s n) bytes) m ≡ pick (eqb m n) (some bytes) (stagedFor s g m)
+            → stagedFor (slotted s (slotOf s n) n) (put g (pageSize * slotOf s n) bytes) m ≡ pick (eqb m n) (some bytes) (stagedFor s g m)
         go (inl h) = rw (pages-again h) (again (stagedPages s) g bytes n hb room h m)
         go (inr h) = rw (pages-more (omega arith)) (more (stagedPages s) g bytes n hb room (omega arith) m)

@@ -11,18 +11,17 @@ use lib.Seq.{getD-set-same, getD-set-other}
 use Rattle.le.specs.Choice.{both}
 use Rattle.le.proofs.Tests.{eq-or-not}
 use Rattle.le.proofs.Compare.{same-equal}
+use Rattle.page.specs.Page.{pageSize}
 use Rattle.header.specs.declared.DbHeader.{DbHeader}
+use Rattle.wal.specs.Header.{headerSize}
 use Rattle.wal.specs.Recovery.{chunkAt, pageOf}
-use Rattle.pager_state.specs.World.{World}
+use Rattle.pager_state.specs.World.{World, pageLimit}
 use Rattle.pager_state.specs.Overlay.{isStaged, stagedBytes, onMain, entry, committedBytes}
 use Rattle.pager_state.specs.Opening.{placeFrom, hasPage}
-use Rattle.pager_state.specs.Pages.{differs}
+use Rattle.pager_state.specs.Pages.{differsIn, differs}
 use Rattle.pager_state.specs.Stores.{diskOf, Act, Put, SetLen, kindOf, inside, stored, cutStore, sizeOf}
-use Rattle.pager_state.specs.Fold.{foldTodo, foldAdvance}
-use Rattle.pager_state.specs.Commit.{commitTodo, commitAdvance}
 use Rattle.pager_state.specs.Commit as commit
 use Rattle.pager_state.specs.Steps.{todo, advance, stepFine}
-use Rattle.pager_state.specs.declared.Job.{Job}
 use Rattle.history.specs.Book.{Book, tell}
 use Rattle.history.specs.Run.{keptBy}
 use Rattle.history.proofs.Frames.{place-same, place-other, orGive}
@@ -31,7 +30,7 @@ use Rattle.history.proofs.Rest.{Inv, worldPage, committed-bytes, entry-
 
 -- it has bytes at or behind the file's first 32: a cut behind all of them leaves it whole
 abbrev pub Covers : Act → Type 0
-Covers (Put k f at bs flush) = (32 ≤ at + length bs) × (1 ≤ length bs)
+Covers (Put k f at bs flush) = (headerSize ≤ at + length bs) × (1 ≤ length bs)
 Covers (SetLen k f n flush) = Unit {0}
 
 -- the next store, and the store after it
@@ -49,20 +48,11 @@ pub record StepOk (g : List ℕ) (w : World) (b : Book) (z : List ℕ) : Type 0 
   pub after : Inv next g (tell [] (kindOf act) b) (keptBy act (stored act (diskOf w)) z)
   pub cut : (k : ℕ) → k < sizeOf act → DiskOk (cutStore act k (diskOf w)) b z
 
--- by the job
-pub todo-by : (g : List ℕ) (w : World) (j : Job) → w .pager .job ≡ j → todo g w ≡ commitTodo g j w ++ foldTodo j w
-unfolding todo
-todo-by g w j e = ap (λ (x : Job). commitTodo g x w ++ foldTodo x w) e
-
-pub advance-by : (g : List ℕ) (w : World) (j : Job) → w .pager .job ≡ j → advance g w ≡ foldAdvance j (commitAdvance g j w)
-unfolding advance
-advance-by g w j e = ap (λ (x : Job). foldAdvance x (commitAdvance g x w)) e
-
 -- ---- the table with a frame entered
 
-pub table-entered : (t : List ℕ) (fs : List (List ℕ)) (mh : DbHeader) (f : List ℕ) (n at : ℕ) → length t ≡ 1024 → n < 1024 → pageOf f ≡ n → at ≡ chunkAt (length fs)
-    → ((m : ℕ) → m < 1024 → getD t m 0 ≡ entry (placeFrom m 0 fs) (hasPage mh m))
-    → (m : ℕ) → m < 1024 → getD (commit.entered t n at) m 0 ≡ entry (placeFrom m 0 (fs ++ (f ∷ []))) (hasPage mh m)
+pub table-entered : (t : List ℕ) (fs : List (List ℕ)) (mh : DbHeader) (f : List ℕ) (n at : ℕ) → length t ≡ pageLimit → n < pageLimit → pageOf f ≡ n → at ≡ chunkAt (length fs)
+    → ((m : ℕ) → m < pageLimit → getD t m 0 ≡ entry (placeFrom m 0 fs) (hasPage mh m))
+    → (m : ℕ) → m < pageLimit → getD (commit.entered t n at) m 0 ≡ entry (placeFrom m 0 (fs ++ (f ∷ []))) (hasPage mh m)
 table-entered t fs mh f n at tl hn e a k m hm = go (eq-or-not m n)
   where
     go : (m ≡ n) ⊎ (m ≡ n → ⊥) → getD (commit.entered t n at) m 0 ≡ entry (placeFrom m 0 (fs ++ (f ∷ []))) (hasPage mh m)
@@ -76,8 +66,8 @@ table-entered t fs mh f n at tl hn e a k m hm = go (eq-or-not m n)
 
 -- ---- a staged page that does not differ is the log's or the main file's
 
-some-of : (x : Option (List ℕ)) (y : List ℕ) → orGive x [] ≡ y → length y ≡ 4096 → x ≡ some y
-some-of none y e h = let z : _≡_ {A = ℕ} 0 4096 = ap length e ∙ h in absurd (omega arith)
+some-of : (x : Option (List ℕ)) (y : List ℕ) → orGive x [] ≡ y → length y ≡ pageSize → x ≡ some y
+some-of none y e h = let z : _≡_ {A = ℕ} 0 pageSize = ap length e ∙ h in absurd (omega arith)
 some-of (some a) y e h = ap {B = Option (List ℕ)} some e
 
 both-right : (a b : Bool) → both a b ≡ false → a ≡ true → b ≡ false
@@ -89,8 +79,8 @@ not-not true e = refl
 not-not false e = let z : _≡_ {A = ℕ} 0 1 = cc in absurd (omega arith)
 
 pub settled : (g : List ℕ) (w : World) (n : ℕ) → differs g w n ≡ false → isStaged (w .pager .staged) n ≡ true
-    → length (stagedBytes (w .pager .staged) g n) ≡ 4096 → worldPage w n ≡ some (stagedBytes (w .pager .staged) g n)
-unfolding differs
+    → length (stagedBytes (w .pager .staged) g n) ≡ pageSize → worldPage w n ≡ some (stagedBytes (w .pager .staged) g n)
+unfolding differsIn
 settled g w n e s h =
     let x : List ℕ = stagedBytes (w .pager .staged) g n in
     let q = not-not _ (both-right (isStaged (w .pager .staged) n) _ e s) in

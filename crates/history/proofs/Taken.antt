@@ -1,14 +1,17 @@
--- What is to be shown of a call that is not refused, and what its refusals' choices say. Assumes nothing.
-use mathlib.Core.Path.{_≡_, refl, sym, subst}
-use mathlib.Core.Bool.{Bool, true, false}
+-- What is to be shown of a call that is not refused. Assumes nothing.
+use mathlib.Core.Path.{_≡_, sym, subst}
+use mathlib.Core.Bool.{not}
 use mathlib.Core.List.{List}
+use mathlib.Core.Option.{none}
 use Prim.Native.Nat.{ℕ}
-use native.Mathlib.Omega.{arith}
-use Rattle.le.specs.Choice.{pick}
-use Rattle.pager_state.specs.World.{World, busyWith}
+use Rattle.refusal.specs.declared.Refusal.the-variants as refusal
+use Rattle.refusal.proofs.Judged.{met}
+use Rattle.pager_state.specs.World.{World, busy, busyRefusal}
 use Rattle.pager_state.specs.Stores.{diskOf, Act}
 use Rattle.pager_state.specs.declared.Job.{Job}
 use Rattle.pager_state.specs.declared.Job.the-variants as job
+use Rattle.pager_state.proofs.Begun.{off, not-busy}
+use Rattle.pager_state.specs.declared.Pager.{Pager}
 use Rattle.history.specs.Book.{Book, tells}
 use Rattle.history.specs.Calls.{Call, storesOf, worldAfter, stagingAfter, bookFirst, bodyLent}
 use Rattle.history.specs.Run.{kinds, keptAfter}
@@ -32,23 +35,9 @@ taken-by c w g b z {v} e f after cut =
       cut = subst (λ (x : List Act). CutOk (bodyLent c) x (diskOf w) (bookFirst c b) z) (sym f) cut;
     }
 
--- ---- choices by refusals
-
-pub took : {A : Type 0} (R : A → ℕ) (t : Bool) (x y : A) → R (pick t x y) ≡ 0 → (R y ≡ 0 → ⊥) → (t ≡ true) × (R x ≡ 0)
-took R true x y e n = (refl, e)
-took R false x y e n = absurd (n e)
-
-pub passed : {A : Type 0} (R : A → ℕ) (t : Bool) (x y : A) → R (pick t x y) ≡ 0 → (R x ≡ 0 → ⊥) → (t ≡ false) × (R y ≡ 0)
-passed R true x y e n = absurd (n e)
-passed R false x y e n = (refl, e)
-
-pub idle-of : (j : Job) → busyWith j ≡ false → j ≡ job.Idle
-idle-of job.Idle e = refl
-idle-of (job.Commit h salt p answer) e = let z : _≡_ {A = ℕ} 0 1 = cc in absurd (omega arith)
-idle-of (job.Fold salt p answer) e = let z : _≡_ {A = ℕ} 0 1 = cc in absurd (omega arith)
-idle-of (job.MainLength salt answer) e = let z : _≡_ {A = ℕ} 0 1 = cc in absurd (omega arith)
-idle-of (job.LogLength salt answer) e = let z : _≡_ {A = ℕ} 0 1 = cc in absurd (omega arith)
-idle-of (job.LogHeader salt answer) e = let z : _≡_ {A = ℕ} 0 1 = cc in absurd (omega arith)
+-- a call that refusal 9 alone can be given comes where nothing is part done
+pub rests-by : (p : Pager) → busyRefusal p ≡ none → p .job ≡ job.Idle
+rests-by p e = not-busy (p .job) (off _ (met (not (busy p)) refusal.Busy none e .0))
 
 -- at rest, by the store's own job
 pub at-rest : (w : World) (g : List ℕ) (b : Book) (z : List ℕ) → Inv w g b z → w .pager .job ≡ job.Idle → Some (Resting w g b) z

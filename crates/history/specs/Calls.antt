@@ -7,14 +7,15 @@ use lib.ListN.{take, drop}
 use Rattle.le.specs.Le.{Bytes}
 use Rattle.le.specs.Choice.{pick}
 use Rattle.header.specs.declared.DbHeader.{DbHeader}
-use Rattle.pager_state.specs.World.{World, world}
-use Rattle.pager_state.specs.Overlay.{findPage, findRefusal}
-use Rattle.pager_state.specs.Staging.{stagePage, stageAfter, stageRefusal, clearStaged, clearRefusal}
-use Rattle.pager_state.specs.Queries.{header, headerRefusal, accessMode, modeRefusal, clockHighWater, clockReadRefusal, observeClock, observeRefusal}
-use Rattle.pager_state.specs.Batches.{appendBatch, appendAfter, appendRefusal, batchFrame, nextRecovered, recoveredRefusal}
+use Rattle.refusal.specs.Refusal.{numberOf}
+use Rattle.pager_state.specs.World.{World, world, busy, busyRefusal}
+use Rattle.pager_state.specs.Overlay.{readRefusal}
+use Rattle.pager_state.specs.Staging.{stageRefusal, stagePage, stageAfter, clearStaged}
+use Rattle.pager_state.specs.Queries.{observeClock}
+use Rattle.pager_state.specs.Batches.{appendRefusal, batchFrame, appendBatch, appendAfter, recoveredRefusal}
 use Rattle.pager_state.specs.Stores.{File, Disk, content, diskOf, Batched, Act, Put}
 use Rattle.pager_state.specs.Opening.{How, openPager, openRefusal, openStores, openTable, openLogArea}
-use Rattle.pager_state.specs.Steps.{commitStart, commitRefusal, beginCommit, checkpointStart, checkpointRefusal, beginCheckpoint, todo, stepAnswer, stepRefusal, stepped, commitWorld, checkpointWorld, onStore}
+use Rattle.pager_state.specs.Steps.{commitRefusal, beginCommit, checkpointRefusal, beginCheckpoint, todo, stepAnswer, stepped, stepRefusal, onStore, commitWorld, checkpointWorld}
 use Rattle.pager_state.specs.declared.AccessMode.{AccessMode}
 use Rattle.pager_state.specs.declared.FileKind.the-variants as file
 use Rattle.pager_state.specs.declared.Pager.{Pager}
@@ -70,15 +71,7 @@ opening m lent d = openPager (cleanly m) (lent .table) (laid lent d) (lent .stag
 -- the store that it gives; a refusal leaves the one before
 abbrev pub openedOr : Opens → World → List ℕ → List ℕ → List ℕ → World
 openedOr (opened.Opened p) w t l m = world p t l m
-openedOr opened.Area w t l m = w
-openedOr opened.Short w t l m = w
-openedOr opened.Magic w t l m = w
-openedOr opened.Version w t l m = w
-openedOr opened.PageSize w t l m = w
-openedOr opened.Limit w t l m = w
-openedOr opened.MainShort w t l m = w
-openedOr opened.PageZero w t l m = w
-openedOr opened.ReadOnly w t l m = w
+openedOr (opened.Refused r) w t l m = w
 
 unfoldable pub openedWorld : AccessMode → Lent → Disk → World → World
 openedWorld m lent d w =
@@ -134,11 +127,11 @@ pub record Words (h : DbHeader) : Type 0 where
   pub freelist : h .«freelist_head» < 2 ^ 32
 
 abbrev pub queryRefusal : Query → World → List ℕ → ℕ
-queryRefusal ReadHeader w g = headerRefusal (header (w .pager))
-queryRefusal ReadMode w g = modeRefusal (accessMode (w .pager))
-queryRefusal ReadClock w g = clockReadRefusal (clockHighWater (w .pager))
-queryRefusal (ReadPage n) w g = findRefusal (findPage w g n)
-queryRefusal (ReadBatch i) w g = recoveredRefusal (nextRecovered (w .pager) (w .log) i)
+queryRefusal ReadHeader w g = numberOf (busyRefusal (w .pager))
+queryRefusal ReadMode w g = numberOf (busyRefusal (w .pager))
+queryRefusal ReadClock w g = numberOf (busyRefusal (w .pager))
+queryRefusal (ReadPage n) w g = numberOf (readRefusal w g)
+queryRefusal (ReadBatch i) w g = numberOf (recoveredRefusal (w .pager) (w .log))
 
 abbrev pub effect : Call → Effect
 effect (Ask q) = query (queryRefusal q)
@@ -156,7 +149,7 @@ effect (Open m lent) =
     }
 effect (Stage n bytes) =
     record {
-      refusal = λ w g. stageRefusal (stagePage (w .pager) g n bytes .answer);
+      refusal = λ w g. numberOf (stageRefusal (busy (w .pager)) (w .pager .staged) g n bytes);
       stores = λ w g. [];
       world = λ w g. onStore w (stagePage (w .pager) g n bytes .pager);
       staging = λ w g. stageAfter (w .pager) g n bytes;
@@ -165,10 +158,10 @@ effect (Stage n bytes) =
       opens = false;
       typed = Bytes bytes;
     }
-effect Clear = unstored (λ w g. clearRefusal (clearStaged (w .pager) .answer)) (λ w g. clearStaged (w .pager) .pager) bookClear (Unit {0})
+effect Clear = unstored (λ w g. numberOf (busyRefusal (w .pager))) (λ w g. clearStaged (w .pager) .pager) bookClear (Unit {0})
 effect (Append body) =
     record {
-      refusal = λ w g. appendRefusal (appendBatch (w .pager) (w .log) body .answer);
+      refusal = λ w g. numberOf (appendRefusal (w .pager) (w .log) body);
       stores = λ w g. Put Batched file.Log (w .pager .wal .len) (batchFrame (w .pager) body) false ∷ [];
       world = λ w g. world (appendBatch (w .pager) (w .log) body .pager) (w .table) (appendAfter (w .pager) (w .log) body) (w .main);
       staging = λ w g. g;
@@ -177,17 +170,17 @@ effect (Append body) =
       opens = false;
       typed = Bytes body;
     }
-effect (Observe c) = unstored (λ w g. observeRefusal (observeClock (w .pager) c .answer)) (λ w g. observeClock (w .pager) c .pager) untold (c < 2 ^ 64)
+effect (Observe c) = unstored (λ w g. numberOf (busyRefusal (w .pager))) (λ w g. observeClock (w .pager) c .pager) untold (c < 2 ^ 64)
 effect (Commit h salt) =
-    storing (λ w g. commitRefusal (commitStart g w h)) (λ w g. todo g (onStore w (beginCommit g w h salt .pager))) (λ w g. commitWorld g w h salt) (give h)
+    storing (λ w g. numberOf (commitRefusal g w h)) (λ w g. todo g (onStore w (beginCommit g w h salt .pager))) (λ w g. commitWorld g w h salt) (give h)
     (Words h × (salt < 2 ^ 32))
 effect (Checkpoint salt) =
-    storing (λ w g. checkpointRefusal (checkpointStart g w)) (λ w g. todo g (onStore w (beginCheckpoint g w salt .pager))) (λ w g. checkpointWorld g w salt) untold
+    storing (λ w g. numberOf (checkpointRefusal g w)) (λ w g. todo g (onStore w (beginCheckpoint g w salt .pager))) (λ w g. checkpointWorld g w salt) untold
     (salt < 2 ^ 32)
 effect (BeginCommit h salt) =
-    unstored (λ w g. commitRefusal (commitStart g w h)) (λ w g. beginCommit g w h salt .pager) (give h) (Words h × (salt < 2 ^ 32))
+    unstored (λ w g. numberOf (commitRefusal g w h)) (λ w g. beginCommit g w h salt .pager) (give h) (Words h × (salt < 2 ^ 32))
 effect (BeginCheckpoint salt) =
-    unstored (λ w g. checkpointRefusal (checkpointStart g w)) (λ w g. beginCheckpoint g w salt .pager) untold (salt < 2 ^ 32)
+    unstored (λ w g. numberOf (checkpointRefusal g w)) (λ w g. beginCheckpoint g w salt .pager) untold (salt < 2 ^ 32)
 effect Step = storing (λ w g. stepRefusal (stepAnswer g w)) (λ w g. take 1 (todo g w)) (λ w g. stepped g w) untold (Unit {0})
 
 -- ---- its columns

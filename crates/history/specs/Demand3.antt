@@ -5,6 +5,7 @@ use mathlib.Core.List.{List, [], _∷_}
 use mathlib.Core.Option.{Option, none, some}
 use Prim.Native.Nat.{ℕ, zero, suc, _+_, _<_, _≤_, _^_}
 use lib.ListN.{length, take, drop}
+use Rattle.wal.specs.Header.{headerSize}
 use Rattle.wal.specs.Recovery.{walArea}
 use Rattle.pager_state.specs.World.{World, mainArea, stagingArea, pageLimit, busy}
 use Rattle.pager_state.specs.Overlay.{pageFrom, findPage, findRefusal, bytesAt}
@@ -29,8 +30,7 @@ readingAt w g (found.Staged at) = some (bytesAt w g (found.Staged at))
 readingAt w g (found.Log at) = some (bytesAt w g (found.Log at))
 readingAt w g (found.Main at) = some (bytesAt w g (found.Main at))
 readingAt w g found.Nothing = none
-readingAt w g found.Area = none
-readingAt w g found.Busy = none
+readingAt w g (found.Refused r) = none
 
 -- "the store's header and the reading of every page from 1 up"; neither is refused
 pub record Same (r : Run) : Type 0 where
@@ -46,8 +46,7 @@ AtRest r A = busy (r .world .pager) ≡ false → A
 abbrev pub walkedAt : RecoveredFound → List ℕ → (ℕ → List Batch) → List Batch
 walkedAt (batch.Batch i at) l rest = batchIn (pageFrom (at + 16) l) ∷ rest (i + 1)
 walkedAt batch.Nothing l rest = []
-walkedAt batch.Area l rest = []
-walkedAt batch.Busy l rest = []
+walkedAt (batch.Refused r) l rest = []
 
 unfoldable pub walked : ℕ → World → ℕ → List Batch
 walked zero w i = []
@@ -61,7 +60,7 @@ Returns r = walked 1025 (r .world) 0 ≡ r .book .sealed
 
 -- they lie there, inside the file, wherever the power is cut
 abbrev pub Kept : Left → Type 0
-Kept x = drop 32 (take (32 + length (x .kept)) (content (x .disk .log))) ≡ x .kept
+Kept x = drop headerSize (take (headerSize + length (x .kept)) (content (x .disk .log))) ≡ x .kept
 
 abbrev pub Intact : Call → Run → Type 0
 Intact c r = (j k : ℕ) → Kept (cutCall c j k r)

@@ -10,13 +10,18 @@ use lib.IntN.{ℤ, pos}
 use mir.Val.{SFits}
 use mir.Syntax.{w64}
 use Rattle.le.specs.Le.{Bytes}
+use Rattle.page.specs.Page.{pageSize}
+use Rattle.refusal.specs.declared.Refusal.the-variants as refusal
 use Rattle.header.specs.declared.DbHeader.{DbHeader}
+use Rattle.frame.specs.Frame.{frameSize}
 use Rattle.mvcc.specs.Batch.{tombstone, encodeBody}
 use Rattle.mvcc.specs.Seen.{refusalOf, decodes}
-use Rattle.pager_state.specs.World.{World, countOf, headerOf, readOnly, withStaged}
+use Rattle.wal.specs.Header.{headerSize}
+use Rattle.wal.specs.Recovery.{walArea}
+use Rattle.pager_state.specs.World.{World, mainArea, stagingArea, stagedLimit, pageLimit, countOf, headerOf, readOnly, withStaged}
 use Rattle.pager_state.specs.Overlay.{pageFrom, isStaged, frameOf, inLog, onMain, logBytes, findPage, readPage}
 use Rattle.pager_state.specs.Queries.{header}
-use Rattle.pager_state.specs.Batches.{appendAnswer}
+use Rattle.pager_state.specs.Batches.{appendBatch}
 use Rattle.pager_state.specs.Opening.{firstHeader, createFine}
 use Rattle.pager_state.specs.Steps.{differing, commitStart, commitAnswer, commitWorld, stepFine, checkpointStart, folding, checkpointAnswer, checkpointWorld, onStore}
 use Rattle.pager_state.specs.declared.AccessMode.the-variants as mode
@@ -45,7 +50,7 @@ newStore t l m g salt = start t l m g salt .world
 -- not 13: "commit count 0 or above 1,024, version not 4..6"
 pub record GoodHeader (h : DbHeader) : Type 0 where
   pub low : 1 ≤ countOf h
-  pub high : countOf h ≤ 1024
+  pub high : countOf h ≤ pageLimit
   pub oldest : 4 ≤ h .«format_version»
   pub newest : h .«format_version» ≤ 6
 
@@ -55,17 +60,18 @@ Joined w h = (n : ℕ) → 1 ≤ n → countOf (headerOf (w .pager)) ≤ n → n
 
 -- not 1, of the table: what staged pages are compared with lies inside the log
 abbrev pub Compared : World → Type 0
-Compared w = (n : ℕ) → n < 1024 → isStaged (w .pager .staged) n ≡ true → inLog (w .table) n ≡ true → frameOf (w .table) n + 4112 ≤ w .pager .wal .len
+Compared w = (n : ℕ) → n < pageLimit → isStaged (w .pager .staged) n ≡ true → inLog (w .table) n ≡ true → frameOf (w .table) n + frameSize ≤ w .pager .wal .len
+
+-- the areas that a store is lent
+abbrev pub areasOf : List ℕ → World → Lent
+areasOf g w = record { table = w .table; staging = g; log = w .log; main = w .main }
 
 -- of a commit's refusals 1, 9, 10, 13 and 14 none applies
 pub record Unrefused (g : List ℕ) (w : World) (h : DbHeader) : Type 0 where
-  pub table : length (w .table) ≡ 1024
-  pub log : length (w .log) ≡ 4210720
-  pub main : length (w .main) ≡ 4194304
-  pub staging : length g ≡ 262144
-  pub logFile : w .pager .wal .len ≤ 4210720
-  pub mainFile : w .pager .storage .len ≤ 4194304
-  pub pages : countOf (headerOf (w .pager)) ≤ 1024
+  pub areas : Sized (areasOf g w)
+  pub logFile : w .pager .wal .len ≤ walArea
+  pub mainFile : w .pager .storage .len ≤ mainArea
+  pub pages : countOf (headerOf (w .pager)) ≤ pageLimit
   pub compared : Compared w
   pub rests : w .pager .job ≡ job.Idle
   pub writes : readOnly (w .pager) ≡ false
@@ -74,27 +80,27 @@ pub record Unrefused (g : List ℕ) (w : World) (h : DbHeader) : Type 0 where
 
 -- 15: "length + 4,112 × frames to add is above 4,210,720"
 abbrev pub Full : Pager → ℕ → Type 0
-Full p n = 4210720 < p .wal .len + 4112 * n
+Full p n = walArea < p .wal .len + frameSize * n
 
 -- a commit adds its differing pages and the seal
 unfoldable pub LogFullGuard : Type 0
 LogFullGuard =
     (g : List ℕ) (w : World) (h : DbHeader)
-    → (commitStart g w h ≡ commit.LogFull → Unrefused g w h × Full (w .pager) (differing g w + 1))
-    × (Unrefused g w h → Full (w .pager) (differing g w + 1) → commitStart g w h ≡ commit.LogFull)
+    → (commitStart g w h ≡ commit.Refused refusal.LogFull → Unrefused g w h × Full (w .pager) (differing g w + 1))
+    × (Unrefused g w h → Full (w .pager) (differing g w + 1) → commitStart g w h ≡ commit.Refused refusal.LogFull)
 
 -- and it is begun exactly where no refusal applies
 unfoldable pub BegunGuard : Type 0
 BegunGuard =
     (g : List ℕ) (w : World) (h : DbHeader)
-    → (commitStart g w h ≡ commit.Begun → Unrefused g w h × (w .pager .wal .len + 4112 * (differing g w + 1) ≤ 4210720))
-    × (Unrefused g w h → w .pager .wal .len + 4112 * (differing g w + 1) ≤ 4210720 → commitStart g w h ≡ commit.Begun)
+    → (commitStart g w h ≡ commit.Begun → Unrefused g w h × (w .pager .wal .len + frameSize * (differing g w + 1) ≤ walArea))
+    × (Unrefused g w h → w .pager .wal .len + frameSize * (differing g w + 1) ≤ walArea → commitStart g w h ≡ commit.Begun)
 
 -- of a batch append's refusals 1, 2, 3, 9 and 10 none applies
 pub record UnrefusedBatch (p : Pager) (l body : List ℕ) : Type 0 where
-  pub log : length l ≡ 4210720
-  pub logFile : p .wal .len ≤ 4210720
-  pub page : length body ≤ 4096
+  pub log : length l ≡ walArea
+  pub logFile : p .wal .len ≤ walArea
+  pub page : length body ≤ pageSize
   pub long : refusalOf body ≡ 2 → ⊥
   pub marked : refusalOf body ≡ 3 → ⊥
   pub rests : p .job ≡ job.Idle
@@ -104,8 +110,8 @@ pub record UnrefusedBatch (p : Pager) (l body : List ℕ) : Type 0 where
 unfoldable pub BatchFullGuard : Type 0
 BatchFullGuard =
     (p : Pager) (l body : List ℕ)
-    → (appendAnswer p l body ≡ append.LogFull → UnrefusedBatch p l body × Full p 1)
-    × (UnrefusedBatch p l body → Full p 1 → appendAnswer p l body ≡ append.LogFull)
+    → (appendBatch p l body .answer ≡ append.Refused refusal.LogFull → UnrefusedBatch p l body × Full p 1)
+    × (UnrefusedBatch p l body → Full p 1 → appendBatch p l body .answer ≡ append.Refused refusal.LogFull)
 
 -- ---- a commit in a new store is not refused
 
@@ -116,8 +122,8 @@ withSlots w s = onStore w (withStaged (w .pager) s)
 -- with any 64 slots and any staging area, if the joining pages are staged
 unfoldable pub CommitGuard : Type 0
 CommitGuard =
-    (t l m g : List ℕ) (salt : ℕ) → createFine t l m g ≡ true → (s : Staged) → length (s .pages) ≡ 64 → (h : DbHeader) → GoodHeader h
-    → Joined (withSlots (newStore t l m g salt) s) h → (staging : List ℕ) → length staging ≡ 262144
+    (t l m g : List ℕ) (salt : ℕ) → createFine t l m g ≡ true → (s : Staged) → length (s .pages) ≡ stagedLimit → (h : DbHeader) → GoodHeader h
+    → Joined (withSlots (newStore t l m g salt) s) h → (staging : List ℕ) → length staging ≡ stagingArea
     → commitStart staging (withSlots (newStore t l m g salt) s) h ≡ commit.Begun
 
 -- ---- what a commit that is begun comes to
@@ -127,13 +133,13 @@ pub record LongerBy (w v : World) (n : ℕ) : Type 0 where
   pub rests : v .pager .job ≡ job.Idle
   pub unstaged : v .pager .staged .count ≡ 0
   pub opening : v .pager .opening ≡ w .pager .opening
-  pub logFile : v .pager .wal .len ≡ w .pager .wal .len + 4112 * n
+  pub logFile : v .pager .wal .len ≡ w .pager .wal .len + frameSize * n
   pub frames : v .pager .wal .«frame_count» ≡ w .pager .wal .«frame_count» + n
 
 -- a store at rest whose log has its header alone
 pub record Empty (v : World) : Type 0 where
   pub rests : v .pager .job ≡ job.Idle
-  pub logFile : v .pager .wal .len ≡ 32
+  pub logFile : v .pager .wal .len ≡ headerSize
   pub frames : v .pager .wal .«frame_count» ≡ 0
   pub none : (n : ℕ) → inLog (v .table) n ≡ false
 
@@ -146,7 +152,7 @@ pub record Ends (g : List ℕ) (w : World) (h : DbHeader) (salt : ℕ) : Type 0 
 -- in any store, made up or not, whose frame count does not wrap
 unfoldable pub CommitEndsGuard : Type 0
 CommitEndsGuard =
-    (g : List ℕ) (w : World) (h : DbHeader) (salt : ℕ) → length (w .pager .staged .pages) ≡ 64 → w .pager .wal .«frame_count» ≤ 1024
+    (g : List ℕ) (w : World) (h : DbHeader) (salt : ℕ) → length (w .pager .staged .pages) ≡ stagedLimit → w .pager .wal .«frame_count» ≤ 1024
     → commitStart g w h ≡ commit.Begun → Ends g w h salt
 
 -- with nothing staged in a new store: one frame, the seal
@@ -154,7 +160,7 @@ pub record CommittedAlone (g : List ℕ) (w : World) (h : DbHeader) (salt : ℕ)
   pub begun : commitStart g w h ≡ commit.Begun
   pub answer : commitAnswer g w h ≡ committed.Committed 0
   pub rests : commitWorld g w h salt .pager .job ≡ job.Idle
-  pub logFile : commitWorld g w h salt .pager .wal .len ≡ 32 + 4112
+  pub logFile : commitWorld g w h salt .pager .wal .len ≡ headerSize + frameSize
   pub frames : commitWorld g w h salt .pager .wal .«frame_count» ≡ 1
 
 unfoldable pub EmptyCommitGuard : Type 0
@@ -168,20 +174,20 @@ EmptyCommitGuard =
 pub record FoldedTo (w v : World) : Type 0 where
   pub empty : Empty v
   pub staged : v .pager .staged ≡ w .pager .staged
-  pub mainFile : v .pager .storage .len ≡ 4096 * countOf (headerOf (w .pager))
+  pub mainFile : v .pager .storage .len ≡ pageSize * countOf (headerOf (w .pager))
   pub brought : (n : ℕ) → 1 ≤ n → n < countOf (headerOf (w .pager)) → inLog (w .table) n ≡ true
-      → (pageFrom (4096 * n) (v .main) ≡ logBytes (w .table) (w .log) n) × (onMain (v .table) n ≡ true)
+      → (pageFrom (pageSize * n) (v .main) ≡ logBytes (w .table) (w .log) n) × (onMain (v .table) n ≡ true)
   pub stayed : (n : ℕ) → 1 ≤ n → n < countOf (headerOf (w .pager)) → inLog (w .table) n ≡ false → onMain (w .table) n ≡ true
-      → 4096 * suc n ≤ w .pager .storage .len → (pageFrom (4096 * n) (v .main) ≡ pageFrom (4096 * n) (w .main)) × (onMain (v .table) n ≡ true)
+      → pageSize * suc n ≤ w .pager .storage .len → (pageFrom (pageSize * n) (v .main) ≡ pageFrom (pageSize * n) (w .main)) × (onMain (v .table) n ≡ true)
 
 -- the frames that the table names lie inside the log
 abbrev pub FramesInside : World → Type 0
-FramesInside w = (n : ℕ) → n < 1024 → inLog (w .table) n ≡ true → frameOf (w .table) n + 4112 ≤ w .pager .wal .len
+FramesInside w = (n : ℕ) → n < pageLimit → inLog (w .table) n ≡ true → frameOf (w .table) n + frameSize ≤ w .pager .wal .len
 
 -- "It answers the pages written"
 unfoldable pub FoldGuard : Type 0
 FoldGuard =
-    (g : List ℕ) (w : World) (salt : ℕ) → length (w .pager .staged .pages) ≡ 64 → FramesInside w → checkpointStart g w ≡ checkpoint.Begun
+    (g : List ℕ) (w : World) (salt : ℕ) → length (w .pager .staged .pages) ≡ stagedLimit → FramesInside w → checkpointStart g w ≡ checkpoint.Begun
     → (checkpointAnswer g w ≡ written.Written (folding w)) × FoldedTo w (checkpointWorld g w salt)
 
 -- ---- histories
@@ -200,7 +206,7 @@ Always P = AtFirst (λ (r : Run). (es : List Event) → AllTyped es → P (after
 
 -- what the guards of commits and folds ask, and more
 abbrev pub Sound : Run → Type 0
-Sound r = (length (r .world .pager .staged .pages) ≡ 64) × (r .world .pager .job ≡ job.Idle → FramesInside (r .world))
+Sound r = (length (r .world .pager .staged .pages) ≡ stagedLimit) × (r .world .pager .job ≡ job.Idle → FramesInside (r .world))
 
 unfoldable pub SoundGuard : Type 0
 SoundGuard = Always Sound
@@ -211,7 +217,7 @@ Accepted c r = refusedBy c (r .world) (r .staging) ≡ 0
 
 -- refusal 1 of a commit is of the lengths alone: no table that the calls make is refused, whatever is part done
 unfoldable pub TableGuard : Type 0
-TableGuard = Always (λ (r : Run). (h : DbHeader) → stepFine (r .staging) (r .world) ≡ true → commitStart (r .staging) (r .world) h ≡ commit.Area → ⊥)
+TableGuard = Always (λ (r : Run). (h : DbHeader) → stepFine (r .staging) (r .world) ≡ true → commitStart (r .staging) (r .world) h ≡ commit.Refused refusal.Area → ⊥)
 
 -- a clean opening, read-write, in areas of the right lengths, is not, cut or no cut before it
 unfoldable pub OpeningGuard : Type 0
@@ -255,12 +261,12 @@ pub record Keeps (r : Run) (bytes : List ℕ) (h : DbHeader) (salt : ℕ) : Type
   pub committed : Accepted (Commit h salt) (whole (Stage 1 bytes) r)
   pub reads : ReadsBack (committedPage 1 bytes h salt r) 1 bytes
   pub folds : checkpointStart (committedPage 1 bytes h salt r .staging) (committedPage 1 bytes h salt r .world) ≡ checkpoint.Begun
-  pub folded : (next : ℕ) → next < 2 ^ 32 → pageFrom 4096 (whole (Checkpoint next) (committedPage 1 bytes h salt r) .world .main) ≡ bytes
+  pub folded : (next : ℕ) → next < 2 ^ 32 → pageFrom pageSize (whole (Checkpoint next) (committedPage 1 bytes h salt r) .world .main) ≡ bytes
 
 unfoldable pub NewPageGuard : Type 0
 NewPageGuard =
     AtFirst (λ (r : Run).
-    (bytes : List ℕ) (h : DbHeader) (salt : ℕ) → length bytes ≡ 4096 → Bytes bytes → Words h → GoodHeader h → countOf h ≡ 2 → salt < 2 ^ 32
+    (bytes : List ℕ) (h : DbHeader) (salt : ℕ) → length bytes ≡ pageSize → Bytes bytes → Words h → GoodHeader h → countOf h ≡ 2 → salt < 2 ^ 32
     → Keeps r bytes h salt)
 
 -- ---- a batch that is appended and sealed is returned
@@ -296,27 +302,27 @@ pub record Recovers (r : Run) (body : List ℕ) (h : DbHeader) (salt : ℕ) : Ty
 unfoldable pub NewBatchGuard : Type 0
 NewBatchGuard =
     AtFirst (λ (r : Run).
-    (body : List ℕ) (h : DbHeader) (salt : ℕ) → length body ≤ 4096 → Bytes body → decodes body ≡ true → Words h → GoodHeader h → countOf h ≤ 2
+    (body : List ℕ) (h : DbHeader) (salt : ℕ) → length body ≤ pageSize → Bytes body → decodes body ≡ true → Words h → GoodHeader h → countOf h ≤ 2
     → salt < 2 ^ 32 → Recovers r body h salt)
 
 -- 1,024 batches fill a log: up to 1,023 of them leave room for a commit with nothing staged, which from 99 of them on brings on a fold
 pub record Filled (r : Run) (body : List ℕ) (h : DbHeader) (k : ℕ) : Type 0 where
-  pub logFile : r .world .pager .wal .len ≡ 32 + 4112 * k
+  pub logFile : r .world .pager .wal .len ≡ headerSize + frameSize * k
   pub longer : k < 99 → (salt : ℕ) → LongerBy (r .world) (commitWorld (r .staging) (r .world) h salt) 1
   pub folded : 99 ≤ k → k < 1024 → (salt : ℕ) → Empty (commitWorld (r .staging) (r .world) h salt)
   pub room : k < 1024 → commitStart (r .staging) (r .world) h ≡ commit.Begun
-  pub full : k ≡ 1024 → commitStart (r .staging) (r .world) h ≡ commit.LogFull
-  pub fullBatch : k ≡ 1024 → appendAnswer (r .world .pager) (r .world .log) body ≡ append.LogFull
+  pub full : k ≡ 1024 → commitStart (r .staging) (r .world) h ≡ commit.Refused refusal.LogFull
+  pub fullBatch : k ≡ 1024 → appendBatch (r .world .pager) (r .world .log) body .answer ≡ append.Refused refusal.LogFull
 
 unfoldable pub FilledGuard : Type 0
 FilledGuard =
     AtFirst (λ (r : Run).
-    (body : List ℕ) (h : DbHeader) (k : ℕ) → length body ≤ 4096 → Bytes body → decodes body ≡ true → GoodHeader h → countOf h ≤ 2 → k ≤ 1024
+    (body : List ℕ) (h : DbHeader) (k : ℕ) → length body ≤ pageSize → Bytes body → decodes body ≡ true → GoodHeader h → countOf h ≤ 2 → k ≤ 1024
     → Filled (after (replicate k (Whole (Append body))) r) body h k)
 
 -- there are such bodies: at any time, the deletion of any row of the table with the empty name
 pub record Body (time : ℕ) (row : ℤ) (body : List ℕ) : Type 0 where
-  pub long : length body ≡ 4096
+  pub long : length body ≡ pageSize
   pub bytes : Bytes body
   pub decoded : decodes body ≡ true
   pub says : batchIn body ≡ record { time = time; rows = tombstone [] row ∷ [] }
@@ -331,15 +337,15 @@ unfoldable pub zeros : ℕ → List ℕ
 zeros n = replicate n 0
 
 unfoldable pub zeroAreas : Lent
-zeroAreas = record { table = zeros 1024; staging = zeros 262144; log = zeros 4210720; main = zeros 4194304 }
+zeroAreas = record { table = zeros pageLimit; staging = zeros stagingArea; log = zeros walArea; main = zeros mainArea }
 
 -- by areas of zeros, the header that creation writes, a page of zeros and the row 0
 pub record Met : Type 0 where
-  pub areas : createFine (zeros 1024) (zeros 4210720) (zeros 4194304) (zeros 262144) ≡ true
+  pub areas : createFine (zeroAreas .table) (zeroAreas .log) (zeroAreas .main) (zeroAreas .staging) ≡ true
   pub lent : Sized zeroAreas
   pub good : GoodHeader firstHeader
   pub words : Words firstHeader
   pub two : countOf firstHeader ≡ 2
-  pub long : length (zeros 4096) ≡ 4096
-  pub bytes : Bytes (zeros 4096)
+  pub long : length (zeros pageSize) ≡ pageSize
+  pub bytes : Bytes (zeros pageSize)
   pub row : SFits w64 (pos 0)

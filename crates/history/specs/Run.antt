@@ -4,6 +4,7 @@ use Prim.Native.Nat.{ℕ, _+_}
 use lib.Dec.{eqb}
 use lib.ListN.{length, take, drop}
 use Rattle.le.specs.Choice.{pick}
+use Rattle.wal.specs.Header.{headerSize}
 use Rattle.pager_state.specs.World.{World, world}
 use Rattle.pager_state.specs.Stores.{Disk, content, diskOf, Kind, Batched, Sealed, Emptied, Other, Act, Put, SetLen, kindOf, stored, cutAll, wholeOf}
 use Rattle.pager_state.specs.Opening.{openStores, createdPager, createTable, createLog, createMain}
@@ -25,7 +26,7 @@ pub record Run : Type 0 where
 -- after a whole store; d are the files then. "no sealed log byte alters between folds": the bytes sealed before stay in front, and a seal
 -- adds those up to its end
 abbrev pub keptBy : Act → Disk → List ℕ → List ℕ
-keptBy (Put Sealed f at bs flush) d z = z ++ drop (32 + length z) (take (at + length bs) (content (d .log)))
+keptBy (Put Sealed f at bs flush) d z = z ++ drop (headerSize + length z) (take (at + length bs) (content (d .log)))
 keptBy (Put Batched f at bs flush) d z = z
 keptBy (Put Emptied f at bs flush) d z = []
 keptBy (Put Other f at bs flush) d z = z

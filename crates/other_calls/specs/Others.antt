@@ -1,16 +1,18 @@
 -- The pager's public calls that `Call` does not name: each is one of those that it does, or none, on every store, a made-up one too.
--- `BeginCommit h salt`, `Step`, `Stage n bytes` and `Ask (ReadPage n)` are the theorem's own calls: `refusedBy`, `worldAfter` and `stagingAfter` say what they come to.
+-- `BeginCommit h salt`, `Step`, `Stage n bytes` and `Ask (ReadPage n)` are the theorem's own calls: `refusedBy`, `worldAfter` and `calls.stagingAfter` say what they come to.
 use mathlib.Core.Path.{_≡_}
 use mathlib.Core.Bool.{Bool, not}
 use mathlib.Core.List.{List}
 use Prim.Native.Nat.{ℕ, zero, suc, _+_, _≤_, _<_}
 use lib.Dec.{eqb}
 use Rattle.le.specs.Choice.{pick}
+use Rattle.refusal.specs.Refusal.{numberOf}
+use Rattle.refusal.specs.declared.Refusal.the-variants as refusal
 use Rattle.pager_state.specs.World.{World, countOf, headerOf, fine, stagingFine, busy, withStaged}
-use Rattle.pager_state.specs.Overlay.{findPage, findRefusal}
-use Rattle.pager_state.specs.Staging.{stageRefusal}
+use Rattle.pager_state.specs.Overlay.{slots, placePage, findPage, findRefusal}
+use Rattle.pager_state.specs.Staging.{stageRefusal, stagedAfter, stagingAfter}
 use Rattle.header.specs.declared.DbHeader.{DbHeader}
-use Rattle.pager_state.specs.Steps.{differing, commitStart, commitRefusal, stepFine, stepAnswer, onStore}
+use Rattle.pager_state.specs.Steps.{differing, commitRefusal, stepFine, stepAnswer, onStore}
 use Rattle.pager_state.specs.declared.Job.{Job}
 use Rattle.pager_state.specs.declared.Job.the-variants as job
 use Rattle.pager_state.specs.declared.Pager.{Pager}
@@ -18,17 +20,18 @@ use Rattle.pager_state.specs.declared.PageFound.{PageFound}
 use Rattle.pager_state.specs.declared.PageFound.the-variants as found
 use Rattle.pager_state.specs.declared.StepAnswer.{StepAnswer}
 use Rattle.pager_state.specs.declared.StepAnswer.the-variants as step
+use Rattle.pager_state.specs.declared.Staged.{Staged}
 use Rattle.pager_fold.specs.FoldStep.{foldAnswer, foldStepped}
 use Rattle.pager_commit.specs.CommitStep.{commitStepAnswer, commitStepped, commitSealed}
-use Rattle.pager_read.specs.Reading.{mayRead, placePage, readAs, readEnd}
-use Rattle.pager_stage.specs.StageIn.{stageIn, stagedIn, stagingIn}
-use Rattle.history.specs.Calls.{ReadPage, Ask, Stage, BeginCommit, Step, refusedBy, worldAfter, stagingAfter}
+use Rattle.pager_read.specs.Reading.{mayRead, readEnd, readAs}
+use Rattle.history.specs.Calls.{ReadPage, Ask, Stage, BeginCommit, Step, refusedBy, worldAfter}
+use Rattle.history.specs.Calls as calls
 
 -- ---- steps: `commit_step` and `fold_step`. a is the call's answer, v the store and areas after it
 
 -- nothing is done: Idle, or 1 where the areas are wrong
 abbrev pub Stays : Bool → World → StepAnswer → World → Type 0
-Stays ok w a v = (a ≡ pick ok step.Idle step.Area) × (v ≡ w)
+Stays ok w a v = (a ≡ pick ok step.Idle (step.Refused refusal.Area)) × (v ≡ w)
 
 -- `commit_step` is `Step` where a commit is part done
 abbrev pub CommitStepBy : Job → List ℕ → World → StepAnswer → World → Type 0
@@ -44,7 +47,7 @@ CommitStepIs = (g : List ℕ) (w : World) → CommitStepBy (w .pager .job) g w (
 
 -- `fold_step` is not lent the staging area: `Step` is it where the staging area has its length, and is refused (1) where not
 abbrev pub BehindStaging : World → StepAnswer → World → Type 0
-BehindStaging w a v = (g : List ℕ) → (stepAnswer g w ≡ pick (stagingFine g) a step.Area) × (worldAfter Step w g ≡ pick (stagingFine g) v w)
+BehindStaging w a v = (g : List ℕ) → (stepAnswer g w ≡ pick (stagingFine g) a (step.Refused refusal.Area)) × (worldAfter Step w g ≡ pick (stagingFine g) v w)
 
 -- so it is where a fold is part done
 abbrev pub FoldStepBy : Job → World → StepAnswer → World → Type 0
@@ -66,7 +69,7 @@ stepping zero g w = w
 stepping (suc k) g w = stepping k g (worldAfter Step w g)
 
 pub record FramesAs (g : List ℕ) (w : World) (h : DbHeader) (salt : ℕ) : Type 0 where
-  pub refusal : commitRefusal (commitStart g w h) ≡ refusedBy (BeginCommit h salt) w g
+  pub refusal : numberOf (commitRefusal g w h) ≡ refusedBy (BeginCommit h salt) w g
   pub refused : (refusedBy (BeginCommit h salt) w g ≡ 0 → ⊥) → commitSealed g w h salt ≡ w
   pub begun : refusedBy (BeginCommit h salt) w g ≡ 0 → commitSealed g w h salt ≡ stepping (differing g w + 1) g (worldAfter (BeginCommit h salt) w g)
 
@@ -77,17 +80,18 @@ CommitFramesIs = (g : List ℕ) (w : World) (h : DbHeader) (salt : ℕ) → Fram
 
 -- 0 where nothing is part done, another where something is
 abbrev pub Tells : ℕ → Pager → Type 0
-Tells j p = eqb j 0 ≡ not (busy p)
+Tells j p = not (eqb j 0) ≡ busy p
 
 -- ---- `stage_in` is `Stage`
 
-pub record StagedAs (j n : ℕ) (bytes g : List ℕ) (w : World) : Type 0 where
-  pub refusal : stageRefusal (stageIn j n (w .pager .staged) g bytes) ≡ refusedBy (Stage n bytes) w g
-  pub store : onStore w (withStaged (w .pager) (stagedIn (stageIn j n (w .pager .staged) g bytes) (w .pager .staged) n)) ≡ worldAfter (Stage n bytes) w g
-  pub staging : stagingIn (stageIn j n (w .pager .staged) g bytes) (w .pager .staged) g n bytes ≡ stagingAfter (Stage n bytes) w g
+-- s: the staged pages, as they are handed over
+pub record StagedAs (j n : ℕ) (bytes g : List ℕ) (s : Staged) (w : World) : Type 0 where
+  pub refusal : numberOf (stageRefusal (not (eqb j 0)) s g n bytes) ≡ refusedBy (Stage n bytes) w g
+  pub store : onStore w (withStaged (w .pager) (stagedAfter (not (eqb j 0)) s g n bytes)) ≡ worldAfter (Stage n bytes) w g
+  pub staging : stagingAfter (not (eqb j 0)) s g n bytes ≡ calls.stagingAfter (Stage n bytes) w g
 
 unfoldable pub StageInIs : Type 0
-StageInIs = (j n : ℕ) (bytes g : List ℕ) (w : World) → Tells j (w .pager) → StagedAs j n bytes g w
+StageInIs = (j n : ℕ) (bytes g : List ℕ) (w : World) → Tells j (w .pager) → StagedAs j n bytes g (slots (w .pager .staged .count) (w .pager .staged .pages)) w
 
 -- ---- `may_read` and `place_page` behind it are `ReadPage`
 
@@ -95,7 +99,7 @@ StageInIs = (j n : ℕ) (bytes g : List ℕ) (w : World) → Tells j (w .pager) 
 abbrev pub readBy : ℕ → ℕ → List ℕ → World → PageFound
 readBy j n g w =
     readAs (mayRead (countOf (headerOf (w .pager))) j (w .pager .wal .len) (w .pager .storage .len) (w .table) (w .log) (w .main) g)
-    (placePage (countOf (headerOf (w .pager))) n (w .pager .staged .count) (w .pager .staged .pages) (w .table))
+    (placePage (countOf (headerOf (w .pager))) (slots (w .pager .staged .count) (w .pager .staged .pages)) (w .table) n)
 
 unfoldable pub ReadIs : Type 0
 ReadIs =
