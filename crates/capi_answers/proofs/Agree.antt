@@ -16,8 +16,12 @@ use Rattle.pager_state.specs.declared.PageFound.{PageFound}
 use Rattle.pager_state.specs.declared.PageFound.the-variants as found
 use Rattle.pager_state.specs.declared.StepAnswer.{StepAnswer}
 use Rattle.pager_state.specs.declared.StepAnswer.the-variants as step
+use Rattle.pager_state.specs.declared.CommitAnswer.{CommitAnswer}
+use Rattle.pager_state.specs.declared.CommitAnswer.the-variants as committed
+use Rattle.pager_state.specs.declared.CheckpointAnswer.{CheckpointAnswer}
+use Rattle.pager_state.specs.declared.CheckpointAnswer.the-variants as written
 use Rattle.capi_numbers.specs.Numbers.{storeOf}
-use Rattle.capi_answers.specs.Answers.{page, foundAs, bytesIn, steppedAs}
+use Rattle.capi_answers.specs.Answers.{page, foundAs, bytesIn, committedAs, writtenAs, steppedAs}
 
 -- ---- a step, done or not, gives the store after it
 
@@ -26,6 +30,15 @@ step-store step.Idle p = refl
 step-store (step.Stored x) p = refl
 step-store (step.Last x n) p = refl
 step-store (step.Refused r) p = refl
+
+-- so does a call in one
+pub commit-store : (a : CommitAnswer) (p : Pager) → committedAs a p .store ≡ storeOf p
+commit-store (committed.Committed n) p = refl
+commit-store (committed.Refused r) p = refl
+
+pub checkpoint-store : (a : CheckpointAnswer) (p : Pager) → writtenAs a p .store ≡ storeOf p
+checkpoint-store (written.Written n) p = refl
+checkpoint-store (written.Refused r) p = refl
 
 -- ---- "Page reads answer with the page's own bytes": what a host finds at the place that it is told
 

@@ -14,7 +14,7 @@ use Rattle.le.proofs.Compare.{both-true}
 use Rattle.page.specs.Page.{pageSize}
 use Rattle.refusal.specs.declared.Refusal.the-variants as refusal
 use Rattle.refusal.proofs.Rows.{accepted}
-use Rattle.refusal.proofs.Judged.{met, behind}
+use Rattle.refusal.proofs.Judged.{met, first-none}
 use Rattle.frame.specs.Frame.{frameSize, encodeFrame, bodyOf}
 use Rattle.frame.proofs.Stores.{length-encodeFrame}
 use Rattle.frame.proofs.RoundTrip.{body-back}
@@ -59,7 +59,7 @@ module _ (w : World) (g : List ℕ) (b : Book) (z : List ℕ) (i : Inv w g b z) 
   appending-ok =
       let l : Bool = logFine (w .pager .wal .len) (w .log) in
       let a = met (both l (leb (length body) pageSize)) refusal.Area _ taken in
-      let c = met (not (busy (w .pager))) refusal.Busy _ (behind (headingRefusal body) _ (a .1)) in
+      let c = met (not (busy (w .pager))) refusal.Busy _ (first-none (headingRefusal body) _ (a .1) .1) in
       let d = met (not (readOnly (w .pager))) refusal.ReadOnly _ (c .1) in
       let m = met (hasRoom (w .pager .wal)) refusal.LogFull (decodeRefusal body) (d .1) in
       record {
