@@ -3,7 +3,6 @@
 use Prim.Native.Nat.{ℕ}
 use Rattle.refusal.specs.Refusal.{number}
 use Rattle.refusal.specs.declared.Refusal.{Refusal}
-use Rattle.frame.specs.declared.FrameHeader.{FrameHeader}
 use Rattle.header.specs.declared.HeaderEncoded.{HeaderEncoded}
 use Rattle.header.specs.declared.HeaderEncoded.the-variants as encoded
 use Rattle.header.specs.declared.HeaderDecoded.{HeaderDecoded}
