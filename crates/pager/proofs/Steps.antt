@@ -13,7 +13,7 @@ use Rattle.header.specs.declared.DbHeader.{DbHeader}
 use Rattle.pager_state.specs.World.{World, fine, stagingFine, busyWith}
 use Rattle.pager_state.specs.Fold.{foldTodo, foldAdvance}
 use Rattle.pager_state.specs.Commit.{commitTodo, commitAdvance}
-use Rattle.pager_state.specs.Steps.{stepFine, todo, advance, named, done, answerOf, stepAnswer, stepped, steps}
+use Rattle.pager_state.specs.Steps.{stepFine, todo, advance, named, done, answerOf, stepAnswer, stepped, steps, mostSteps}
 use Rattle.pager_state.specs.declared.Job.{Job}
 use Rattle.pager_state.specs.declared.Job.the-variants as job
 use Rattle.pager_state.specs.declared.StepAnswer.the-variants as step
@@ -93,10 +93,10 @@ module _ (g : List ℕ) (w : World) where
 -- ---- the loop
 
 -- one step of those that are left
-pub one-more : (g : List ℕ) (k : ℕ) (w v : World) → k < 2200 → v ≡ stepped g w → steps g (2200 - k) w ≡ steps g (2200 - (k + 1)) v
+pub one-more : (g : List ℕ) (k : ℕ) (w v : World) → k < mostSteps → v ≡ stepped g w → steps g (mostSteps - k) w ≡ steps g (mostSteps - (k + 1)) v
 unfolding steps
 one-more g k w v h e =
-    let n : 2200 - k ≡ suc (2200 - (k + 1)) = omega arith in
+    let n : mostSteps - k ≡ suc (mostSteps - (k + 1)) = omega arith in
     rw (n, e)
 
 -- nothing is part done

@@ -11,7 +11,7 @@ use Rattle.le.specs.Choice.{pick, both}
 use Rattle.refusal.specs.Refusal.{accepts, answered}
 use Rattle.refusal.specs.declared.Refusal.{Refusal}
 use Rattle.header.specs.declared.DbHeader.{DbHeader}
-use Rattle.pager_state.specs.World.{World}
+use Rattle.pager_state.specs.World.{World, pageLimit}
 use Rattle.pager_state.specs.Pages.{differs}
 use Rattle.pager_state.specs.Steps.{differing, commitRefusal, commitStart, beginCommit, nothingToFold, checkpointRefusal, checkpointStart, checkpointBegins, folding, beginCheckpoint, answerOf, mostSteps, steps, onStore, commitAnswer, commitWorld, checkpointAnswer, checkpointWorld}
 use Rattle.pager_state.specs.declared.CommitStart.{CommitStart}
@@ -27,18 +27,18 @@ use Rattle.pager_state.proofs.CheckpointStart as S
 use Rattle.pager_state.proofs.Searches.{pages-length}
 use Rattle.pager_state.proofs.Runs.{steps-add}
 use Rattle.pager_state.proofs.Answers.{checkpoint-answer}
+use Rattle.pager_judge.proofs.Judging.{begins, refuses}
 use Rattle.pager_commit.specs.CommitStep.{commitSealed}
-use Rattle.pager_commit.proofs.Starting.{begins, refuses}
 use Rattle.pager.specs.Jobs.{committedAs, writtenAs}
 
 -- ---- a commit
 
 -- no more pages differ than there are
-differing-most : (g : List ℕ) (w : World) → differing g w ≤ 1024
+differing-most : (g : List ℕ) (w : World) → differing g w ≤ pageLimit
 unfolding differing
 differing-most g w = pages-length (differs g w) 0
 
-few-by : (b : Bool) (m n : ℕ) → m ≡ pick b n 0 → n ≤ 1024 → m ≤ 1024
+few-by : (b : Bool) (m n : ℕ) → m ≡ pick b n 0 → n ≤ pageLimit → m ≤ pageLimit
 few-by true m n e h = rw e h
 few-by false m n e h = omega (arith, e)
 
@@ -51,7 +51,7 @@ told-by (some r) m n e = refl
 -- x is the start's answer with the pages that differ, and v the world behind the seal
 module _ (g : List ℕ) (w : World) (h : DbHeader) (salt : ℕ) {x : CommitStart} {m : ℕ} {v : World} (j : x ≡ commitStart g w h) (p : m ≡ pick (accepts (commitRefusal g w h)) (differing g w) 0)
     (f : v ≡ commitSealed g w h salt) where
-  pub pages-few : m ≤ 1024
+  pub pages-few : m ≤ pageLimit
   pages-few = few-by (accepts (commitRefusal g w h)) m (differing g w) p (differing-most g w)
 
   pub commit-told : {r : CommitAnswer} → r ≡ committedAs x m → r ≡ commitAnswer g w h

@@ -4,7 +4,7 @@ ghost use mathlib.Core.Path.{_≡_};
 ghost use mathlib.Core.Bool.{true};
 ghost use Prim.Native.Nat.{_-_};
 ghost use Rattle.pager_state.specs.World.{world};
-ghost use Rattle.pager_state.specs.Steps.{answerOf, stepAnswer, stepped, steps, commitAnswer, commitWorld, checkpointAnswer, checkpointWorld};
+ghost use Rattle.pager_state.specs.Steps.{answerOf, stepAnswer, stepped, steps, mostSteps, commitAnswer, commitWorld, checkpointAnswer, checkpointWorld};
 ghost use Rattle.pager.specs.Jobs.{isCommit, committedAs, writtenAs};
 use header::DbHeader;
 use pager_state::CheckpointAnswer;
@@ -45,8 +45,13 @@ pub fn next_step<'a>(
     main: &mut [u8],
     staging: &'a [u8],
 ) -> Stepped
-    ensures { λ r. ⌜ r .answer ≡ stepAnswer (now (staging .entry)) (world pager (now (table .entry)) (now (log .entry)) (now (main .entry))) ⌝ }
-    ensures { λ r. ⌜ world (r .pager) (now (table .exit)) (now (log .exit)) (now (main .exit)) ≡ stepped (now (staging .entry)) (world pager (now (table .entry)) (now (log .entry)) (now (main .entry))) ⌝ }
+    ensures { λ r. ⌜
+        (let w = world pager (now (table .entry)) (now (log .entry)) (now (main .entry)) in
+        r .answer ≡ stepAnswer (now (staging .entry)) w) ⌝ }
+    ensures { λ r. ⌜
+        (let w = world pager (now (table .entry)) (now (log .entry)) (now (main .entry)) in
+        let later = world (r .pager) (now (table .exit)) (now (log .exit)) (now (main .exit)) in
+        later ≡ stepped (now (staging .entry)) w) ⌝ }
 {
     if !pager_state::are_fine(pager, table.len(), log.len(), main.len(), staging.len()) {
         return Stepped {
@@ -70,7 +75,10 @@ fn run_steps<'a>(
     main: &mut [u8],
     staging: &'a [u8],
 ) -> Pager
-    ensures { λ r. ⌜ world r (now (table .exit)) (now (log .exit)) (now (main .exit)) ≡ steps (now (staging .entry)) (2200 - done) (world pager (now (table .entry)) (now (log .entry)) (now (main .entry))) ⌝ }
+    ensures { λ r. ⌜
+        (let w = world pager (now (table .entry)) (now (log .entry)) (now (main .entry)) in
+        let later = world r (now (table .exit)) (now (log .exit)) (now (main .exit)) in
+        later ≡ steps (now (staging .entry)) (mostSteps - done) w) ⌝ }
 {
     let mut p = pager;
     let mut k = done;
@@ -129,8 +137,13 @@ pub fn commit<'a>(
     new_header: DbHeader,
     salt: u32,
 ) -> Committed
-    ensures { λ r. ⌜ r .answer ≡ commitAnswer (now (staging .entry)) (world pager (now (table .entry)) (now (log .entry)) (now (main .entry))) «new_header» ⌝ }
-    ensures { λ r. ⌜ world (r .pager) (now (table .exit)) (now (log .exit)) (now (main .exit)) ≡ commitWorld (now (staging .entry)) (world pager (now (table .entry)) (now (log .entry)) (now (main .entry))) «new_header» salt ⌝ }
+    ensures { λ r. ⌜
+        (let w = world pager (now (table .entry)) (now (log .entry)) (now (main .entry)) in
+        r .answer ≡ commitAnswer (now (staging .entry)) w «new_header») ⌝ }
+    ensures { λ r. ⌜
+        (let w = world pager (now (table .entry)) (now (log .entry)) (now (main .entry)) in
+        let later = world (r .pager) (now (table .exit)) (now (log .exit)) (now (main .exit)) in
+        later ≡ commitWorld (now (staging .entry)) w «new_header» salt) ⌝ }
 {
     let run = pager_commit::commit_frames(pager, table, log, main, staging, new_header, salt);
     let start = run.answer;
@@ -173,8 +186,13 @@ pub fn checkpoint<'a>(
     staging: &'a [u8],
     salt: u32,
 ) -> Checkpointed
-    ensures { λ r. ⌜ r .answer ≡ checkpointAnswer (now (staging .entry)) (world pager (now (table .entry)) (now (log .entry)) (now (main .entry))) ⌝ }
-    ensures { λ r. ⌜ world (r .pager) (now (table .exit)) (now (log .exit)) (now (main .exit)) ≡ checkpointWorld (now (staging .entry)) (world pager (now (table .entry)) (now (log .entry)) (now (main .entry))) salt ⌝ }
+    ensures { λ r. ⌜
+        (let w = world pager (now (table .entry)) (now (log .entry)) (now (main .entry)) in
+        r .answer ≡ checkpointAnswer (now (staging .entry)) w) ⌝ }
+    ensures { λ r. ⌜
+        (let w = world pager (now (table .entry)) (now (log .entry)) (now (main .entry)) in
+        let later = world (r .pager) (now (table .exit)) (now (log .exit)) (now (main .exit)) in
+        later ≡ checkpointWorld (now (staging .entry)) w salt) ⌝ }
 {
     let begun = pager_fold::begin_checkpoint(pager, table, log, main, staging, salt);
     let start = begun.answer;

@@ -1,7 +1,6 @@
--- The root of the laws of a commit's steps.
-pub mod Least
-pub mod Differing
-pub mod Marks
-pub mod Frames
-pub mod Whole
+-- The root of the laws of a commit's calls.
+pub mod Stores
+pub mod Step
 pub mod Starting
+pub mod Marking
+pub mod Whole

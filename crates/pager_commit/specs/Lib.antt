@@ -1,2 +1,3 @@
--- The root of the definitions of a commit's steps.
+-- The root of the definitions of a commit's calls.
 pub mod CommitStep
+pub mod Parts

@@ -6,17 +6,17 @@ use borrow.Author.Tests.{not-true}
 use Prim.Native.Nat.{ℕ, _+_, _-_}
 use lib.ListN.{length}
 use Rattle.pager_state.specs.World.{World, world}
-use Rattle.pager_state.specs.Steps.{steps}
+use Rattle.pager_state.specs.Steps.{steps, mostSteps}
 use Rattle.pager.proofs.Steps.{one-more, at-rest}
 use Rattle.pager.proofs.run_steps.Statement.{statement}
 use Rattle.pager.proofs.run_steps.Tie as tie
 
 abbrev Inv-loop : tie.InvT-loop
 Inv-loop done table₀ log₀ main₀ staging p₀ k₀ table log main p k =
-    (length table ≡ length table₀) × ((length log ≡ length log₀) × ((length main ≡ length main₀) × (steps staging (2200 - k₀) (world p₀ table₀ log₀ main₀) ≡ steps staging (2200 - k) (world p table log main))))
+    (length table ≡ length table₀) × ((length log ≡ length log₀) × ((length main ≡ length main₀) × (steps staging (mostSteps - k₀) (world p₀ table₀ log₀ main₀) ≡ steps staging (mostSteps - k) (world p table log main))))
 
 abbrev μ-loop : tie.MeasureT-loop
-μ-loop done table₀ log₀ main₀ staging p₀ k₀ table log main p k = 2200 - k
+μ-loop done table₀ log₀ main₀ staging p₀ k₀ table log main p k = mostSteps - k
 
 loop-holds : tie.Need-loop-holds Inv-loop μ-loop
 loop-holds c = (refl, (refl, (refl, refl)))
@@ -35,7 +35,7 @@ returns c =
     let L = c .before .before .before in
     let g = now (c .before .before .before .before .before .before .before .before .args .staging) in
     let v : World = world (L .loop .p) (L .loop .table) (L .loop .log) (L .loop .main) in
-    at-rest g (2200 - L .loop .k) v (sym (c .before .is-busy .ensures) ∙ not-true _ (c .if1 .taken)) ∙ sym (L .loop .inv .1 .1 .1)
+    at-rest g (mostSteps - L .loop .k) v (sym (c .before .is-busy .ensures) ∙ not-true _ (c .if1 .taken)) ∙ sym (L .loop .inv .1 .1 .1)
 
 add-k : tie.Need-add-k Inv-loop μ-loop
 add-k c = omega (arith, c .before .before .before .before .before .before .before .before .before .before .before .before .before .loop-test .taken)
@@ -72,7 +72,7 @@ returns-2 c =
     let L = c .before in
     let g = now (c .before .before .before .before .before .before .args .staging) in
     let v : World = world (L .loop .p) (L .loop .table) (L .loop .log) (L .loop .main) in
-    let z : 2200 - L .loop .k ≡ 0 = omega (arith, c .loop-test .left) in
+    let z : mostSteps - L .loop .k ≡ 0 = omega (arith, c .loop-test .left) in
     sym (L .loop .inv .1 .1 .1 ∙ ap (λ (m : ℕ). steps g m v) z)
 
 pub run-steps-spec : {M : Type 1} → statement M

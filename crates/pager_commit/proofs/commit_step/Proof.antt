@@ -6,7 +6,7 @@ use Prim.Native.Nat.{_-_}
 use Rattle.pager_state.specs.World.{world, fine}
 use Rattle.pager_state.specs.Steps.{stepFine}
 use Rattle.pager_state.proofs.Made.{ready-fine}
-use Rattle.pager_commit.proofs.Starting.{not-fine, at-other, at-commit}
+use Rattle.pager_commit.proofs.Step.{not-fine, at-other, at-commit}
 use borrow.Author.Needs.{needs}
 use Rattle.pager_commit.proofs.commit_step.Statement.{statement}
 use Rattle.pager_commit.proofs.commit_step.Tie as tie
@@ -42,7 +42,7 @@ frames-step-requires c κs =
     let g = now (c11 .args .staging) in
     let a : stepFine g W ≡ true = sym (c6 .are-fine .ensures) ∙ not-false _ (c5 .if1 .left) in
     let s = ready-fine g W a in
-    (s .0 .table, (s .0 .files .log .area, (s .1, s .0 .files .log .len)))
+    (record { table = s .0 .table; log = s .0 .files .log .area }, s .1)
 
 returns-3 : tie.Need-returns-3
 unfolding fine
@@ -55,9 +55,7 @@ returns-3 c =
     let W = world (c16 .args .pager) (now (c16 .args .table)) (now (c16 .args .log)) (now (c16 .args .main)) in
     let g = now (c16 .args .staging) in
     let a : stepFine g W ≡ true = sym (c11 .are-fine .ensures) ∙ not-false _ (c10 .if1 .left) in
-    at-commit g W a _ _ _ _ (c8 .job .given .1) (c4 .frames-step .ensures .0) (c4 .frames-step .ensures .1)
+    at-commit g W a _ _ _ _ (c8 .job .given .1) (c4 .frames-step .ensures)
 
 pub commit-step-spec : {M : Type 1} → statement M
-commit-step-spec =
-    tie.close
-    (tie.spec (search needs) returns (search needs) returns-2 frames-step-requires (search needs) (search needs) returns-3)
+commit-step-spec = tie.close (tie.spec (search needs) returns (search needs) returns-2 frames-step-requires (search needs) (search needs) returns-3)

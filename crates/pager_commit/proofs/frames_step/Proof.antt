@@ -1,63 +1,81 @@
-use mathlib.Core.Path.{_≡_, ap, _∙_}
+use mathlib.Core.Path.{_≡_, sym, _∙_}
+use mathlib.Core.Bool.{true, false}
+use mathlib.Core.Logic.{⊎-elim}
 use denote.Ref.{now}
-use Prim.Native.Nat.{_-_}
-use Rattle.pager_state.specs.Pages.{pagesFrom, firstOf, differs}
-use Rattle.pager_commit.proofs.Frames.{frame-told, frame-stepped, seal-told, seal-stepped}
-use Rattle.pager_state.specs.World.{world}
+use borrow.Author.Needs.{needs}
+use borrow.Author.Tests.{not-true, not-false}
+use Prim.Native.Nat.{_-_, _≤_, _<_}
+use Rattle.le.proofs.Tests.{le-or-lt}
+use Rattle.wal.specs.Write.{hasRoom}
+use Rattle.pager_state.specs.World.{world, pageLimit}
+use Rattle.pager_state.specs.Pages.{differs}
 use Rattle.pager_state.proofs.Searches.{lowest}
 use Rattle.pager_state.proofs.Walks.{none-found}
-use borrow.Author.Needs.{needs}
+use Rattle.pager_commit.proofs.Step.{frame-refused, frame-stepped, seal-refused, seal-stepped}
 use Rattle.pager_commit.proofs.frames_step.Statement.{statement}
 use Rattle.pager_commit.proofs.frames_step.Tie as tie
 
-frame-step-requires : tie.Need-frame-step-requires
-frame-step-requires c κs =
-    let c2 = c .before .before in
-    let c4 = c2 .before .before in
-    let c12 = c4 .before .before .before .before .before .before .before .before in
-    (c2 .if1 .taken, (c4 .next-differing .ensures .1 .1, (c12 .pre .0, (c12 .pre .1 .0, (c12 .pre .1 .1 .0, c12 .pre .1 .1 .1)))))
-
+-- no room: whichever store is next
 returns : tie.Need-returns
 returns c =
-    let c4 = c .before .before .before .before in
-    let c7 = c4 .before .before .before in
-    let c9 = c7 .before .before in
-    let c17 = c9 .before .before .before .before .before .before .before .before in
-    let W = world (c17 .args .pager) (now (c17 .args .table)) (now (c17 .args .log)) (now (c17 .args .main)) in
-    let g = now (c17 .args .staging) in
-    let f = c9 .next-differing .ensures in
-    let q = c9 .next-differing .result .page in
-    let d : q ≡ firstOf (pagesFrom (differs g W) (c17 .args .page)) = f .0 in
-    let e = lowest (differs g W) (c17 .args .page) q d (c7 .if1 .taken) .split in
-    let i = f .1 .0 (c7 .if1 .taken) in
-    let s = c4 .frame-step .ensures in (
-      frame-told g (c17 .args .header) (c17 .args .salt) (c17 .args .answer) (c17 .args .page) W q (c9 .next-differing .result .index) e i (f .1 .1) (c17 .pre .1 .1 .0) (s .0),
-      frame-stepped g (c17 .args .header) (c17 .args .salt) (c17 .args .answer) (c17 .args .page) W q (c9 .next-differing .result .index) e i (f .1 .1) (c17 .pre .1 .1 .0) (s .1 .0) (s .1 .1 .0) (s .1 .1 .1),
-    )
+    let d = c .before .before in
+    let S = d .before .before .before .before .before .before .before .before .before in
+    let a = S .args in
+    let g = now (a .staging) in
+    let w = world (a .pager) (now (a .table)) (now (a .log)) (now (a .main)) in
+    let f = d .next-differing .ensures in
+    let s = d .next-differing .result in
+    let o : hasRoom (a .pager .wal) ≡ false = sym (c .before .fits-in .ensures) ∙ not-true _ (c .if1 .taken) in
+    ⊎-elim
+    (λ (h : pageLimit ≤ s .page). seal-refused g (a .header) (a .salt) (a .answer) (a .page) w (none-found (differs g w) (a .page) (s .page) (f .0) h) o)
+    (λ (h : s .page < pageLimit). frame-refused g (a .header) (a .salt) (a .answer) (a .page) w s (lowest (differs g w) (a .page) (s .page) (f .0) h .split) (f .1 h .0) (f .1 h .1) (S .pre .1) o)
+    (le-or-lt pageLimit (s .page))
 
-seal-step-requires : tie.Need-seal-step-requires
-seal-step-requires c κs =
-    let c12 = c .before .before .before .before .before .before .before .before .before .before .before .before in
-    (c12 .pre .0, (c12 .pre .1 .0, c12 .pre .1 .1 .1))
+-- where there is room
+room : (c : tie.Else1) → hasRoom (c .before .before .before .before .before .before .before .before .before .before .before .args .pager .wal) ≡ true
+room c = sym (c .before .fits-in .ensures) ∙ not-false _ (c .if1 .left)
+
+frame-step-requires : tie.Need-frame-step-requires
+frame-step-requires c κs =
+    let h = c .before .before .if2 .taken in
+    let e = c .before .before .before .before in
+    let d = e .before .before in
+    let S = d .before .before .before .before .before .before .before .before .before in
+    ((h, d .next-differing .ensures .1 h .1), (S .pre, room e))
 
 returns-2 : tie.Need-returns-2
 returns-2 c =
-    let c4 = c .before .before .before .before in
-    let c7 = c4 .before .before .before in
-    let c9 = c7 .before .before in
-    let c17 = c9 .before .before .before .before .before .before .before .before in
-    let W = world (c17 .args .pager) (now (c17 .args .table)) (now (c17 .args .log)) (now (c17 .args .main)) in
-    let g = now (c17 .args .staging) in
-    let f = c9 .next-differing .ensures in
-    let q = c9 .next-differing .result .page in
-    let d : q ≡ firstOf (pagesFrom (differs g W) (c17 .args .page)) = f .0 in
-    let e = none-found (differs g W) (c17 .args .page) q d (c7 .if1 .left) in
-    let s = c4 .seal-step .ensures in (
-      seal-told g (c17 .args .header) (c17 .args .salt) (c17 .args .answer) (c17 .args .page) W e (s .0),
-      seal-stepped g (c17 .args .header) (c17 .args .salt) (c17 .args .answer) (c17 .args .page) W e (s .1 .0) (s .1 .1 .0) (s .1 .1 .1),
-    )
+    let k = c .before .before .before .before in
+    let e = k .before .before .before .before .before in
+    let d = e .before .before in
+    let S = d .before .before .before .before .before .before .before .before .before in
+    let a = S .args in
+    let g = now (a .staging) in
+    let w = world (a .pager) (now (a .table)) (now (a .log)) (now (a .main)) in
+    let h = k .before .before .before .if2 .taken in
+    let f = d .next-differing .ensures in
+    let s = d .next-differing .result in
+    let q = k .frame-step .ensures in
+    frame-stepped g (a .header) (a .salt) (a .answer) (a .page) w s (lowest (differs g w) (a .page) (s .page) (f .0) h .split) (f .1 h .0) (f .1 h .1) (S .pre .1) (room e) (q .0) (q .1 .0) (q .1 .1 .0) (q .1 .1 .1)
+
+seal-step-requires : tie.Need-seal-step-requires
+seal-step-requires c κs =
+    let e = c .before .before .before .before in
+    let S = e .before .before .before .before .before .before .before .before .before .before .before in
+    (S .pre .0, room e)
+
+returns-3 : tie.Need-returns-3
+returns-3 c =
+    let k = c .before .before .before .before in
+    let e = k .before .before .before .before .before in
+    let d = e .before .before in
+    let a = d .before .before .before .before .before .before .before .before .before .args in
+    let g = now (a .staging) in
+    let w = world (a .pager) (now (a .table)) (now (a .log)) (now (a .main)) in
+    let f = d .next-differing .ensures in
+    let s = d .next-differing .result in
+    let q = k .seal-step .ensures in
+    seal-stepped g (a .header) (a .salt) (a .answer) (a .page) w (none-found (differs g w) (a .page) (s .page) (f .0) (k .before .before .before .if2 .left)) (room e) (q .0) (q .1 .0) (q .1 .1 .0) (q .1 .1 .1)
 
 pub frames-step-spec : {M : Type 1} → statement M
-frames-step-spec =
-    tie.close
-    (tie.spec (search needs) frame-step-requires (search needs) (search needs) returns seal-step-requires (search needs) (search needs) returns-2)
+frames-step-spec = tie.close (tie.spec (search needs) (search needs) (search needs) (search needs) returns frame-step-requires (search needs) (search needs) returns-2 seal-step-requires (search needs) (search needs) returns-3)

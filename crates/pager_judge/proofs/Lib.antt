@@ -1,0 +1,2 @@
+-- The root of the laws of how a commit is judged.
+pub mod Judging
