@@ -24,6 +24,7 @@ use capi_answers::StepAnswered;
 use capi_numbers::Store;
 use header::DbHeader;
 use pager_read::ReadAnswer;
+use pager_state::STAGED_PAGES;
 use pager_state::StageAnswer;
 
 // ---- creation and openings
@@ -242,7 +243,7 @@ pub extern "C" fn lateenbael_place_page(
     page_count: u32,
     page_num: u32,
     staged_count: usize,
-    staged: &[u16; 64],
+    staged: &[u16; STAGED_PAGES],
     table: &[u32],
 ) -> PageAnswer
     ensures { λ r. ⌜ r ≡ foundAs (placePage «page_count» (slots «staged_count» (now (staged .entry))) (now (table .entry)) «page_num») ⌝ }
@@ -311,7 +312,7 @@ pub extern "C" fn lateenbael_stage_in(
     job: u32,
     page_num: u32,
     staged_count: usize,
-    staged: &mut [u16; 64],
+    staged: &mut [u16; STAGED_PAGES],
     staging: &mut [u8],
     bytes: &[u8],
 ) -> StagedCount

@@ -2,12 +2,56 @@
 // Every public function is total: a field that is not wholly there reads as 0, a part is what is there
 // of it, and a store that does not fit is refused and changes nothing.
 ghost use mathlib.Core.Path.{_≡_};
-ghost use Prim.Native.Nat.{_+_, _≤_, _<_};
+ghost use Prim.Native.Nat.{_+_, _≤_, _<_, min, max};
 ghost use lib.Dec.{leb};
 ghost use lib.ListN.{length, take, drop, replicate};
 ghost use Rattle.le.specs.Le.{leBytes, field, wholeField, put, store, sameBytes};
 ghost use Rattle.le.specs.Answers.{storedOf};
 ghost use Rattle.le.specs.Choice.{both};
+
+// ---- numbers and truth values, for crates above: a named function has its contract, an operator in the middle of a loop has none
+
+pub fn min(a: usize, b: usize) -> usize
+    ensures { λ r. ⌜ r ≡ min a b ⌝ }
+{
+    if a < b { a } else { b }
+}
+
+pub fn min_u16(a: u16, b: u16) -> u16
+    ensures { λ r. ⌜ r ≡ min a b ⌝ }
+{
+    if a < b { a } else { b }
+}
+
+pub fn max(a: usize, b: usize) -> usize
+    ensures { λ r. ⌜ r ≡ max a b ⌝ }
+{
+    if a < b { b } else { a }
+}
+
+pub fn max_u16(a: u16, b: u16) -> u16
+    ensures { λ r. ⌜ r ≡ max a b ⌝ }
+{
+    if a < b { b } else { a }
+}
+
+pub fn widen_u16(x: u16) -> usize
+    ensures { λ r. ⌜ r ≡ x ⌝ }
+{
+    x as usize
+}
+
+pub fn widen_u32(x: u32) -> usize
+    ensures { λ r. ⌜ r ≡ x ⌝ }
+{
+    x as usize
+}
+
+pub fn both(a: bool, b: bool) -> bool
+    ensures { λ r. ⌜ r ≡ both a b ⌝ }
+{
+    if a { b } else { false }
+}
 
 // Whether n bytes from `at` on lie within a length.
 pub fn fits_in(len: usize, at: usize, n: usize) -> bool
@@ -123,12 +167,6 @@ fn same_words(a: &[u8], b: &[u8], start: usize) -> bool
         i += 8;
     }
     same_from(a, b, i)
-}
-
-fn both(a: bool, b: bool) -> bool
-    ensures { λ r. ⌜ r ≡ both a b ⌝ }
-{
-    if a { b } else { false }
 }
 
 // Whether 64 bytes from `i` on are the same. Every byte is looked at: with no way out in between the compiler compares sixteen at once.

@@ -1,7 +1,7 @@
 // Which pages a commit stores: the staged pages that differ, one after another or all at once, and the first that is missing.
 ghost use mathlib.Core.Path.{_≡_};
 ghost use mathlib.Core.Bool.{not};
-ghost use Prim.Native.Nat.{_+_, _≤_, _<_, min, max};
+ghost use Prim.Native.Nat.{_+_, _≤_, _<_};
 ghost use lib.ListN.{length, take, drop};
 ghost use Rattle.le.specs.Choice.{pick};
 ghost use Rattle.le.specs.Le.{sameBytes};
@@ -20,52 +20,22 @@ pub struct Slot {
     pub index: usize,
 }
 
-fn wide(x: u16) -> usize
-    ensures { λ r. ⌜ r ≡ x ⌝ }
-{
-    x as usize
-}
-
-fn widen(x: u32) -> usize
-    ensures { λ r. ⌜ r ≡ x ⌝ }
-{
-    x as usize
-}
-
-fn lower(a: usize, b: usize) -> usize
-    ensures { λ r. ⌜ r ≡ min a b ⌝ }
-{
-    if a < b { a } else { b }
-}
-
-fn higher(a: usize, b: usize) -> usize
-    ensures { λ r. ⌜ r ≡ max a b ⌝ }
-{
-    if a < b { b } else { a }
-}
-
-fn lower_16(a: u16, b: u16) -> u16
-    ensures { λ r. ⌜ r ≡ min a b ⌝ }
-{
-    if a < b { a } else { b }
-}
-
 // The lowest page from `page` on among the first n; 1,024 if there is none. It is the one that rises least above `page`, where those below
 // wrap round: the compiler takes the least of eight differences at once.
 fn lowest(s: &[u16], n: usize, page: usize) -> usize
     requires { ⌜ page < pageLimit ⌝ }
     ensures { λ r. ⌜ r ≡ nextIn (take n (now (s .entry))) page ⌝ }
 {
-    let end = lower(n, s.len());
+    let end = le::min(n, s.len());
     let from = page as u16;
     let mut least = u16::MAX;
     let mut i: usize = 0;
     while i < end {
         let rise = std::num::wrapping_sub_u16(s[i], from);
-        least = lower_16(rise, least);
+        least = le::min_u16(rise, least);
         i += 1;
     }
-    lower(page + wide(least), PAGES)
+    le::min(page + le::widen_u16(least), PAGES)
 }
 
 // The first page from `page` on among the first n numbers, and where it stands.
@@ -205,7 +175,7 @@ fn mark(page: u16, yes: bool) -> u16
 
 // The staged pages that differ, each in its slot, and in the other slots a number that is no page's; and how many they are.
 pub struct Marked {
-    pub pages: [u16; 64],
+    pub pages: [u16; STAGED_PAGES],
     pub count: usize,
 }
 
@@ -226,13 +196,13 @@ pub fn mark_differing<'a>(
         Marks differs staged (take (staged .count) (r .pages))) ⌝ }
 {
     let count = staged.count;
-    let end = lower(count, STAGED_PAGES);
-    let mut pages = [u16::MAX; 64];
+    let end = le::min(count, STAGED_PAGES);
+    let mut pages = [u16::MAX; STAGED_PAGES];
     let mut n: usize = 0;
     let mut i: usize = 0;
     while i < end {
         let number = staged.pages[i];
-        let page = wide(number);
+        let page = le::widen_u16(number);
         let first = pager_state::find_in(&staged.pages, count, page);
         let yes = is_counted(first, table, log, main, staging, page, i);
         pages[i] = mark(number, yes);
@@ -247,9 +217,9 @@ pub fn first_lacking(staged: Staged, old: u32, new: u32) -> usize
     ensures { λ r. ⌜ r ≡ firstOf (pagesFrom (lacks staged old new) 0) ⌝ }
 {
     let count = staged.count;
-    let slots = lower(count, STAGED_PAGES);
-    let end = lower(widen(new), PAGES);
-    let mut p = higher(1, widen(old));
+    let slots = le::min(count, STAGED_PAGES);
+    let end = le::min(le::widen_u32(new), PAGES);
+    let mut p = le::max(1, le::widen_u32(old));
     while p < end {
         if slots <= pager_state::find_in(&staged.pages, count, p) {
             return p;

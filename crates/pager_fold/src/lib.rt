@@ -2,7 +2,7 @@
 ghost use mathlib.Core.Path.{_≡_};
 ghost use mathlib.Core.Bool.{true, false};
 ghost use mathlib.Core.List.{List, _++_};
-ghost use Prim.Native.Nat.{ℕ, _+_, _*_, _≤_, _<_, min, max};
+ghost use Prim.Native.Nat.{ℕ, _+_, _*_, _≤_, _<_, max};
 ghost use lib.Dec.{leb, eqb};
 ghost use lib.ListN.{length, take, drop, getD, replicate};
 ghost use Rattle.wal.specs.Recovery.{walArea};
@@ -36,23 +36,11 @@ use wal::WAL_HEADER_SIZE;
 use wal::Wal;
 use wal::WalTruncated;
 
-fn widen(x: u32) -> usize
-    ensures { λ r. ⌜ r ≡ x ⌝ }
-{
-    x as usize
-}
-
-fn lesser(a: usize, b: usize) -> usize
-    ensures { λ r. ⌜ r ≡ min a b ⌝ }
-{
-    if a < b { a } else { b }
-}
-
 // Where the pages end that a fold can store: those below the page count that the table has.
 fn folding_end(count: u32, len: usize) -> usize
     ensures { λ r. ⌜ r ≡ foldingEnd count len ⌝ }
 {
-    lesser(lesser(widen(count), PAGES), len)
+    le::min(le::min(le::widen_u32(count), PAGES), len)
 }
 
 // The bits of both numbers: no less than either.
@@ -99,7 +87,7 @@ fn next_folding(count: u32, table: &[u32], page: usize) -> usize
     ensures { λ r. ⌜ r ≡ firstOf (pagesFrom (foldsBy count (now (table .entry))) page) ⌝ }
 {
     let end = folding_end(count, table.len());
-    let first = reached(page, 1);
+    let first = le::max(page, 1);
     if end <= first {
         return PAGES;
     }
@@ -134,7 +122,7 @@ fn count_folding(count: u32, table: &[u32]) -> usize
         n = tally(n, 1 < table[p]);
         p += 1;
     }
-    widen(n)
+    le::widen_u32(n)
 }
 
 // Makes a file of `len` bytes `to` bytes long, with zeros, if it is shorter.
@@ -148,13 +136,6 @@ fn grow(area: &mut [u8], len: usize, to: usize)
     le::write_zeros(area, len, to - len);
 }
 
-// The length of a file of `len` bytes once bytes that end at `end` are stored.
-fn reached(len: usize, end: usize) -> usize
-    ensures { λ r. ⌜ r ≡ max len end ⌝ }
-{
-    if len < end { end } else { len }
-}
-
 // Stores bytes in a file of `len` bytes, with zeros before them where they start past its end; answers its length.
 fn store_bytes(area: &mut [u8], len: usize, at: usize, bytes: &[u8]) -> usize
     requires { ⌜ at + length (now bytes) ≤ length (now area) ⌝ }
@@ -164,7 +145,7 @@ fn store_bytes(area: &mut [u8], len: usize, at: usize, bytes: &[u8]) -> usize
 {
     grow(area, len, at);
     le::write_bytes(area, at, bytes);
-    reached(len, at + bytes.len())
+    le::max(len, at + bytes.len())
 }
 
 // Stores the main header where it lies; answers the file's length.
@@ -173,7 +154,7 @@ fn store_header(main: &mut [u8], len: usize, header: DbHeader) -> usize
     ensures { λ r. ⌜ (r ≡ headerPut (now (main .entry)) len header .len) × (now (main .exit) ≡ headerPut (now (main .entry)) len header .area) ⌝ }
 {
     header::encode_header(header, &mut main[..PAGE_SIZE]);
-    reached(len, PAGE_SIZE)
+    le::max(len, PAGE_SIZE)
 }
 
 // The entry of a page that stays, once the log is folded.
@@ -217,7 +198,7 @@ fn fold_table(table: &mut [u32], count: u32)
     ensures { λ _. ⌜ now (table .exit) ≡ foldedFrom count 0 (now (table .entry)) ⌝ }
 {
     let len = table.len();
-    let end = lesser(widen(count), len);
+    let end = le::min(le::widen_u32(count), len);
     fold_front(table, end);
     clear(table, end, len - end);
 }
@@ -369,7 +350,7 @@ fn length_step(pager: Pager, salt: u32, answer: usize, main: &mut [u8]) -> Stepp
     ensures { λ _. ⌜ now (main .exit) ≡ grown (fileOf (now (main .entry)) (pager .storage .len)) (pageSize * countOf (headerOf pager)) ⌝ }
 {
     let header = pager.current_header;
-    let to = PAGE_SIZE * widen(header.page_count);
+    let to = PAGE_SIZE * le::widen_u32(header.page_count);
     let storage = pager.storage;
     grow(main, storage.len, to);
     let own = storage.header;

@@ -1,8 +1,7 @@
 // How a commit is judged before anything is stored.
 ghost use mathlib.Core.Path.{_≡_};
 ghost use lib.ListN.{length, take};
-ghost use Prim.Native.Nat.{min};
-ghost use Rattle.le.specs.Choice.{pick, both};
+ghost use Rattle.le.specs.Choice.{pick};
 ghost use Rattle.refusal.specs.Refusal.{accepts};
 ghost use Rattle.pager_state.specs.World.{world, stagedLimit};
 ghost use Rattle.pager_state.specs.Overlay.{stagedPages};
@@ -19,24 +18,6 @@ use pager_state::Staged;
 use refusal::Refusal;
 use wal::WAL_AREA;
 
-fn wide(x: u16) -> usize
-    ensures { λ r. ⌜ r ≡ x ⌝ }
-{
-    x as usize
-}
-
-fn lower(a: usize, b: usize) -> usize
-    ensures { λ r. ⌜ r ≡ min a b ⌝ }
-{
-    if a < b { a } else { b }
-}
-
-fn both(a: bool, b: bool) -> bool
-    ensures { λ r. ⌜ r ≡ both a b ⌝ }
-{
-    if a { b } else { false }
-}
-
 // Whether a page's frame in the log, if there is one, ends at `len` or before.
 fn stands_before(table: &[u32], page: usize, len: usize) -> bool
     ensures { λ r. ⌜ r ≡ standsBefore (now (table .entry)) page len ⌝ }
@@ -52,12 +33,12 @@ fn stands_before(table: &[u32], page: usize, len: usize) -> bool
 fn all_stand_before(staged: Staged, table: &[u32], len: usize) -> bool
     ensures { λ r. ⌜ r ≡ allBefore (now (table .entry)) len (stagedPages staged) ⌝ }
 {
-    let end = lower(staged.count, STAGED_PAGES);
+    let end = le::min(staged.count, STAGED_PAGES);
     let mut all = true;
     let mut i: usize = 0;
     while i < end {
-        let page = wide(staged.pages[i]);
-        all = both(all, stands_before(table, page, len));
+        let page = le::widen_u16(staged.pages[i]);
+        all = le::both(all, stands_before(table, page, len));
         i += 1;
     }
     all
@@ -84,13 +65,13 @@ pub struct Judged {
     pub answer: CommitStart,
     pub pages: usize,
     // As `Marked` of `pager_differing` has them.
-    pub marks: [u16; 64],
+    pub marks: [u16; STAGED_PAGES],
 }
 
 fn refused(refusal: Refusal) -> Judged
     ensures { λ r. ⌜ (r .answer ≡ CommitStart.Refused refusal) × (r .pages ≡ 0) ⌝ }
 {
-    let marks = [u16::MAX; 64];
+    let marks = [u16::MAX; STAGED_PAGES];
     Judged {
         answer: CommitStart::Refused(refusal),
         pages: 0,

@@ -141,7 +141,7 @@ pub fn place_page(
     page_count: u32,
     page_num: u32,
     staged_count: usize,
-    staged: &[u16; 64],
+    staged: &[u16; STAGED_PAGES],
     table: &[u32],
 ) -> PageFound
     ensures { λ r. ⌜ r ≡ placePage «page_count» (slots «staged_count» (now (staged .entry))) (now (table .entry)) «page_num» ⌝ }

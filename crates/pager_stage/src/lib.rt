@@ -2,7 +2,6 @@
 // Every public function is total; a refusal changes neither the store nor an area.
 ghost use mathlib.Core.Path.{_≡_};
 ghost use mathlib.Core.Bool.{not};
-ghost use Prim.Native.Nat.{max};
 ghost use lib.Dec.{eqb};
 ghost use Rattle.pager_state.specs.World.{withWal};
 ghost use Rattle.pager_state.specs.Overlay.{slots};
@@ -26,12 +25,6 @@ use wal::WAL_AREA;
 use wal::Wal;
 use wal_batch::BatchAppended;
 
-fn higher(a: usize, b: usize) -> usize
-    ensures { λ r. ⌜ r ≡ max a b ⌝ }
-{
-    if a < b { b } else { a }
-}
-
 // What staging answers, and how many pages are staged then.
 pub struct StagedIn {
     pub answer: StageAnswer,
@@ -52,7 +45,7 @@ fn stage(
     busy: bool,
     page_num: u32,
     count: usize,
-    pages: &mut [u16; 64],
+    pages: &mut [u16; STAGED_PAGES],
     staging: &mut [u8],
     bytes: &[u8],
 ) -> StagedIn
@@ -83,7 +76,7 @@ fn stage(
     le::write_bytes(staging, PAGE_SIZE * slot, bytes);
     StagedIn {
         answer: StageAnswer::Staged,
-        count: higher(count, slot + 1),
+        count: le::max(count, slot + 1),
     }
 }
 
@@ -92,7 +85,7 @@ pub fn stage_in(
     job: u32,
     page_num: u32,
     staged_count: usize,
-    staged: &mut [u16; 64],
+    staged: &mut [u16; STAGED_PAGES],
     staging: &mut [u8],
     bytes: &[u8],
 ) -> StagedIn

@@ -9,6 +9,7 @@ use Rattle.le.specs.Choice.{both}
 use Rattle.refusal.specs.Refusal.{unless}
 use Rattle.refusal.specs.declared.Refusal.{Refusal}
 use Rattle.refusal.specs.declared.Refusal.the-variants as refusal
+use Rattle.page.specs.Page.{pageSize}
 use Rattle.header.specs.declared.DbHeader.{DbHeader}
 use Rattle.wal.specs.Recovery.{walArea}
 use Rattle.wal.specs.declared.Wal.{Wal}
@@ -20,18 +21,19 @@ use Rattle.pager_state.specs.declared.Opening.{Opening}
 use Rattle.pager_state.specs.declared.Opening.the-variants as opening
 use Rattle.pager_state.specs.declared.Pager.{Pager}
 
--- "main area 4,194,304; staging 262,144 (64 pages)"; "Page count .. to 1,024"
+-- "Page count .. to 1,024"; "main area 4,194,304"
+abbrev pub pageLimit : ℕ
+pageLimit = 1024
+
 abbrev pub mainArea : ℕ
-mainArea = 4194304
+mainArea = pageSize * pageLimit
 
-abbrev pub stagingArea : ℕ
-stagingArea = 262144
-
+-- "staging 262,144 (64 pages)": another limit is another number here, and in `STAGED_PAGES` of src/lib.rt
 abbrev pub stagedLimit : ℕ
 stagedLimit = 64
 
-abbrev pub pageLimit : ℕ
-pageLimit = 1024
+abbrev pub stagingArea : ℕ
+stagingArea = pageSize * stagedLimit
 
 pub record World : Type 0 where
   pub pager : Pager

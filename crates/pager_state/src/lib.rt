@@ -1,7 +1,7 @@
 // The open store: what it holds, and what its calls answer. The definitions of every call are this crate's specs.
 ghost use mathlib.Core.Path.{_≡_};
 ghost use mathlib.Core.Bool.{true};
-ghost use Prim.Native.Nat.{_+_, min, max};
+ghost use Prim.Native.Nat.{_+_};
 ghost use lib.Dec.{eqb};
 ghost use lib.ListN.{length, take};
 ghost use Rattle.le.specs.Choice.{pick, both};
@@ -13,17 +13,17 @@ use refusal::Refusal;
 use wal::WAL_AREA;
 use wal::Wal;
 
-// The main file's area: 1,024 pages.
-pub const MAIN_AREA: usize = 4_194_304;
-
 // Pages that a store can have, and entries of the page table.
 pub const PAGES: usize = 1_024;
+
+// The main file's area: a page for each.
+pub const MAIN_AREA: usize = PAGE_SIZE * PAGES;
 
 // Pages that can be staged at a time.
 pub const STAGED_PAGES: usize = 64;
 
 // The staging area: a page for each.
-pub const STAGING_AREA: usize = 262_144;
+pub const STAGING_AREA: usize = PAGE_SIZE * STAGED_PAGES;
 
 // Frames at which a commit folds.
 pub const AUTO_CHECKPOINT_THRESHOLD_FRAMES: usize = 100;
@@ -54,7 +54,7 @@ pub struct FileStorage {
 #[repr(C)]
 pub struct Staged {
     pub count: usize,
-    pub pages: [u16; 64],
+    pub pages: [u16; STAGED_PAGES],
 }
 
 // What is part done: its arguments, the first page not looked at, and the answer that its last store gives.
@@ -350,47 +350,23 @@ pub fn are_fine(pager: Pager, table: usize, log: usize, main: usize, staging: us
     staging == STAGING_AREA
 }
 
-fn wide(x: u16) -> usize
-    ensures { λ r. ⌜ r ≡ x ⌝ }
-{
-    x as usize
-}
-
-fn widen(x: u32) -> usize
-    ensures { λ r. ⌜ r ≡ x ⌝ }
-{
-    x as usize
-}
-
-fn larger(a: u16, b: u16) -> u16
-    ensures { λ r. ⌜ r ≡ max a b ⌝ }
-{
-    if a < b { b } else { a }
-}
-
-fn smaller(a: usize, b: usize) -> usize
-    ensures { λ r. ⌜ r ≡ min a b ⌝ }
-{
-    if b < a { b } else { a }
-}
-
 fn weight(hit: bool, w: u16) -> u16
     ensures { λ r. ⌜ r ≡ pick hit w 0 ⌝ }
 {
     if hit { w } else { 0 }
 }
 
-// 64 less the index of the first p among 64 numbers, or 0. Every number is looked at: with no way out in between the compiler
+// The number of slots less the index of the first p in them, or 0. Every slot is looked at: with no way out in between the compiler
 // compares several at once.
-fn find_of_64(s: &[u16], p: u16) -> u16
+fn find_in_slots(s: &[u16], p: u16) -> u16
     requires { ⌜ length (now s) ≡ stagedLimit ⌝ }
     ensures { λ r. ⌜ findIn (now (s .entry)) p + r ≡ stagedLimit ⌝ }
 {
     let mut best: u16 = 0;
-    let mut left: u16 = 64;
+    let mut left: u16 = STAGED_PAGES as u16;
     let mut i: usize = 0;
     while i < STAGED_PAGES {
-        best = larger(best, weight(s[i] == p, left));
+        best = le::max_u16(best, weight(s[i] == p, left));
         left -= 1;
         i += 1;
     }
@@ -403,7 +379,7 @@ fn find_each(s: &[u16], p: usize) -> usize
 {
     let mut i = 0;
     while i < s.len() {
-        if wide(s[i]) == p {
+        if le::widen_u16(s[i]) == p {
             return i;
         }
         i += 1;
@@ -420,7 +396,7 @@ fn find(s: &[u16], p: usize) -> usize
     if (u16::MAX as usize) < p {
         return find_each(s, p);
     }
-    let found = wide(find_of_64(s, p as u16));
+    let found = le::widen_u16(find_in_slots(s, p as u16));
     STAGED_PAGES - found
 }
 
@@ -429,10 +405,10 @@ pub fn find_in(s: &[u16], n: usize, p: usize) -> usize
     ensures { λ r. ⌜ r ≡ findIn (take n (now (s .entry))) p ⌝ }
 {
     if n < 2 {
-        let end = smaller(n, s.len());
+        let end = le::min(n, s.len());
         return find_each(&s[..end], p);
     }
-    smaller(n, find(s, p))
+    le::min(n, find(s, p))
 }
 
 // The slot that has the page, else the next free one.
@@ -458,7 +434,7 @@ pub fn frame_of(table: &[u32], page: usize) -> usize
         return 0;
     }
     let entry = table[page];
-    widen(entry) / 2
+    le::widen_u32(entry) / 2
 }
 
 // Whether the main file has a page.

@@ -64,17 +64,11 @@ fn digit_of(b: u8) -> u8
     0
 }
 
-fn least(a: usize, b: usize) -> usize
-    ensures { λ r. ⌜ r ≡ min a b ⌝ }
-{
-    if a < b { a } else { b }
-}
-
 // Lays the bytes that a line stands for at the front of `out`.
 fn decode(line: &[u8], out: &mut [u8]) -> usize
     ensures { λ r. ⌜ Laid (bytesOf (now (line .entry))) (now (out .entry)) (now (out .exit)) r ⌝ }
 {
-    let n = least(line.len() / 2, out.len());
+    let n = le::min(line.len() / 2, out.len());
     let mut i = 0;
     while i < n {
         out[i] = 16 * digit_of(line[2 * i]) + digit_of(line[2 * i + 1]);

@@ -4,7 +4,7 @@ ghost use mathlib.Core.Path.{_≡_};
 ghost use Prim.Native.Nat.{_+_, _-_, _/_, _^_, _<_};
 ghost use lib.ListN.{length, drop};
 ghost use lib.Dec.{eqb};
-ghost use Rattle.le.specs.Choice.{pick, both};
+ghost use Rattle.le.specs.Choice.{pick};
 ghost use Rattle.le.specs.Answers.{storedOf};
 ghost use Rattle.le.specs.Le.{store};
 ghost use Rattle.page.specs.Page.{frontPage};
@@ -118,12 +118,6 @@ pub enum WalOpened {
     Refused(Refusal),
 }
 
-fn both(a: bool, b: bool) -> bool
-    ensures { λ r. ⌜ r ≡ both a b ⌝ }
-{
-    if a { b } else { false }
-}
-
 fn choose(first: bool, a: usize, b: usize) -> usize
     ensures { λ r. ⌜ r ≡ pick first a b ⌝ }
 {
@@ -164,8 +158,8 @@ impl Wal {
         let header = self.header;
         let last_commit_page_count = self.last_commit_page_count;
         let end = self.len + FRAME_SIZE;
-        let joins = both(good, self.len == self.good_end);
-        let seals = both(joins, commit_page_count != 0);
+        let joins = le::both(good, self.len == self.good_end);
+        let seals = le::both(joins, commit_page_count != 0);
         Wal {
             header,
             len: end,

@@ -21,9 +21,9 @@ loop-holds c =
     let c4 = c2 .before .before in
     let a = c4 .before .args in
     let s = a .t1 in
-    let e : c .higher .result ≡ max 1 (a .old) = c .higher .ensures ∙ rw (c1 .widen2 .ensures) in
-    let f : c2 .lower2 .result ≡ min (a .new) 1024 = c2 .lower2 .ensures ∙ rw (c2 .before .widen .ensures) in
-    (c4 .lower .ensures, (f, (omega (arith, e), lack-start s (a .old) (a .new) ∙ ap (pagesFrom (lacks s (a .old) (a .new))) (sym e))))
+    let e : c .max .result ≡ max 1 (a .old) = c .max .ensures ∙ rw (c1 .widen-u322 .ensures) in
+    let f : c2 .min2 .result ≡ min (a .new) 1024 = c2 .min2 .ensures ∙ rw (c2 .before .widen-u32 .ensures) in
+    (c4 .min .ensures, (f, (omega (arith, e), lack-start s (a .old) (a .new) ∙ ap (pagesFrom (lacks s (a .old) (a .new))) (sym e))))
 
 returns : tie.Need-returns Inv-loop μ-loop
 returns c =

@@ -20,7 +20,7 @@ cast-from c = omega (arith, c .before .before .pre)
 loop-holds : tie.Need-loop-holds Inv-loop μ-loop
 loop-holds c =
     let c2 = c .before .before in
-    (c .lower .ensures, (omega arith, least-none (now (c2 .args .s)) (c2 .args .page)))
+    (c .min .ensures, (omega arith, least-none (now (c2 .args .s)) (c2 .args .page)))
 
 shared-slice-read-wrapping-sub-u16 : tie.Need-shared-slice-read-wrapping-sub-u16 Inv-loop μ-loop
 shared-slice-read-wrapping-sub-u16 c = omega arith
@@ -31,17 +31,17 @@ loop-again c =
     let c4 = c1 .before .before .before in
     let c7 = c4 .before .before .before in
     let h : c1 .wrapping-sub-u16 .result < 65536 = omega arith in
-    (c4 .loop .inv .0, (omega arith, least-step (now (c7 .args .s)) (c7 .args .page) (c4 .loop .i) (c4 .loop .inv .1 .1) (c1 .wrapping-sub-u16 .result) h (c7 .pre) (c1 .wrapping-sub-u16 .ensures) (c .lower-16 .ensures)))
+    (c4 .loop .inv .0, (omega arith, least-step (now (c7 .args .s)) (c7 .args .page) (c4 .loop .i) (c4 .loop .inv .1 .1) (c1 .wrapping-sub-u16 .result) h (c7 .pre) (c1 .wrapping-sub-u16 .ensures) (c .min-u16 .ensures)))
 
 add-lower : tie.Need-add-lower Inv-loop μ-loop
-add-lower c = omega (arith, c .before .before .before .before .before .pre, c .before .before .loop .inv .1 .1 .most, c .wide .ensures)
+add-lower c = omega (arith, c .before .before .before .before .before .pre, c .before .before .loop .inv .1 .1 .most, c .widen-u16 .ensures)
 
 returns : tie.Need-returns Inv-loop μ-loop
 returns c =
     let c3 = c .before .before .before in
     let c6 = c3 .before .before .before in
     let e : c3 .loop .i ≡ min (c6 .args .n) (length (now (c6 .args .s))) = omega arith in
-    c .lower2 .ensures ∙ rw (c .before .wide .ensures) (least-page (now (c6 .args .s)) (c6 .args .n) (c6 .args .page) e (c6 .pre) (c3 .loop .inv .1 .1))
+    c .min2 .ensures ∙ rw (c .before .widen-u16 .ensures) (least-page (now (c6 .args .s)) (c6 .args .n) (c6 .args .page) e (c6 .pre) (c3 .loop .inv .1 .1))
 
 pub lowest-spec : {M : Type 1} → statement M
 lowest-spec =

@@ -27,7 +27,7 @@ loop-holds c =
     let t = now (a .table) in
     let l = now (a .log) in
     let m = now (a .main) in
-    (c .lower .ensures, (omega arith, (omega arith, (count-none (a .t1) g t l m, marks-none (a .t1) g t l m))))
+    (c .min .ensures, (omega arith, (omega arith, (count-none (a .t1) g t l m, marks-none (a .t1) g t l m))))
 
 element-copy-out-number : tie.Need-element-copy-out-number Inv-loop μ-loop
 element-copy-out-number c = omega arith
@@ -65,9 +65,9 @@ loop-again c =
     let y : length (stagedPages s) ≡ min (s .count) 64 = simp (length-take, z) in
     let h : c10 .loop .i < length (stagedPages s) = omega arith in
     let b : c10 .loop .i < 64 = omega arith in
-    let e = c7 .wide .ensures in
-    let d : c1 .mark .result ≡ pick (c2 .is-counted .result) (c7 .wide .result) 65535 = c1 .mark .ensures ∙ rw e in
-    let k = count-step s g t l m (c10 .loop .i) (c7 .wide .result) h e (c3 .find-in .ensures) (c2 .is-counted .ensures) (c .tally .ensures) (v .1 .1 .1 .0) in
+    let e = c7 .widen-u16 .ensures in
+    let d : c1 .mark .result ≡ pick (c2 .is-counted .result) (c7 .widen-u16 .result) 65535 = c1 .mark .ensures ∙ rw e in
+    let k = count-step s g t l m (c10 .loop .i) (c7 .widen-u16 .result) h e (c3 .find-in .ensures) (c2 .is-counted .ensures) (c .tally .ensures) (v .1 .1 .1 .0) in
     let p = marks-step s g t l m (c10 .loop .i) (v .1 .1 .1 .1) b e (c3 .find-in .ensures) (c2 .is-counted .ensures) d in
     (v .0, (omega arith, (tally-most (c10 .loop .n) (c2 .is-counted .result) (c .tally .ensures) (v .1 .1 .0), (k, p))))
 

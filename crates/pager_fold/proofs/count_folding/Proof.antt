@@ -54,7 +54,7 @@ returns c =
     let S = L .before .before .before in
     let e = L .before .folding-end .ensures in
     let z = ap length (scanned (S .args .count) (now (S .args .table)) (L .loop .p) (omega (arith, c .before .loop-test .left))) in
-    omega (arith, c .widen .ensures, z, L .loop .inv .1 .1)
+    omega (arith, c .widen-u32 .ensures, z, L .loop .inv .1 .1)
 
 pub count-folding-spec : {M : Type 1} → statement M
 count-folding-spec =

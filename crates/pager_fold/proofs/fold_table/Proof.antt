@@ -13,7 +13,7 @@ returns c =
     let c6 = c2 .before .before .before .before in
     let c8 = c6 .before .before in
     let a = c8 .before .before .before .args in
-    let e : _ ≡ min (a .count) (length (now (a .table))) = c8 .lesser .ensures ∙ rw (c8 .before .widen .ensures) in
+    let e : _ ≡ min (a .count) (length (now (a .table))) = c8 .min .ensures ∙ rw (c8 .before .widen-u32 .ensures) in
     table-folded (a .count) (now (a .table)) e (c6 .fold-front .ensures) (c2 .clear .ensures)
 
 pub fold-table-spec : {M : Type 1} → statement M

@@ -9,8 +9,8 @@ returns c =
     let c4 = c .before .before .before .before in
     let c7 = c4 .before .before .before in
     let c10 = c7 .before .before .before in
-    let e : 4096 * c7 .widen .result ≡ 4096 * c10 .args .pager .«current_header» .«page_count» = ap (λ (k : ℕ). 4096 * k) (c7 .widen .ensures) in
-    (rw (c7 .widen .ensures), (c .with-main .ensures ∙ rw (c7 .widen .ensures), c4 .grow .ensures ∙ rw (c7 .widen .ensures)))
+    let e : 4096 * c7 .widen-u32 .result ≡ 4096 * c10 .args .pager .«current_header» .«page_count» = ap (λ (k : ℕ). 4096 * k) (c7 .widen-u32 .ensures) in
+    (rw (c7 .widen-u32 .ensures), (c .with-main .ensures ∙ rw (c7 .widen-u32 .ensures), c4 .grow .ensures ∙ rw (c7 .widen-u32 .ensures)))
 
 pub length-step-spec : {M : Type 1} → statement M
 length-step-spec =

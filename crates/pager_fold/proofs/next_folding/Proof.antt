@@ -20,7 +20,7 @@ abbrev μ-loop : tie.MeasureT-loop
 returns : tie.Need-returns Inv-loop μ-loop
 returns c =
     let S = c .before .before .before .before in
-    let r = c .before .reached in
+    let r = c .before .max in
     let e = c .before .before .folding-end .ensures in
     let n = scanned (S .args .count) (now (S .args .table)) (r .result) (omega (arith, c .if1 .taken)) in
     sym (ap firstOf (from-first (S .args .count) (now (S .args .table)) (S .args .page) (r .ensures) ∙ n))
@@ -34,8 +34,8 @@ returns-2 c =
     let S = R .before .before .before in
     let count = S .args .count in
     let t = now (S .args .table) in
-    let p = R .reached .result in
-    let r = R .reached .ensures in
+    let p = R .max .result in
+    let r = R .max .ensures in
     let e = R .before .folding-end .ensures in
     let l = c .before .before .if1 .left in
     let h = hit count t p (omega (arith, r)) (omega (arith, l)) (c .if2 .taken) in
@@ -48,7 +48,7 @@ loop-holds : tie.Need-loop-holds Inv-loop μ-loop
 loop-holds c =
     let R = c .before .before .before .before in
     let S = R .before .before .before in
-    let r = R .reached .ensures in
+    let r = R .max .ensures in
     let l = c .look-from .ensures in
     let e = from-first (S .args .count) (now (S .args .table)) (S .args .page) r in
     (omega (arith, r, l .0), e ∙ past (S .args .count) (now (S .args .table)) _ _ (l .0) (l .1 .1))

@@ -14,7 +14,7 @@ returns : tie.Need-returns
 returns c =
     let c3 = c .before .before .before in
     let c6 = c3 .before .before .before in
-    header-stored (now (c6 .args .main)) (c6 .args .len) (c6 .args .header) (c6 .pre) (c3 .encode-header .ensures .1) (c .reached .ensures)
+    header-stored (now (c6 .args .main)) (c6 .args .len) (c6 .args .header) (c6 .pre) (c3 .encode-header .ensures .1) (c .max .ensures)
 
 pub store-header-spec : {M : Type 1} → statement M
 store-header-spec =

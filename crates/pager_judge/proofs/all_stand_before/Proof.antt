@@ -22,7 +22,7 @@ abbrev μ-loop : tie.MeasureT-loop
 
 loop-holds : tie.Need-loop-holds Inv-loop μ-loop
 unfolding allBefore
-loop-holds c = (c .lower .ensures, (omega arith, refl))
+loop-holds c = (c .min .ensures, (omega arith, refl))
 
 element-copy-out-wide : tie.Need-element-copy-out-wide Inv-loop μ-loop
 element-copy-out-wide c = omega arith
@@ -46,7 +46,7 @@ loop-again c =
     let k : i < min (s .count) 64 = omega (arith, v .0, c .before .before .before .before .loop-test .taken) in
     let e : getD (stagedPages s) i 0 ≡ getD (s .pages) i 0 = getD-take (s .count) (s .pages) i 0 (omega (arith, k)) in
     let n = before-next t (a .args .len) (stagedPages s) i (omega (arith, k, y)) in
-    (v .0, (omega arith, c .both .ensures ∙ rw (v .1 .1, c .before .stands-before .ensures, c .before .before .wide .ensures, add-one i, n, e)))
+    (v .0, (omega arith, c .both .ensures ∙ rw (v .1 .1, c .before .stands-before .ensures, c .before .before .widen-u16 .ensures, add-one i, n, e)))
 
 returns : tie.Need-returns Inv-loop μ-loop
 returns c =

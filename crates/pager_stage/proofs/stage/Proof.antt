@@ -69,7 +69,7 @@ returns-6 c =
     let h : 4096 * S .find-in .result + length (now (A .bytes)) ≤ length (now (A .staging)) = omega (arith, g, n, W .before .before .if5 .left) in
     stages (A .busy) (slots (A .count) (now (A .pages))) (now (A .staging)) (A .page-num) (now (A .bytes))
     (rw (eq-eqb _ _ g, eq-eqb _ _ n, L .before .if3 .left, lt-ltb _ _ (L .if4 .left), lt-ltb _ _ f))
-    (rw (c .higher .ensures, ← e)) (W .write-bytes .ensures .1 ∙ store-put _ _ _ h ∙ rw e)
+    (rw (c .max .ensures, ← e)) (W .write-bytes .ensures .1 ∙ store-put _ _ _ h ∙ rw e)
 
 pub stage-spec : {M : Type 1} → statement M
 stage-spec =

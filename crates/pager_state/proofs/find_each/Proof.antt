@@ -22,14 +22,14 @@ returns : tie.Need-returns Inv-loop μ-loop
 returns c =
     let L = c .before .before .before .before in
     let a = L .before .before .args in
-    let e = find-hit (now (a .s)) (L .loop .i) (a .p) (omega arith) (sym (c .before .wide .ensures) ∙ c .if1 .taken) in
+    let e = find-hit (now (a .s)) (L .loop .i) (a .p) (omega arith) (sym (c .before .widen-u16 .ensures) ∙ c .if1 .taken) in
     omega (arith, L .loop .inv, e)
 
 loop-again : tie.Need-loop-again Inv-loop μ-loop
 loop-again c =
     let L = c .before .before .before .before in
     let a = L .before .before .args in
-    let e = find-miss (now (a .s)) (L .loop .i) (a .p) (omega arith) (λ q. c .if1 .left (c .before .wide .ensures ∙ q)) in
+    let e = find-miss (now (a .s)) (L .loop .i) (a .p) (omega arith) (λ q. c .if1 .left (c .before .widen-u16 .ensures ∙ q)) in
     (omega arith, omega (arith, L .loop .inv, e))
 
 returns-2 : tie.Need-returns-2 Inv-loop μ-loop

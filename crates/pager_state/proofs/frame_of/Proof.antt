@@ -12,7 +12,7 @@ returns c = rw (List·getD-eq-default (now (c .before .before .args .table)) 0 (
 
 returns-2 : tie.Need-returns-2
 unfolding frameOf
-returns-2 c = rw (c .widen .ensures)
+returns-2 c = rw (c .widen-u32 .ensures)
 
 pub frame-of-spec : {M : Type 1} → statement M
 frame-of-spec = tie.close (tie.spec returns (search needs) (search needs) (search needs) returns-2)

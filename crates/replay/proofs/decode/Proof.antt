@@ -43,7 +43,7 @@ returns c =
     let a = c .before .before .before .before .before .args in
     let v = c .before .loop in
     let e : v .i ≡ length (take (length (now (a .out))) (bytesOf (now (a .line)))) = simp (length-take, length-bytes) (omega arith) in
-    let k : v .i ≡ c .before .before .least .result = omega arith in
+    let k : v .i ≡ c .before .before .min .result = omega arith in
     rw k at (laid (now (a .out)) (bytesOf (now (a .line))) (v .i) e (v .inv .1))
 
 pub decode-spec : {M : Type 1} → statement M

@@ -5,8 +5,8 @@ use native.Mathlib.Omega.{arith}
 use denote.Ref.{now}
 use borrow.Author.Needs.{needs}
 use Rattle.pager_state.proofs.Slots.{Best, best-next, best-end}
-use Rattle.pager_state.proofs.find_of_64.Statement.{statement}
-use Rattle.pager_state.proofs.find_of_64.Tie as tie
+use Rattle.pager_state.proofs.find_in_slots.Statement.{statement}
+use Rattle.pager_state.proofs.find_in_slots.Tie as tie
 
 abbrev Inv-loop : tie.InvT-loop
 Inv-loop s p best₀ left₀ i₀ best left i = (i ≤ 64) × ((left + i ≡ 64) × Best s p i best)
@@ -29,7 +29,7 @@ loop-again c =
     let v = L .loop in
     let n = L .before .before .pre in
     let h = c .before .before .before .loop-test .taken in
-    let z = best-next (now (a .s)) (a .p) (v .i) (v .best) (v .left) n h (v .inv .1 .0) (c .before .weight .ensures) (c .larger .ensures) (v .inv .1 .1) in
+    let z = best-next (now (a .s)) (a .p) (v .i) (v .best) (v .left) n h (v .inv .1 .0) (c .before .weight .ensures) (c .max-u16 .ensures) (v .inv .1 .1) in
     (omega (arith, h), (omega (arith, h, v .inv .1 .0), z))
 
 returns : tie.Need-returns Inv-loop μ-loop
@@ -39,6 +39,6 @@ returns c =
     let v = L .loop in
     best-end (now (a .s)) (a .p) (v .i) (v .best) (L .before .before .pre) (omega (arith, c .loop-test .left)) (v .inv .0) (v .inv .1 .1)
 
-pub find-of-64-spec : {M : Type 1} → statement M
-find-of-64-spec =
+pub find-in-slots-spec : {M : Type 1} → statement M
+find-in-slots-spec =
     tie.close (tie.spec Inv-loop μ-loop loop-holds (search needs) (search needs) (search needs) (search needs) sub-left (search needs) (search needs) loop-again returns)
