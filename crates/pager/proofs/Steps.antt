@@ -1,19 +1,18 @@
 -- A step of a commit or of a fold is the step; what the loop over steps keeps.
-use mathlib.Core.Path.{_≡_, refl, sym, ap, _∙_}
+use mathlib.Core.Path.{_≡_, refl, sym}
 use mathlib.Core.Bool.{Bool, true, false}
-use mathlib.Core.List.{List, [], _∷_, _++_, append-nil}
+use mathlib.Core.List.{List, [], _∷_, append-nil}
 use Prim.Native.Nat.{ℕ, suc, _+_, _-_, _<_}
 use native.Mathlib.Omega.{arith}
 use types.Run.{OneOf, miss}
 use denote.Enum.Declared.{tagOf}
-use Rattle.le.specs.Choice.{pick, both}
+use Rattle.le.specs.Choice.{both}
 use Rattle.le.proofs.Compare.{no-test}
 use Rattle.refusal.specs.declared.Refusal.the-variants as refusal
-use Rattle.header.specs.declared.DbHeader.{DbHeader}
 use Rattle.pager_state.specs.World.{World, fine, stagingFine, busyWith}
 use Rattle.pager_state.specs.Fold.{foldTodo, foldAdvance}
 use Rattle.pager_state.specs.Commit.{commitTodo, commitAdvance}
-use Rattle.pager_state.specs.Steps.{stepFine, todo, advance, named, done, answerOf, stepAnswer, stepped, steps, mostSteps}
+use Rattle.pager_state.specs.Steps.{stepFine, todo, advance, stepAnswer, stepped, steps, mostSteps}
 use Rattle.pager_state.specs.declared.Job.{Job}
 use Rattle.pager_state.specs.declared.Job.the-variants as job
 use Rattle.pager_state.specs.declared.StepAnswer.the-variants as step

@@ -52,7 +52,7 @@ module _ (g : List ℕ) (w : World) (h : DbHeader) (salt : ℕ) {x : CommitStart
     begun-told = commit-begun g w h accepted
 
   -- as many are marked as differ
-  pub marked-all : {marks : List ℕ} → Marks (differs g w) (w .pager .staged) marks → markedPages marks ≡ differing g w
+  marked-all : {marks : List ℕ} → Marks (differs g w) (w .pager .staged) marks → markedPages marks ≡ differing g w
   unfolding differing
   marked-all {marks} k = ap length (pages-same (isIn marks) (differs g w) 0 (λ n a b. k .same n b))
 

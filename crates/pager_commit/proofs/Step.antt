@@ -20,7 +20,7 @@ use Rattle.pager_state.specs.Overlay.{pageFrom, slotOf, stagedBytes}
 use Rattle.pager_state.specs.Stores.{Act, Put, Other, placeOf, inside, diskOf}
 use Rattle.pager_state.specs.Pages.{pagesFrom, differs}
 use Rattle.pager_state.specs.Fold.{foldTodo, pagesTodo}
-use Rattle.pager_state.specs.Commit.{entered, frameAct, framed, sealAct, jobAfter, sealedWith, sealedPager, sealedWorld, framesTodo, framesAdvance, commitTodo, commitAdvance}
+use Rattle.pager_state.specs.Commit.{entered, framed, sealAct, jobAfter, sealedWith, sealedPager, sealedWorld, framesTodo, framesAdvance, commitTodo, commitAdvance}
 use Rattle.pager_state.specs.Steps.{namedBy, named, done, answerOf, stepFine}
 use Rattle.pager_state.specs.declared.FileKind.the-variants as file
 use Rattle.pager_state.specs.declared.Job.{Job}

@@ -1,6 +1,6 @@
 -- A commit's stores up to the seal in one call: what the loop over frames keeps, and the seal behind it. Assumes nothing.
 use mathlib.Core.Path.{_≡_, refl, sym, ap, _∙_}
-use mathlib.Core.Bool.{Bool, true}
+use mathlib.Core.Bool.{true}
 use mathlib.Core.List.{List, [], _∷_, append-nil}
 use Prim.Native.Nat.{ℕ, suc, _+_, _-_, _*_, _≤_, _<_}
 use native.Mathlib.Numerals.{add-one}
@@ -13,7 +13,7 @@ use Rattle.frame.specs.Frame.{frameSize}
 use Rattle.wal.specs.Recovery.{walArea}
 use Rattle.wal.specs.Write.{withFrame, hasRoom}
 use Rattle.wal.specs.declared.Wal.{Wal}
-use Rattle.pager_state.specs.World.{World, world, pageLimit, stagedLimit, stagingArea, countOf, withJob, withWal}
+use Rattle.pager_state.specs.World.{World, world, stagedLimit, stagingArea, countOf, withJob, withWal}
 use Rattle.pager_state.specs.Overlay.{findIn, slotOf}
 use Rattle.pager_state.specs.Pages.{pagesFrom, differsIn, differs}
 use Rattle.pager_state.specs.Fold.{foldTodo, foldAdvance}
@@ -29,7 +29,7 @@ use Rattle.pager_state.proofs.Sizes.{frame-len}
 use Rattle.pager_state.proofs.Searches.{First, pages-same}
 use Rattle.pager_differing.specs.Differing.{isIn}
 use Rattle.pager_differing.specs.declared.Slot.{Slot}
-use Rattle.pager_commit.specs.Parts.{Lent, slotFrame, sealFrame, markedPages, roomFor, Begun, committing, AtSeal, FramesStored}
+use Rattle.pager_commit.specs.Parts.{Lent, slotFrame, sealFrame, markedPages, roomFor, committing, AtSeal, FramesStored}
 use Rattle.pager_commit.proofs.Stores.{room-is}
 use Rattle.pager_commit.proofs.Step.{frame-stepped, seal-stepped}
 use Rattle.pager_commit.proofs.Marking.{Marking, marking-begun, marking-frame}

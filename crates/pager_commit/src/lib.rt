@@ -6,7 +6,6 @@ ghost use lib.ListN.{length, take};
 ghost use Rattle.le.specs.Choice.{pick};
 ghost use Rattle.le.specs.Le.{put};
 ghost use Rattle.refusal.specs.Refusal.{accepts};
-ghost use Rattle.frame.specs.Frame.{frameSize};
 ghost use Rattle.wal.specs.Recovery.{walArea};
 ghost use Rattle.wal.specs.Write.{withFrame, hasRoom};
 ghost use Rattle.pager_state.specs.World.{world, pageLimit, stagedLimit, stagingArea, countOf, withJob, withWal};
@@ -325,8 +324,8 @@ pub fn begin_commit<'a>(
 
 // ---- all stores up to the seal
 
-// Stores the frames of the pages among the first n marks one after another, each as a step does; only the log and the page are handed on, not the store,
-// and no page is compared again.
+// Stores the frames of the pages among the first n marks one after another, each as a step does; only the log and the page are handed
+// on, not the store, and no page is compared again.
 fn store_frames(
     marks: &[u16],
     n: usize,

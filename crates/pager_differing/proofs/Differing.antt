@@ -13,8 +13,9 @@ use lib.Seq.{getD-take}
 use Rattle.le.specs.Choice.{pick, both}
 use Rattle.le.proofs.Tests.{le-or-lt, eq-or-not}
 use Rattle.le.proofs.Compare.{both-true}
-use Rattle.pager_state.specs.Overlay.{findIn, stagedPages, slotOf, isStaged, stagedBytes, committedIn}
-use Rattle.pager_state.specs.Pages.{pagesFrom, firstOf, differsIn, differs, lacks}
+use Rattle.pager_state.specs.World.{pageLimit, stagedLimit}
+use Rattle.pager_state.specs.Overlay.{findIn, stagedPages, slotOf, isStaged, stagedBytes}
+use Rattle.pager_state.specs.Pages.{pagesFrom, firstOf, differsIn, lacks}
 use Rattle.pager_state.specs.declared.Staged.{Staged}
 use Rattle.pager_state.proofs.Searches.{pages-hit, pages-miss, lowest, pages-same}
 use Rattle.pager_state.proofs.Slots.{find-there}
@@ -32,12 +33,12 @@ unfolding isIn isStaged slotOf
 staged-by s p = refl
 
 pub found-staged : (s : Staged) (p : ℕ) {q index : ℕ} → q ≡ nextIn (take (s .count) (s .pages)) p
-    → (q < 1024 → index ≡ findIn (take (s .count) (s .pages)) q) → (q ≡ firstOf (pagesFrom (isStaged s) p)) × (q < 1024 → index ≡ slotOf s q)
+    → (q < pageLimit → index ≡ findIn (take (s .count) (s .pages)) q) → (q ≡ firstOf (pagesFrom (isStaged s) p)) × (q < pageLimit → index ≡ slotOf s q)
 unfolding slotOf
 found-staged s p e f = (e ∙ ap firstOf (staged-by s p), f)
 
 -- whether a page is staged, by its slot
-module _ (s : Staged) (long : length (s .pages) ≡ 64) (q : ℕ) {r n : ℕ} (e : r ≡ findIn (stagedPages s) q) (f : n ≡ min (s .count) 64) where
+module _ (s : Staged) (long : length (s .pages) ≡ stagedLimit) (q : ℕ) {r n : ℕ} (e : r ≡ findIn (stagedPages s) q) (f : n ≡ min (s .count) stagedLimit) where
   size : length (stagedPages s) ≡ n
   size = let c = length-take (s .count) (s .pages) in omega (arith, c, long, f)
 
@@ -50,7 +51,7 @@ module _ (s : Staged) (long : length (s .pages) ≡ 64) (q : ℕ) {r n : ℕ} (e
   with-slot h = lt-ltb (findIn (stagedPages s) q) (length (stagedPages s)) (omega (arith, e, size, h))
 
 -- a page that is found has a place in the list
-pub place-within : (s : List ℕ) (n p q : ℕ) → q ≡ nextIn (take n s) p → q < 1024 → findIn (take n s) q < length s
+pub place-within : (s : List ℕ) (n p q : ℕ) → q ≡ nextIn (take n s) p → q < pageLimit → findIn (take n s) q < length s
 unfolding isIn
 place-within s n p q e h =
     let f : findIn (take n s) q < length (take n s) = ltb-true (findIn (take n s) q) (length (take n s)) (lowest (isIn (take n s)) p q e h .holds) in
@@ -70,19 +71,19 @@ module _ (s : Staged) (g t l m : List ℕ) where
   not-staged n e = differs-slot n ∙ rw e
 
   -- of a staged page its slot tells
-  pub differs-at : (q index : ℕ) {r : Bool} → isStaged s q ≡ true → index ≡ slotOf s q → r ≡ slotDiffers g t l m q index → D q ≡ r
+  differs-at : (q index : ℕ) {r : Bool} → isStaged s q ≡ true → index ≡ slotOf s q → r ≡ slotDiffers g t l m q index → D q ≡ r
   differs-at q index e f a = differs-slot q ∙ rw (e, a, f)
 
   -- ---- from staged page to staged page
 
   -- none is left
-  pub none-differs : (p q : ℕ) → q ≡ firstOf (pagesFrom (isStaged s) p) → 1024 ≤ q → q ≡ firstOf (pagesFrom D p)
+  pub none-differs : (p q : ℕ) → q ≡ firstOf (pagesFrom (isStaged s) p) → pageLimit ≤ q → q ≡ firstOf (pagesFrom D p)
   none-differs p q e h =
       let z : pagesFrom (isStaged s) p ≡ [] = none-found (isStaged s) p q e h in
       let y : pagesFrom D p ≡ [] = none-is D p (λ n a b. not-staged n (first-before (isStaged s) p q n e a (omega (arith, h)) b)) in
       e ∙ ap firstOf (z ∙ sym y)
 
-  module _ (p q index : ℕ) (e : q ≡ firstOf (pagesFrom (isStaged s) p)) (h : q < 1024) (i : q < 1024 → index ≡ slotOf s q) where
+  module _ (p q index : ℕ) (e : q ≡ firstOf (pagesFrom (isStaged s) p)) (h : q < pageLimit) (i : q < pageLimit → index ≡ slotOf s q) where
     pub staged-from : p ≤ q
     staged-from = lowest (isStaged s) p q e h .from
 
@@ -132,13 +133,13 @@ module _ (s : Staged) (g t l m : List ℕ) where
     is-staged k = rw k (lt-ltb i (length (stagedPages s)) h)
 
     -- a slot that counts has its own page, which differs
-    pub counts-told : countsAt (slotOf s page) g t l m page i ≡ true → (page < 1024) × ((slotOf s page ≡ i) × (D page ≡ true))
+    pub counts-told : countsAt (slotOf s page) g t l m page i ≡ true → (page < pageLimit) × ((slotOf s page ≡ i) × (D page ≡ true))
     unfolding countsAt
     counts-told c =
-        let a = both-true (ltb page 1024) (both (eqb (slotOf s page) i) (slotDiffers g t l m page i)) c in
+        let a = both-true (ltb page pageLimit) (both (eqb (slotOf s page) i) (slotDiffers g t l m page i)) c in
         let b = both-true (eqb (slotOf s page) i) (slotDiffers g t l m page i) (a .1) in
         let k : slotOf s page ≡ i = eqb-true _ _ (b .0) in
-        (ltb-true page 1024 (a .0), (k, differs-at page i (is-staged k) (sym k) (sym (b .1))))
+        (ltb-true page pageLimit (a .0), (k, differs-at page i (is-staged k) (sym k) (sym (b .1))))
 
     counted : countsAt (slotOf s page) g t l m page i ≡ true → length (pagesFrom (Upto (i + 1)) 0) ≡ suc (length (pagesFrom (Upto i) 0))
     counted c =
@@ -149,12 +150,12 @@ module _ (s : Staged) (g t l m : List ℕ) where
         let y : Upto (i + 1) page ≡ true = rw (d, lt-ltb (slotOf s page) (i + 1) (omega arith)) in
         pages-more (Upto i) (Upto (i + 1)) page x y (λ n z. upto-other i n (λ j. z (slot-page n j))) (a .0)
 
-    not-counted : countsAt (slotOf s page) g t l m page i ≡ false → (n : ℕ) → n < 1024 → slotOf s n ≡ i → Upto (i + 1) n ≡ Upto i n
+    not-counted : countsAt (slotOf s page) g t l m page i ≡ false → (n : ℕ) → n < pageLimit → slotOf s n ≡ i → Upto (i + 1) n ≡ Upto i n
     unfolding countsAt
     not-counted c n b k =
         let f : n ≡ page = slot-page n k in
         let j : slotOf s page ≡ i = rw f at k in
-        let d : slotDiffers g t l m page i ≡ false = rw (lt-ltb page 1024 (omega arith), eq-eqb (slotOf s page) i j) at c in
+        let d : slotDiffers g t l m page i ≡ false = rw (lt-ltb page pageLimit (omega arith), eq-eqb (slotOf s page) i j) at c in
         let z : D n ≡ false = rw f (differs-at page i (is-staged j) (sym j) (sym d)) in
         rw z
 
@@ -210,7 +211,7 @@ module _ (s : Staged) (old new : ℕ) where
   pub lack-start : pagesFrom L 0 ≡ pagesFrom L (max 1 old)
   lack-start = pages-skip L 0 (max 1 old) (omega arith) (λ n a b. lack-below n b)
 
-  module _ (p : ℕ) (h : max 1 old ≤ p) (k : p < new) (b : p < 1024) where
+  module _ (p : ℕ) (h : max 1 old ≤ p) (k : p < new) (b : p < pageLimit) where
     lack-at : (x : Bool) → isStaged s p ≡ x → L p ≡ not x
     unfolding lacks
     lack-at x e =
@@ -228,5 +229,5 @@ module _ (s : Staged) (old new : ℕ) where
   unfolding lacks
   lack-above n h = rw (le-ltb n new h, both-false (leb old n), both-false (leb 1 n))
 
-  pub lack-end : (p : ℕ) → min new 1024 ≤ p → 1024 ≡ firstOf (pagesFrom L p)
+  pub lack-end : (p : ℕ) → min new pageLimit ≤ p → pageLimit ≡ firstOf (pagesFrom L p)
   lack-end p h = sym (ap firstOf (none-is L p (λ n a b. lack-above n (omega arith))))

@@ -10,6 +10,7 @@ use lib.Dec.{ltb}
 use lib.ListN.{length, take, getD, length-take}
 use lib.Seq.{getD-take}
 use Rattle.le.proofs.Tests.{le-or-lt, eq-or-not}
+use Rattle.pager_state.specs.World.{pageLimit}
 use Rattle.pager_state.specs.Overlay.{findIn}
 use Rattle.pager_state.specs.Pages.{pagesFrom, firstOf}
 use Rattle.pager_state.proofs.Slots.{find-there, find-most}
@@ -39,13 +40,13 @@ pub record Stands (s : List ℕ) (i x : ℕ) : Type 0 where
 pub record Least (s : List ℕ) (page i least : ℕ) : Type 0 where
   pub most : least < 65536
   pub low : (j : ℕ) → j < i → page ≤ getD s j 0 → page + least ≤ getD s j 0
-  pub stands : page + least < 1024 → Stands s i (page + least)
+  pub stands : page + least < pageLimit → Stands s i (page + least)
 
 pub least-none : (s : List ℕ) (page : ℕ) → Least s page 0 65535
 least-none s page = record { most = omega arith; low = λ j h k. absurd (omega arith); stands = λ h. absurd (omega (arith, h)) }
 
 module _ (s : List ℕ) (page i : ℕ) {least : ℕ} (v : Least s page i least) where
-  old-stands : page + least < 1024 → Stands s (i + 1) (page + least)
+  old-stands : page + least < pageLimit → Stands s (i + 1) (page + least)
   old-stands k = let u = v .stands k in record { index = u .index; front = omega (arith, u .front); there = u .there }
 
   -- with one more the least that both allow is at most either
@@ -55,7 +56,7 @@ module _ (s : List ℕ) (page i : ℕ) {least : ℕ} (v : Least s page i least) 
       at : j ≡ i → page + d ≤ getD s j 0
       at e = let z = ap (λ (n : ℕ). getD s n 0) e in let y = l (omega arith) in omega arith
 
-  module _ (rise : ℕ) (h : rise < 65536) (p : page < 1024) (e : (rise + page) % 65536 ≡ getD s i 0) where
+  module _ (rise : ℕ) (h : rise < 65536) (p : page < pageLimit) (e : (rise + page) % 65536 ≡ getD s i 0) where
     rises : page ≤ getD s i 0 → page + rise ≡ getD s i 0
     rises g = omega (arith, e)
 
@@ -72,13 +73,13 @@ module _ (s : List ℕ) (page i : ℕ) {least : ℕ} (v : Least s page i least) 
     old l = record { most = v .most; low = low-with least (omega arith) (λ g. omega (arith, rises g)); stands = old-stands }
 
   -- one more
-  pub least-step : (rise : ℕ) {next : ℕ} → rise < 65536 → page < 1024 → (rise + page) % 65536 ≡ getD s i 0 → next ≡ min rise least
+  pub least-step : (rise : ℕ) {next : ℕ} → rise < 65536 → page < pageLimit → (rise + page) % 65536 ≡ getD s i 0 → next ≡ min rise least
       → Least s page (i + 1) next
   least-step rise {next} h p e f =
       ⊎-elim (λ l. let z : next ≡ least = omega (arith, l) in rw z (old rise h p e l))
       (λ l. let z : next ≡ rise = omega (arith, l) in rw z (new rise h p e l)) (le-or-lt least rise)
 
-module _ (s : List ℕ) (n page : ℕ) {i least : ℕ} (all : i ≡ min n (length s)) (p : page < 1024) (v : Least s page i least) where
+module _ (s : List ℕ) (n page : ℕ) {i least : ℕ} (all : i ≡ min n (length s)) (p : page < pageLimit) (v : Least s page i least) where
   size : length (take n s) ≡ i
   size = length-take n s ∙ sym all
 
@@ -91,7 +92,7 @@ module _ (s : List ℕ) (n page : ℕ) {i least : ℕ} (all : i ≡ min n (lengt
       not-in (take n s) k
       (λ j h e. let f : j < i = omega (arith, size, h) in let z = same-at j f in let y = v .low j f (omega arith) in omega arith)
 
-  is-in : page + least < 1024 → isIn (take n s) (page + least) ≡ true
+  is-in : page + least < pageLimit → isIn (take n s) (page + least) ≡ true
   unfolding isIn
   is-in h =
       let u = v .stands h in
@@ -99,17 +100,17 @@ module _ (s : List ℕ) (n page : ℕ) {i least : ℕ} (all : i ≡ min n (lengt
       let m = find-most (take n s) (u .index) (page + least) k (same-at (u .index) (u .front) ∙ u .there) in
       lt-ltb (findIn (take n s) (page + least)) (length (take n s)) (omega (arith, m, k))
 
-  some : page + least < 1024 → min (page + least) 1024 ≡ firstOf (pagesFrom (isIn (take n s)) page)
+  some : page + least < pageLimit → min (page + least) pageLimit ≡ firstOf (pagesFrom (isIn (take n s)) page)
   some h =
-      let m : min (page + least) 1024 ≡ page + least = omega arith in
+      let m : min (page + least) pageLimit ≡ page + least = omega arith in
       m ∙ sym (first-is (isIn (take n s)) page (page + least) (omega arith) h (is-in h) none-lower)
 
-  none : 1024 ≤ page + least → min (page + least) 1024 ≡ firstOf (pagesFrom (isIn (take n s)) page)
+  none : pageLimit ≤ page + least → min (page + least) pageLimit ≡ firstOf (pagesFrom (isIn (take n s)) page)
   none h =
       let e : pagesFrom (isIn (take n s)) page ≡ [] = none-is (isIn (take n s)) page (λ k g l. none-lower k g (omega (arith, h))) in
-      let m : min (page + least) 1024 ≡ 1024 = omega arith in
+      let m : min (page + least) pageLimit ≡ pageLimit = omega arith in
       m ∙ sym (ap firstOf e)
 
   -- all of them
-  pub least-page : min (page + least) 1024 ≡ firstOf (pagesFrom (isIn (take n s)) page)
-  least-page = ⊎-elim none some (le-or-lt 1024 (page + least))
+  pub least-page : min (page + least) pageLimit ≡ firstOf (pagesFrom (isIn (take n s)) page)
+  least-page = ⊎-elim none some (le-or-lt pageLimit (page + least))

@@ -3,24 +3,19 @@ use mathlib.Core.Path.{_≡_, refl, sym, _∙_}
 use mathlib.Core.Bool.{Bool, true, false}
 use mathlib.Core.List.{List}
 use mathlib.Core.Logic.{⊎-elim}
-use Prim.Native.Nat.{ℕ, _+_, _≤_, _<_, min}
+use Prim.Native.Nat.{ℕ, _+_, _<_, min}
 use native.Mathlib.Omega.{arith}
-use borrow.Author.Tests.{eq-eqb, lt-ltb, ltb-true, leb-true}
-use lib.Dec.{leb}
+use borrow.Author.Tests.{eq-eqb, lt-ltb, ltb-true}
 use lib.ListN.{length, take, getD, set, length-take, length-set, replicate, length-replicate}
 use lib.Seq.{getD-take, getD-set-same, getD-set-other}
-use Rattle.le.specs.Choice.{pick, both}
-use Rattle.le.specs.Le.{put}
+use Rattle.le.specs.Choice.{pick}
 use Rattle.le.proofs.Tests.{eq-or-not}
 use Rattle.le.proofs.Compare.{both-true}
-use Rattle.pager_state.specs.Overlay.{findIn, stagedPages, slotOf, isStaged, frameOf, inLog, onMain, entry, logBytes, committedIn}
+use Rattle.pager_state.specs.World.{pageLimit, stagedLimit}
+use Rattle.pager_state.specs.Overlay.{findIn, stagedPages, slotOf, isStaged}
 use Rattle.pager_state.specs.Pages.{differsIn}
-use Rattle.pager_state.specs.Commit.{entered}
-use Rattle.pager_state.specs.Steps.{standsBefore, allBefore}
 use Rattle.pager_state.specs.declared.Staged.{Staged}
-use Rattle.pager_state.proofs.Entries.{frame-other, log-other, main-other, part-before}
 use Rattle.pager_state.proofs.Slots.{find-there, find-most}
-use Rattle.pager_state.proofs.Before.{before-staged}
 use Rattle.pager_differing.specs.Differing.{isIn, slotDiffers, countsAt, Marks}
 use Rattle.pager_differing.proofs.Differing.{differs-slot, counts-told}
 
@@ -33,13 +28,13 @@ module _ (s : Staged) (g t l m : List ℕ) where
 
   -- the first i slots are marked
   pub record Front (i : ℕ) (marks : List ℕ) : Type 0 where
-    pub long : length marks ≡ 64
+    pub long : length marks ≡ stagedLimit
     pub front : (j : ℕ) → j < i → getD marks j 0 ≡ markAt j
 
   pub marks-none : Front 0 (replicate {A = ℕ} 64 65535)
   marks-none = record { long = length-replicate {A = ℕ} 64 65535; front = λ j h. absurd (omega (arith, h)) }
 
-  module _ (i : ℕ) {marks : List ℕ} {mark : ℕ} (k : Front i marks) (h : i < 64) (e : mark ≡ markAt i) where
+  module _ (i : ℕ) {marks : List ℕ} {mark : ℕ} (k : Front i marks) (h : i < stagedLimit) (e : mark ≡ markAt i) where
     same-mark : (j : ℕ) → (j ≡ i → ⊥) → getD (set marks i mark) j 0 ≡ getD marks j 0
     same-mark j d = getD-set-other marks i j mark 0 d
 
@@ -54,14 +49,14 @@ module _ (s : Staged) (g t l m : List ℕ) where
     marks-more = record { long = length-set marks i mark ∙ k .long; front = front-mark }
 
   -- one slot more
-  pub marks-step : (i : ℕ) {marks : List ℕ} {page first mark : ℕ} {yes : Bool} → Front i marks → i < 64 → page ≡ pageAt i → first ≡ findIn (stagedPages s) page
+  pub marks-step : (i : ℕ) {marks : List ℕ} {page first mark : ℕ} {yes : Bool} → Front i marks → i < stagedLimit → page ≡ pageAt i → first ≡ findIn (stagedPages s) page
       → yes ≡ countsAt first g t l m page i → mark ≡ pick yes page 65535 → Front (i + 1) (set marks i mark)
   unfolding slotOf
   marks-step i k h e f y b = marks-more i k h (b ∙ rw (y, f, e))
 
   -- ---- all of them
 
-  module _ (i : ℕ) {marks : List ℕ} (k : Front i marks) (e : i ≡ length (stagedPages s)) (long : length (s .pages) ≡ 64) where
+  module _ (i : ℕ) {marks : List ℕ} (k : Front i marks) (e : i ≡ length (stagedPages s)) (long : length (s .pages) ≡ stagedLimit) where
     -- a staged page stands in its slot
     slot-in : (n : ℕ) → isStaged s n ≡ true → slotOf s n < i
     unfolding isStaged
@@ -75,7 +70,7 @@ module _ (s : Staged) (g t l m : List ℕ) where
         sym (getD-take (s .count) (s .pages) (findIn (stagedPages s) n) 0 (omega (arith, h, c))) ∙ find-there (stagedPages s) n h
 
     -- what stands among the marks differs, and has that slot
-    mark-by : (n j : ℕ) (b : Bool) → n < 1024 → j < i → countsAt (slotOf s (pageAt j)) g t l m (pageAt j) j ≡ b → pick b (pageAt j) 65535 ≡ n
+    mark-by : (n j : ℕ) (b : Bool) → n < pageLimit → j < i → countsAt (slotOf s (pageAt j)) g t l m (pageAt j) j ≡ b → pick b (pageAt j) 65535 ≡ n
         → (differsIn s g t l m n ≡ true) × (slotOf s n ≡ j)
     mark-by n j true h f c z =
         let a = counts-told s g t l m j (pageAt j) (omega (arith, f, e)) refl c in
@@ -97,7 +92,7 @@ module _ (s : Staged) (g t l m : List ℕ) where
         let d : length L ≡ min (s .count) (length marks) = length-take (s .count) marks in
         getD-take (s .count) marks j 0 (omega (arith, d, size, h)) ∙ k .front j h
 
-    found-mark : (n : ℕ) → n < 1024 → isIn L n ≡ true → (differsIn s g t l m n ≡ true) × (slotOf s n ≡ findIn L n)
+    found-mark : (n : ℕ) → n < pageLimit → isIn L n ≡ true → (differsIn s g t l m n ≡ true) × (slotOf s n ≡ findIn L n)
     unfolding isIn
     found-mark n h o =
         let f = ltb-true (findIn L n) (length L) o in
@@ -105,11 +100,11 @@ module _ (s : Staged) (g t l m : List ℕ) where
         mark-by n (findIn L n) (countsAt (slotOf s (pageAt (findIn L n))) g t l m (pageAt (findIn L n)) (findIn L n)) h j refl (sym (mark-in (findIn L n) j) ∙ find-there L n f)
 
     -- a page that differs stands there
-    counts-own : (n : ℕ) → n < 1024 → slotDiffers g t l m n (slotOf s n) ≡ true → countsAt (slotOf s n) g t l m n (slotOf s n) ≡ true
+    counts-own : (n : ℕ) → n < pageLimit → slotDiffers g t l m n (slotOf s n) ≡ true → countsAt (slotOf s n) g t l m n (slotOf s n) ≡ true
     unfolding countsAt
-    counts-own n h d = rw (lt-ltb n 1024 h, eq-eqb (slotOf s n) (slotOf s n) refl, d)
+    counts-own n h d = rw (lt-ltb n pageLimit h, eq-eqb (slotOf s n) (slotOf s n) refl, d)
 
-    has-mark : (n : ℕ) → n < 1024 → differsIn s g t l m n ≡ true → isIn L n ≡ true
+    has-mark : (n : ℕ) → n < pageLimit → differsIn s g t l m n ≡ true → isIn L n ≡ true
     unfolding isIn
     has-mark n h d =
         let c = both-true (isStaged s n) (slotDiffers g t l m n (slotOf s n)) (sym (differs-slot s g t l m n) ∙ d) in
@@ -119,7 +114,7 @@ module _ (s : Staged) (g t l m : List ℕ) where
         let f = find-most L (slotOf s n) n (omega (arith, o, size)) y in
         lt-ltb (findIn L n) (length L) (omega (arith, f, o, size))
 
-    same-by : (n : ℕ) → n < 1024 → (a b : Bool) → isIn L n ≡ a → differsIn s g t l m n ≡ b → a ≡ b
+    same-by : (n : ℕ) → n < pageLimit → (a b : Bool) → isIn L n ≡ a → differsIn s g t l m n ≡ b → a ≡ b
     same-by n h true b x y = sym (found-mark n h x .0) ∙ y
     same-by n h false true x y = sym x ∙ has-mark n h y
     same-by n h false false x y = refl

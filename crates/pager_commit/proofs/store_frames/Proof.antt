@@ -3,6 +3,7 @@ use denote.Ref.{now}
 use borrow.Author.Needs.{needs}
 use Prim.Native.Nat.{_-_}
 use lib.ListN.{take}
+use Rattle.pager_state.specs.World.{pageLimit}
 use Rattle.pager_state.proofs.Searches.{First, lowest, pages-end}
 use Rattle.pager_state.proofs.Walks.{none-found}
 use Rattle.pager_differing.specs.Differing.{isIn}
@@ -15,7 +16,7 @@ abbrev Inv-loop : tie.InvT-loop
 Inv-loop marks n table₀ log₀ staging wal₀ page₀ table log wal page = Loop (take n marks) staging wal₀ table₀ log₀ page wal table log
 
 abbrev μ-loop : tie.MeasureT-loop
-μ-loop marks n table₀ log₀ staging wal₀ page₀ table log wal page = 1024 - page
+μ-loop marks n table₀ log₀ staging wal₀ page₀ table log wal page = pageLimit - page
 
 loop-holds : tie.Need-loop-holds Inv-loop μ-loop
 loop-holds c =

@@ -2,6 +2,7 @@ use native.Mathlib.Omega.{arith}
 use mathlib.Core.Path.{_≡_, sym, ap, _∙_}
 use borrow.Author.Needs.{needs}
 use Prim.Native.Nat.{_-_, _≤_, _<_, min, max}
+use Rattle.pager_state.specs.World.{pageLimit, stagedLimit}
 use Rattle.pager_state.specs.Pages.{pagesFrom, firstOf, lacks}
 use Rattle.pager_differing.proofs.Differing.{without-slot, with-slot, lack-start, lack-here, lack-past, lack-end}
 use Rattle.pager_state.proofs.Held.{slots}
@@ -9,7 +10,7 @@ use Rattle.pager_differing.proofs.first_lacking.Statement.{statement}
 use Rattle.pager_differing.proofs.first_lacking.Tie as tie
 
 abbrev Inv-loop : tie.InvT-loop
-Inv-loop old new staged count n end p₀ p = (n ≡ min (staged .count) 64) × ((end ≡ min new 1024) × ((max 1 old ≤ p) × (pagesFrom (lacks staged old new) 0 ≡ pagesFrom (lacks staged old new) p)))
+Inv-loop old new staged count n end p₀ p = (n ≡ min (staged .count) stagedLimit) × ((end ≡ min new pageLimit) × ((max 1 old ≤ p) × (pagesFrom (lacks staged old new) 0 ≡ pagesFrom (lacks staged old new) p)))
 
 abbrev μ-loop : tie.MeasureT-loop
 μ-loop old new staged count n end p₀ p = end - p
@@ -22,7 +23,7 @@ loop-holds c =
     let a = c4 .before .args in
     let s = a .t1 in
     let e : c .max .result ≡ max 1 (a .old) = c .max .ensures ∙ rw (c1 .widen-u322 .ensures) in
-    let f : c2 .min2 .result ≡ min (a .new) 1024 = c2 .min2 .ensures ∙ rw (c2 .before .widen-u32 .ensures) in
+    let f : c2 .min2 .result ≡ min (a .new) pageLimit = c2 .min2 .ensures ∙ rw (c2 .before .widen-u32 .ensures) in
     (c4 .min .ensures, (f, (omega (arith, e), lack-start s (a .old) (a .new) ∙ ap (pagesFrom (lacks s (a .old) (a .new))) (sym e))))
 
 returns : tie.Need-returns Inv-loop μ-loop
@@ -57,7 +58,7 @@ returns-2 : tie.Need-returns-2 Inv-loop μ-loop
 returns-2 c =
     let c1 = c .before in
     let a = c1 .before .before .before .before .before .before .args in
-    let h : min (a .new) 1024 ≤ c1 .loop .p = omega arith in
+    let h : min (a .new) pageLimit ≤ c1 .loop .p = omega arith in
     lack-end (a .t1) (a .old) (a .new) (c1 .loop .p) h ∙ sym (ap firstOf (c1 .loop .inv .1 .1 .1))
 
 pub first-lacking-spec : {M : Type 1} → statement M

@@ -3,7 +3,7 @@ use mathlib.Core.Path.{_≡_, _∙_}
 use denote.Ref.{now}
 use lib.ListN.{length}
 use borrow.Author.Needs.{needs}
-use Prim.Native.Nat.{_+_, _-_, _≤_, _<_, min}
+use Prim.Native.Nat.{_-_, _≤_, _<_, min}
 use Rattle.pager_differing.proofs.Least.{Least, least-none, least-step, least-page}
 use Rattle.pager_differing.proofs.lowest.Statement.{statement}
 use Rattle.pager_differing.proofs.lowest.Tie as tie

@@ -5,6 +5,7 @@ use borrow.Author.Needs.{needs}
 use Prim.Native.Nat.{_-_, _≤_, _<_, min}
 use lib.ListN.{length, length-take}
 use Rattle.le.specs.Choice.{pick}
+use Rattle.pager_state.specs.World.{stagedLimit}
 use Rattle.pager_state.specs.Pages.{pagesFrom}
 use Rattle.pager_state.specs.Overlay.{stagedPages}
 use Rattle.pager_state.proofs.Held.{slots}
@@ -15,7 +16,7 @@ use Rattle.pager_differing.proofs.mark_differing.Tie as tie
 
 abbrev Inv-loop : tie.InvT-loop
 Inv-loop table log main staging staged count end pages₀ n₀ i₀ pages n i =
-    (end ≡ min (staged .count) 64) × ((i ≤ end) × ((n ≤ i) × ((n ≡ length (pagesFrom (Upto staged staging table log main i) 0)) × Front staged staging table log main i pages)))
+    (end ≡ min (staged .count) stagedLimit) × ((i ≤ end) × ((n ≤ i) × ((n ≡ length (pagesFrom (Upto staged staging table log main i) 0)) × Front staged staging table log main i pages)))
 
 abbrev μ-loop : tie.MeasureT-loop
 μ-loop table log main staging staged count end pages₀ n₀ i₀ pages n i = end - i
@@ -61,10 +62,10 @@ loop-again c =
     let l = now (c16 .args .log) in
     let m = now (c16 .args .main) in
     let v = c10 .loop .inv in
-    let z : length (s .pages) ≡ 64 = slots s _ (c16 .good .0) in
-    let y : length (stagedPages s) ≡ min (s .count) 64 = simp (length-take, z) in
+    let z : length (s .pages) ≡ stagedLimit = slots s _ (c16 .good .0) in
+    let y : length (stagedPages s) ≡ min (s .count) stagedLimit = simp (length-take, z) in
     let h : c10 .loop .i < length (stagedPages s) = omega arith in
-    let b : c10 .loop .i < 64 = omega arith in
+    let b : c10 .loop .i < stagedLimit = omega arith in
     let e = c7 .widen-u16 .ensures in
     let d : c1 .mark .result ≡ pick (c2 .is-counted .result) (c7 .widen-u16 .result) 65535 = c1 .mark .ensures ∙ rw e in
     let k = count-step s g t l m (c10 .loop .i) (c7 .widen-u16 .result) h e (c3 .find-in .ensures) (c2 .is-counted .ensures) (c .tally .ensures) (v .1 .1 .1 .0) in
@@ -81,8 +82,8 @@ returns c =
     let l = now (c7 .args .log) in
     let m = now (c7 .args .main) in
     let v = c1 .loop .inv .1 .1 .1 in
-    let z : length (s .pages) ≡ 64 = slots s _ (c7 .good .0) in
-    let y : length (stagedPages s) ≡ min (s .count) 64 = simp (length-take, z) in
+    let z : length (s .pages) ≡ stagedLimit = slots s _ (c7 .good .0) in
+    let y : length (stagedPages s) ≡ min (s .count) stagedLimit = simp (length-take, z) in
     let e : c1 .loop .i ≡ length (stagedPages s) = omega arith in
     (v .0 ∙ count-all s g t l m (c1 .loop .i) e, ((omega arith, v .1 .long), marks-all s g t l m (c1 .loop .i) (v .1) e z))
 

@@ -3,6 +3,7 @@ use native.Mathlib.Omega.{arith}
 use mathlib.Core.Path.{_≡_, refl, sym, ap, _∙_}
 use denote.Ref.{now}
 use Prim.Native.Nat.{_-_, _<_}
+use Rattle.pager_state.specs.World.{pageLimit, stagedLimit}
 use Rattle.pager_state.specs.Pages.{pagesFrom, firstOf, differsIn}
 use Rattle.pager_differing.proofs.Differing.{place-within, found-staged, none-differs, staged-from, differs-here, same-here}
 use Rattle.pager_state.proofs.Searches.{pages-end}
@@ -14,13 +15,13 @@ abbrev Inv-loop : tie.InvT-loop
 Inv-loop table log main staging page staged count p₀ p = pagesFrom (differsIn staged staging table log main) page ≡ pagesFrom (differsIn staged staging table log main) p
 
 abbrev μ-loop : tie.MeasureT-loop
-μ-loop table log main staging page staged count p₀ p = 1024 - p
+μ-loop table log main staging page staged count p₀ p = pageLimit - p
 
 loop-holds : tie.Need-loop-holds Inv-loop μ-loop
 loop-holds c = refl
 
 -- a page that was found has a slot
-within : (c : tie.After-next-of Inv-loop μ-loop) → c .next-of .result .page < 1024 → c .next-of .result .index < 64
+within : (c : tie.After-next-of Inv-loop μ-loop) → c .next-of .result .page < pageLimit → c .next-of .result .index < stagedLimit
 within c h =
     let c5 = c .before .before .before .before .before in
     let c10 = c5 .before .before .before .before .before in

@@ -4,15 +4,16 @@ use Prim.Native.Nat.{_+_, _-_, _≤_}
 use native.Mathlib.Omega.{arith}
 use denote.Ref.{now}
 use borrow.Author.Needs.{needs}
+use Rattle.pager_state.specs.World.{stagedLimit}
 use Rattle.pager_state.proofs.Slots.{Best, best-next, best-end}
 use Rattle.pager_state.proofs.find_in_slots.Statement.{statement}
 use Rattle.pager_state.proofs.find_in_slots.Tie as tie
 
 abbrev Inv-loop : tie.InvT-loop
-Inv-loop s p best₀ left₀ i₀ best left i = (i ≤ 64) × ((left + i ≡ 64) × Best s p i best)
+Inv-loop s p best₀ left₀ i₀ best left i = (i ≤ stagedLimit) × ((left + i ≡ stagedLimit) × Best s p i best)
 
 abbrev μ-loop : tie.MeasureT-loop
-μ-loop s p best₀ left₀ i₀ best left i = 64 - i
+μ-loop s p best₀ left₀ i₀ best left i = stagedLimit - i
 
 loop-holds : tie.Need-loop-holds Inv-loop μ-loop
 loop-holds c = (omega arith, (omega arith, inl (refl, omega arith)))
@@ -41,4 +42,4 @@ returns c =
 
 pub find-in-slots-spec : {M : Type 1} → statement M
 find-in-slots-spec =
-    tie.close (tie.spec Inv-loop μ-loop loop-holds (search needs) (search needs) (search needs) (search needs) sub-left (search needs) (search needs) loop-again returns)
+    tie.close (tie.spec (search needs) Inv-loop μ-loop loop-holds (search needs) (search needs) (search needs) (search needs) sub-left (search needs) (search needs) loop-again returns)
