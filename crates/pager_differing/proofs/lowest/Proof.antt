@@ -33,8 +33,8 @@ loop-again c =
     let h : c1 .wrapping-sub-u16 .result < 65536 = omega arith in
     (c4 .loop .inv .0, (omega arith, least-step (now (c7 .args .s)) (c7 .args .page) (c4 .loop .i) (c4 .loop .inv .1 .1) (c1 .wrapping-sub-u16 .result) h (c7 .pre) (c1 .wrapping-sub-u16 .ensures) (c .min-u16 .ensures)))
 
-add-lower : tie.Need-add-lower Inv-loop μ-loop
-add-lower c = omega (arith, c .before .before .before .before .before .pre, c .before .before .loop .inv .1 .1 .most, c .widen-u16 .ensures)
+add-min : tie.Need-add-min Inv-loop μ-loop
+add-min c = omega (arith, c .before .before .before .before .before .pre, c .before .before .loop .inv .1 .1 .most, c .widen-u16 .ensures)
 
 returns : tie.Need-returns Inv-loop μ-loop
 returns c =
@@ -46,4 +46,4 @@ returns c =
 pub lowest-spec : {M : Type 1} → statement M
 lowest-spec =
     tie.close
-    (tie.spec Inv-loop μ-loop (search needs) cast-from loop-holds (search needs) shared-slice-read-wrapping-sub-u16 (search needs) (search needs) (search needs) (search needs) loop-again (search needs) add-lower (search needs) returns)
+    (tie.spec Inv-loop μ-loop (search needs) cast-from loop-holds (search needs) shared-slice-read-wrapping-sub-u16 (search needs) (search needs) (search needs) (search needs) loop-again (search needs) add-min (search needs) returns)

@@ -42,4 +42,4 @@ returns c =
 
 pub find-in-slots-spec : {M : Type 1} → statement M
 find-in-slots-spec =
-    tie.close (tie.spec (search needs) Inv-loop μ-loop loop-holds (search needs) (search needs) (search needs) (search needs) sub-left (search needs) (search needs) loop-again returns)
+    tie.close (tie.spec Inv-loop μ-loop (search needs) loop-holds (search needs) (search needs) (search needs) (search needs) sub-left (search needs) (search needs) loop-again returns)
