@@ -100,9 +100,9 @@ valueNumbers (value.Bool b) = valueOf 4 (flagNumber b) (pos 0) 0 noPlace
 valueNumbers (value.Vector start count) = valueOf 5 0 (pos 0) 0 (record { start = start; len = count })
 
 -- what reading a value at a cursor answers
-abbrev pub valueTold : Answer Value → ValueAnswer
-valueTold (taken v at) = record { refusal = 0; next = at; value = valueNumbers v }
-valueTold (refused k) = record { refusal = number k; next = 0; value = noValue }
+abbrev pub valueReply : Answer Value → ValueAnswer
+valueReply (taken v at) = record { refusal = 0; next = at; value = valueNumbers v }
+valueReply (refused k) = record { refusal = number k; next = 0; value = noValue }
 
 -- what reading a column at a cursor answers
 abbrev pub columnNumbers : Answer Column → ColumnNumbers
@@ -122,11 +122,11 @@ canonicalAs (canonical.Refused r) = number r
 -- ---- a batch being built
 
 -- a column count never stands at 0: that is no present record
-abbrev pub lastIn : Building → Last
-lastIn b = pick (eqb (b .counted) 0) last.Closed (last.Open (b .counted) (b .columns))
+abbrev pub lastRecordIn : Building → Last
+lastRecordIn b = pick (eqb (b .counted) 0) last.Closed (last.Open (b .counted) (b .columns))
 
 abbrev pub builderIn : Building → BatchBuilder
-builderIn b = record { at = b .at; records = b .records; last = lastIn b }
+builderIn b = record { at = b .at; records = b .records; last = lastRecordIn b }
 
 abbrev pub countedOf : Last → ℕ
 countedOf last.Closed = 0
@@ -139,10 +139,10 @@ columnsOf (last.Open counted columns) = columns
 abbrev pub buildingOf : BatchBuilder → Building
 buildingOf b = record { refusal = 0; at = b .at % 4294967296; counted = countedOf (b .last); records = b .records; columns = columnsOf (b .last) }
 
-abbrev pub refusedBy : Refusal → Building
-refusedBy r = record { refusal = number r; at = 0; counted = 0; records = 0; columns = 0 }
+abbrev pub refusedBuilding : Refusal → Building
+refusedBuilding r = record { refusal = number r; at = 0; counted = 0; records = 0; columns = 0 }
 
 -- what an addition answers: the batch after it, or the number alone, and the caller goes on with the batch before it
-abbrev pub toldAs : Added → Building
-toldAs (added.Done b) = buildingOf b
-toldAs (added.Refused r) = refusedBy r
+abbrev pub addedNumbers : Added → Building
+addedNumbers (added.Done b) = buildingOf b
+addedNumbers (added.Refused r) = refusedBuilding r

@@ -1,5 +1,5 @@
 -- What the calls of the log and of the two headers answer, in numbers: 0 or document 01's number of the refusal, beside which all
--- else is 0. Open logs go over as `walOf` has them and are taken as `walIn` has them.
+-- else is 0. Open logs go over as `numbersOfWal` has them and are taken as `walIn` has them.
 use Prim.Native.Nat.{ℕ}
 use Rattle.refusal.specs.Refusal.{number}
 use Rattle.refusal.specs.declared.Refusal.{Refusal}
@@ -31,7 +31,8 @@ use Rattle.wal_batch.specs.declared.BatchAppended.{BatchAppended}
 use Rattle.wal_batch.specs.declared.BatchAppended.the-variants as batched
 use Rattle.log_listing.specs.declared.Listed.{Listed}
 use Rattle.log_listing.specs.declared.Listed.the-variants as listed
-use Rattle.capi_numbers.specs.Numbers.{noHeader, walOf}
+use Rattle.pager_state.specs.Opening.{noHeader}
+use Rattle.capi_numbers.specs.Numbers.{numbersOfWal}
 use Rattle.capi_numbers.specs.declared.WalNumbers.{WalNumbers}
 use Rattle.capi.specs.declared.log.WalAnswer.{WalAnswer}
 use Rattle.capi.specs.declared.log.WalHeaderAnswer.{WalHeaderAnswer}
@@ -54,7 +55,7 @@ noWal =
       «good_end» = 0;
       «last_commit_offset» = 0;
       «frame_count» = 0;
-      sealed = 0;
+      committed = 0;
       «last_commit_page_count» = 0;
     }
 
@@ -62,19 +63,19 @@ abbrev pub logRefused : Refusal → WalAnswer
 logRefused r = record { refusal = number r; wal = noWal }
 
 abbrev pub logGiven : Wal → WalAnswer
-logGiven w = record { refusal = 0; wal = walOf w }
+logGiven w = record { refusal = 0; wal = numbersOfWal w }
 
-abbrev pub createdAs : WalCreated → WalAnswer
-createdAs (created.Created w) = logGiven w
-createdAs (created.Refused r) = logRefused r
+abbrev pub walCreatedAs : WalCreated → WalAnswer
+walCreatedAs (created.Created w) = logGiven w
+walCreatedAs (created.Refused r) = logRefused r
 
-abbrev pub openedAs : WalOpened → WalAnswer
-openedAs (opened.Opened w) = logGiven w
-openedAs (opened.Refused r) = logRefused r
+abbrev pub walOpenedAs : WalOpened → WalAnswer
+walOpenedAs (opened.Opened w) = logGiven w
+walOpenedAs (opened.Refused r) = logRefused r
 
-abbrev pub appendedAs : FrameAppended → WalAnswer
-appendedAs (appended.Appended w) = logGiven w
-appendedAs (appended.Refused r) = logRefused r
+abbrev pub walAppendedAs : FrameAppended → WalAnswer
+walAppendedAs (appended.Appended w) = logGiven w
+walAppendedAs (appended.Refused r) = logRefused r
 
 abbrev pub batchedAs : BatchAppended → WalAnswer
 batchedAs (batched.Appended w) = logGiven w
@@ -84,9 +85,9 @@ abbrev pub truncatedAs : WalTruncated → WalAnswer
 truncatedAs (truncated.Truncated w) = logGiven w
 truncatedAs (truncated.Refused r) = logRefused r
 
-abbrev pub clockAs : ClockSet → WalAnswer
-clockAs (clock.Set w) = logGiven w
-clockAs (clock.Refused r) = logRefused r
+abbrev pub walClockAs : ClockSet → WalAnswer
+walClockAs (clock.Set w) = logGiven w
+walClockAs (clock.Refused r) = logRefused r
 
 -- ---- what stands in a log
 
@@ -127,6 +128,6 @@ encodedAs (encoded.Refused r) = number r
 abbrev pub headerRefused : Refusal → HeaderAnswer
 headerRefused r = record { refusal = number r; header = noHeader }
 
-abbrev pub headerAs : HeaderDecoded → HeaderAnswer
-headerAs (header.Header h) = record { refusal = 0; header = h }
-headerAs (header.Refused r) = headerRefused r
+abbrev pub decodedHeaderAs : HeaderDecoded → HeaderAnswer
+decodedHeaderAs (header.Header h) = record { refusal = 0; header = h }
+decodedHeaderAs (header.Refused r) = headerRefused r

@@ -8,7 +8,7 @@ ghost use Rattle.mvcc.specs.Decode.{valueAt, columnAt, recordAt, batchOf};
 ghost use Rattle.mvcc.specs.Vector.{bitsAt};
 ghost use Rattle.mvcc_build.specs.Build.{started, startedBytes, recordAdded, recordBytes, column, columnAdded, columnBytes, vectorAdded, vectorBytes};
 ghost use Rattle.mvcc_canonical.specs.Canonical.{canonicalized, canonicalBytes};
-ghost use Rattle.capi.specs.Batch.{noBatch, batchNumbers, opNumber, countNumber, firstNumber, noPlace, recordNumbers, valueOf, noValue, flagNumber, valueNumbers, valueTold, columnNumbers, elementNumbers, canonicalAs, lastIn, builderIn, countedOf, columnsOf, buildingOf, refusedBy, toldAs};
+ghost use Rattle.capi.specs.Batch.{noBatch, batchNumbers, opNumber, countNumber, firstNumber, noPlace, recordNumbers, valueOf, noValue, flagNumber, valueNumbers, valueReply, columnNumbers, elementNumbers, canonicalAs, lastRecordIn, builderIn, countedOf, columnsOf, buildingOf, refusedBuilding, addedNumbers};
 use mvcc::BatchDecoded;
 use mvcc::ColumnField;
 use mvcc::ElementBits;
@@ -217,7 +217,7 @@ fn no_value() -> ValueNumbers
 
 #[no_mangle]
 pub extern "C" fn lateenbael_mvcc_decode_value(body: &[u8], at: usize) -> ValueAnswer
-    ensures { λ r. ⌜ r ≡ valueTold (valueAt (now (body .entry)) at) ⌝ }
+    ensures { λ r. ⌜ r ≡ valueReply (valueAt (now (body .entry)) at) ⌝ }
 {
     match mvcc::decode_value(body, at) {
         ValueField::Taken(v, next) => ValueAnswer {
@@ -298,7 +298,7 @@ pub struct Building {
 }
 
 fn last_in(b: Building) -> Last
-    ensures { λ r. ⌜ r ≡ lastIn b ⌝ }
+    ensures { λ r. ⌜ r ≡ lastRecordIn b ⌝ }
 {
     if b.counted == 0 {
         return Last::Closed;
@@ -357,7 +357,7 @@ fn building_of(b: BatchBuilder) -> Building
 }
 
 fn refused(row: Refusal) -> Building
-    ensures { λ r. ⌜ r ≡ refusedBy row ⌝ }
+    ensures { λ r. ⌜ r ≡ refusedBuilding row ⌝ }
 {
     Building {
         refusal: refusal::number(row),
@@ -368,8 +368,8 @@ fn refused(row: Refusal) -> Building
     }
 }
 
-fn told(k: Added) -> Building
-    ensures { λ r. ⌜ r ≡ toldAs k ⌝ }
+fn added_numbers(k: Added) -> Building
+    ensures { λ r. ⌜ r ≡ addedNumbers k ⌝ }
 {
     match k {
         Added::Done(b) => building_of(b),
@@ -379,10 +379,10 @@ fn told(k: Added) -> Building
 
 #[no_mangle]
 pub extern "C" fn lateenbael_mvcc_start(body: &mut [u8], commit_ts: u64) -> Building
-    ensures { λ r. ⌜ r ≡ toldAs (started (now (body .entry))) ⌝ }
+    ensures { λ r. ⌜ r ≡ addedNumbers (started (now (body .entry))) ⌝ }
     ensures { λ _. ⌜ now (body .exit) ≡ startedBytes «commit_ts» (now (body .entry)) ⌝ }
 {
-    told(mvcc_build::start(body, commit_ts))
+    added_numbers(mvcc_build::start(body, commit_ts))
 }
 
 #[no_mangle]
@@ -392,10 +392,10 @@ pub extern "C" fn lateenbael_mvcc_add_tombstone(
     table: &[u8],
     rowid: i64,
 ) -> Building
-    ensures { λ r. ⌜ r ≡ toldAs (recordAdded (builderIn b) (now (body .entry)) (tombstone (now (table .entry)) rowid)) ⌝ }
+    ensures { λ r. ⌜ r ≡ addedNumbers (recordAdded (builderIn b) (now (body .entry)) (tombstone (now (table .entry)) rowid)) ⌝ }
     ensures { λ _. ⌜ now (body .exit) ≡ recordBytes (builderIn b) (now (body .entry)) (tombstone (now (table .entry)) rowid) ⌝ }
 {
-    told(mvcc_build::add_tombstone(body, builder_in(b), table, rowid))
+    added_numbers(mvcc_build::add_tombstone(body, builder_in(b), table, rowid))
 }
 
 #[no_mangle]
@@ -405,18 +405,18 @@ pub extern "C" fn lateenbael_mvcc_begin_present(
     table: &[u8],
     rowid: i64,
 ) -> Building
-    ensures { λ r. ⌜ r ≡ toldAs (recordAdded (builderIn b) (now (body .entry)) (present (now (table .entry)) rowid [])) ⌝ }
+    ensures { λ r. ⌜ r ≡ addedNumbers (recordAdded (builderIn b) (now (body .entry)) (present (now (table .entry)) rowid [])) ⌝ }
     ensures { λ _. ⌜ now (body .exit) ≡ recordBytes (builderIn b) (now (body .entry)) (present (now (table .entry)) rowid []) ⌝ }
 {
-    told(mvcc_build::begin_present(body, builder_in(b), table, rowid))
+    added_numbers(mvcc_build::begin_present(body, builder_in(b), table, rowid))
 }
 
 #[no_mangle]
 pub extern "C" fn lateenbael_mvcc_add_null(body: &mut [u8], b: Building, name: &[u8]) -> Building
-    ensures { λ r. ⌜ r ≡ toldAs (columnAdded (builderIn b) (now (body .entry)) (column (now (name .entry)) null)) ⌝ }
+    ensures { λ r. ⌜ r ≡ addedNumbers (columnAdded (builderIn b) (now (body .entry)) (column (now (name .entry)) null)) ⌝ }
     ensures { λ _. ⌜ now (body .exit) ≡ columnBytes (builderIn b) (now (body .entry)) (column (now (name .entry)) null) ⌝ }
 {
-    told(mvcc_build::add_null(body, builder_in(b), name))
+    added_numbers(mvcc_build::add_null(body, builder_in(b), name))
 }
 
 #[no_mangle]
@@ -426,10 +426,10 @@ pub extern "C" fn lateenbael_mvcc_add_integer(
     name: &[u8],
     value: i64,
 ) -> Building
-    ensures { λ r. ⌜ r ≡ toldAs (columnAdded (builderIn b) (now (body .entry)) (column (now (name .entry)) (integer value))) ⌝ }
+    ensures { λ r. ⌜ r ≡ addedNumbers (columnAdded (builderIn b) (now (body .entry)) (column (now (name .entry)) (integer value))) ⌝ }
     ensures { λ _. ⌜ now (body .exit) ≡ columnBytes (builderIn b) (now (body .entry)) (column (now (name .entry)) (integer value)) ⌝ }
 {
-    told(mvcc_build::add_integer(body, builder_in(b), name, value))
+    added_numbers(mvcc_build::add_integer(body, builder_in(b), name, value))
 }
 
 #[no_mangle]
@@ -439,10 +439,10 @@ pub extern "C" fn lateenbael_mvcc_add_real_bits(
     name: &[u8],
     bits: u64,
 ) -> Building
-    ensures { λ r. ⌜ r ≡ toldAs (columnAdded (builderIn b) (now (body .entry)) (column (now (name .entry)) (real bits))) ⌝ }
+    ensures { λ r. ⌜ r ≡ addedNumbers (columnAdded (builderIn b) (now (body .entry)) (column (now (name .entry)) (real bits))) ⌝ }
     ensures { λ _. ⌜ now (body .exit) ≡ columnBytes (builderIn b) (now (body .entry)) (column (now (name .entry)) (real bits)) ⌝ }
 {
-    told(mvcc_build::add_real_bits(body, builder_in(b), name, bits))
+    added_numbers(mvcc_build::add_real_bits(body, builder_in(b), name, bits))
 }
 
 #[no_mangle]
@@ -452,10 +452,10 @@ pub extern "C" fn lateenbael_mvcc_add_text(
     name: &[u8],
     value: &[u8],
 ) -> Building
-    ensures { λ r. ⌜ r ≡ toldAs (columnAdded (builderIn b) (now (body .entry)) (column (now (name .entry)) (text (now (value .entry))))) ⌝ }
+    ensures { λ r. ⌜ r ≡ addedNumbers (columnAdded (builderIn b) (now (body .entry)) (column (now (name .entry)) (text (now (value .entry))))) ⌝ }
     ensures { λ _. ⌜ now (body .exit) ≡ columnBytes (builderIn b) (now (body .entry)) (column (now (name .entry)) (text (now (value .entry)))) ⌝ }
 {
-    told(mvcc_build::add_text(body, builder_in(b), name, value))
+    added_numbers(mvcc_build::add_text(body, builder_in(b), name, value))
 }
 
 #[no_mangle]
@@ -465,10 +465,10 @@ pub extern "C" fn lateenbael_mvcc_add_bool(
     name: &[u8],
     value: u32,
 ) -> Building
-    ensures { λ r. ⌜ r ≡ toldAs (columnAdded (builderIn b) (now (body .entry)) (column (now (name .entry)) (bool (not (eqb value 0))))) ⌝ }
+    ensures { λ r. ⌜ r ≡ addedNumbers (columnAdded (builderIn b) (now (body .entry)) (column (now (name .entry)) (bool (not (eqb value 0))))) ⌝ }
     ensures { λ _. ⌜ now (body .exit) ≡ columnBytes (builderIn b) (now (body .entry)) (column (now (name .entry)) (bool (not (eqb value 0)))) ⌝ }
 {
-    told(mvcc_build::add_bool(body, builder_in(b), name, value != 0))
+    added_numbers(mvcc_build::add_bool(body, builder_in(b), name, value != 0))
 }
 
 #[no_mangle]
@@ -478,8 +478,8 @@ pub extern "C" fn lateenbael_mvcc_add_vector(
     name: &[u8],
     bytes: &[u8],
 ) -> Building
-    ensures { λ r. ⌜ r ≡ toldAs (vectorAdded (builderIn b) (now (body .entry)) (now (name .entry)) (now (bytes .entry))) ⌝ }
+    ensures { λ r. ⌜ r ≡ addedNumbers (vectorAdded (builderIn b) (now (body .entry)) (now (name .entry)) (now (bytes .entry))) ⌝ }
     ensures { λ _. ⌜ now (body .exit) ≡ vectorBytes (builderIn b) (now (body .entry)) (now (name .entry)) (now (bytes .entry)) ⌝ }
 {
-    told(mvcc_build::add_vector(body, builder_in(b), name, bytes))
+    added_numbers(mvcc_build::add_vector(body, builder_in(b), name, bytes))
 }

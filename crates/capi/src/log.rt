@@ -1,16 +1,16 @@
 // The calls of the log alone, and of the two headers.
 ghost use mathlib.Core.Path.{_≡_};
-ghost use Rattle.le.specs.Answers.{refusal, storedOf};
+ghost use Rattle.le.specs.Answers.{storedRefusal, storedOf};
 ghost use Rattle.le.specs.Le.{store};
 ghost use Rattle.header.specs.Header.{encodeAnswer, encodeAfter, decodeHeader};
 ghost use Rattle.wal.specs.Header.{encodeWalHeader, decodeWalHeader};
 ghost use Rattle.wal.specs.Recovery.{openLog};
-ghost use Rattle.wal.specs.Read.{frameIn, findPage, nextBatch};
-ghost use Rattle.wal.specs.Write.{createAnswer, createAfter, truncateAnswer, truncateAfter, appendAnswer, appendAfter, clockAnswer};
+ghost use Rattle.wal.specs.Read.{frameIn, findLogPage, nextBatch};
+ghost use Rattle.wal.specs.Write.{createAnswer, createAfter, truncateAnswer, truncateAfter, appendFrameAnswer, appendFrameAfter, clockAnswer};
 ghost use Rattle.wal_batch.specs.Batch.{batchAnswer, batchAfter};
 ghost use Rattle.log_listing.specs.Answer.{listedAnswer, listedAfter};
 ghost use Rattle.capi_numbers.specs.Numbers.{walIn};
-ghost use Rattle.capi.specs.Log.{noWalHeader, logRefused, logGiven, createdAs, openedAs, appendedAs, batchedAs, truncatedAs, clockAs, frameAs, placeAs, batchAs, listedAs, walHeaderRefused, walHeaderAs, encodedAs, headerRefused, headerAs};
+ghost use Rattle.capi.specs.Log.{noWalHeader, logRefused, logGiven, walCreatedAs, walOpenedAs, walAppendedAs, batchedAs, truncatedAs, walClockAs, frameAs, placeAs, batchAs, listedAs, walHeaderRefused, walHeaderAs, encodedAs, headerRefused, decodedHeaderAs};
 use capi_answers::BatchPlace;
 use capi_answers::HeaderAnswer;
 use capi_answers::PageAnswer;
@@ -23,7 +23,7 @@ use header::HeaderDecoded;
 use header::HeaderEncoded;
 use le::Stored;
 use log_listing::Listed;
-use refusal::Refusal;
+use storedRefusal::Refusal;
 use wal::BatchFound;
 use wal::ClockSet;
 use wal::FrameAppended;
@@ -40,13 +40,13 @@ use wal_batch::BatchAppended;
 // What a call answers that gives an open log: where it is refused, the log's numbers are 0.
 #[repr(C)]
 pub struct WalAnswer {
-    pub refusal: u32,
+    pub storedRefusal: u32,
     pub wal: WalNumbers,
 }
 
 #[repr(C)]
 pub struct WalHeaderAnswer {
-    pub refusal: u32,
+    pub storedRefusal: u32,
     pub header: WalHeader,
 }
 
@@ -61,7 +61,7 @@ pub struct FrameAnswer {
 // How many bytes a listing has.
 #[repr(C)]
 pub struct ListAnswer {
-    pub refusal: u32,
+    pub storedRefusal: u32,
     pub len: usize,
 }
 
@@ -80,14 +80,14 @@ fn refused(row: Refusal) -> WalAnswer
     ensures { λ r. ⌜ r ≡ logRefused row ⌝ }
 {
     WalAnswer {
-        refusal: refusal::number(row),
+        storedRefusal: storedRefusal::number(row),
         wal: WalNumbers {
             header: no_wal_header(),
             len: 0,
             good_end: 0,
             last_commit_offset: 0,
             frame_count: 0,
-            sealed: 0,
+            committed: 0,
             last_commit_page_count: 0,
         },
     }
@@ -97,14 +97,14 @@ fn given(wal: Wal) -> WalAnswer
     ensures { λ r. ⌜ r ≡ logGiven wal ⌝ }
 {
     WalAnswer {
-        refusal: 0,
+        storedRefusal: 0,
         wal: wal_of(wal),
     }
 }
 
 #[no_mangle]
 pub extern "C" fn lateenbael_wal_create(log: &mut [u8], salt: u32) -> WalAnswer
-    ensures { λ r. ⌜ r ≡ createdAs (createAnswer (now (log .entry)) salt) ⌝ }
+    ensures { λ r. ⌜ r ≡ walCreatedAs (createAnswer (now (log .entry)) salt) ⌝ }
     ensures { λ _. ⌜ now (log .exit) ≡ createAfter (now (log .entry)) salt ⌝ }
 {
     match wal::create(log, salt) {
@@ -115,7 +115,7 @@ pub extern "C" fn lateenbael_wal_create(log: &mut [u8], salt: u32) -> WalAnswer
 
 #[no_mangle]
 pub extern "C" fn lateenbael_wal_open(file: &[u8]) -> WalAnswer
-    ensures { λ r. ⌜ r ≡ openedAs (openLog (now (file .entry))) ⌝ }
+    ensures { λ r. ⌜ r ≡ walOpenedAs (openLog (now (file .entry))) ⌝ }
 {
     match Wal::open(file) {
         WalOpened::Opened(wal) => given(wal),
@@ -131,8 +131,8 @@ pub extern "C" fn lateenbael_wal_append_frame(
     content: &[u8],
     commit_page_count: u32,
 ) -> WalAnswer
-    ensures { λ r. ⌜ r ≡ appendedAs (appendAnswer (now (log .entry)) (walIn wal) «page_num» (now (content .entry)) «commit_page_count») ⌝ }
-    ensures { λ _. ⌜ now (log .exit) ≡ appendAfter (now (log .entry)) (walIn wal) «page_num» (now (content .entry)) «commit_page_count» ⌝ }
+    ensures { λ r. ⌜ r ≡ walAppendedAs (appendFrameAnswer (now (log .entry)) (walIn wal) «page_num» (now (content .entry)) «commit_page_count») ⌝ }
+    ensures { λ _. ⌜ now (log .exit) ≡ appendFrameAfter (now (log .entry)) (walIn wal) «page_num» (now (content .entry)) «commit_page_count» ⌝ }
 {
     match wal::append_frame(log, wal_in(wal), page_num, content, commit_page_count) {
         FrameAppended::Appended(wal) => given(wal),
@@ -168,7 +168,7 @@ pub extern "C" fn lateenbael_wal_truncate(log: &mut [u8], wal: WalNumbers, salt:
 
 #[no_mangle]
 pub extern "C" fn lateenbael_wal_set_clock_high_water(wal: WalNumbers, value: u64) -> WalAnswer
-    ensures { λ r. ⌜ r ≡ clockAs (clockAnswer (walIn wal) value) ⌝ }
+    ensures { λ r. ⌜ r ≡ walClockAs (clockAnswer (walIn wal) value) ⌝ }
 {
     match wal::set_clock_high_water(wal_in(wal), value) {
         ClockSet::Set(wal) => given(wal),
@@ -205,16 +205,16 @@ pub extern "C" fn lateenbael_wal_find_page(
     wal: WalNumbers,
     page_num: u32,
 ) -> PageAnswer
-    ensures { λ r. ⌜ r ≡ placeAs (findPage (now (file .entry)) (wal .«last_commit_offset») «page_num») ⌝ }
+    ensures { λ r. ⌜ r ≡ placeAs (findLogPage (now (file .entry)) (wal .«last_commit_offset») «page_num») ⌝ }
 {
     match wal::find_page(file, wal_in(wal), page_num) {
         PagePlace::At(at) => PageAnswer {
-            refusal: 0,
+            storedRefusal: 0,
             area: 1,
             at,
         },
         PagePlace::Nothing => PageAnswer {
-            refusal: 0,
+            storedRefusal: 0,
             area: 0,
             at: 0,
         },
@@ -231,13 +231,13 @@ pub extern "C" fn lateenbael_wal_next_batch(
 {
     match wal::next_batch(file, wal_in(wal), index) {
         BatchFound::Batch { index, offset } => BatchPlace {
-            refusal: 0,
+            storedRefusal: 0,
             found: 1,
             index,
             offset,
         },
         BatchFound::Nothing => BatchPlace {
-            refusal: 0,
+            storedRefusal: 0,
             found: 0,
             index: 0,
             offset: 0,
@@ -251,9 +251,12 @@ pub extern "C" fn lateenbael_list_log(file: &[u8], out: &mut [u8]) -> ListAnswer
     ensures { λ _. ⌜ now (out .exit) ≡ listedAfter (now (file .entry)) (now (out .entry)) ⌝ }
 {
     match log_listing::list_log(file, out) {
-        Listed::Bytes(len) => ListAnswer { refusal: 0, len },
+        Listed::Bytes(len) => ListAnswer {
+            storedRefusal: 0,
+            len,
+        },
         Listed::Refused(row) => ListAnswer {
-            refusal: refusal::number(row),
+            storedRefusal: storedRefusal::number(row),
             len: 0,
         },
     }
@@ -261,7 +264,7 @@ pub extern "C" fn lateenbael_list_log(file: &[u8], out: &mut [u8]) -> ListAnswer
 
 #[no_mangle]
 pub extern "C" fn lateenbael_encode_wal_header(header: WalHeader, log: &mut [u8]) -> u32
-    ensures { λ r. ⌜ r ≡ refusal (storedOf (now (log .entry)) 0 32) ⌝ }
+    ensures { λ r. ⌜ r ≡ storedRefusal (storedOf (now (log .entry)) 0 32) ⌝ }
     ensures { λ _. ⌜ now (log .exit) ≡ store (now (log .entry)) 0 (encodeWalHeader header) ⌝ }
 {
     match wal::encode_wal_header(header, log) {
@@ -274,7 +277,7 @@ fn no_log_header(row: Refusal) -> WalHeaderAnswer
     ensures { λ r. ⌜ r ≡ walHeaderRefused row ⌝ }
 {
     WalHeaderAnswer {
-        refusal: refusal::number(row),
+        storedRefusal: storedRefusal::number(row),
         header: no_wal_header(),
     }
 }
@@ -284,7 +287,10 @@ pub extern "C" fn lateenbael_decode_wal_header(log: &[u8]) -> WalHeaderAnswer
     ensures { λ r. ⌜ r ≡ walHeaderAs (decodeWalHeader (now (log .entry))) ⌝ }
 {
     match wal::decode_wal_header(log) {
-        WalHeaderDecoded::Header(header) => WalHeaderAnswer { refusal: 0, header },
+        WalHeaderDecoded::Header(header) => WalHeaderAnswer {
+            storedRefusal: 0,
+            header,
+        },
         WalHeaderDecoded::Refused(row) => no_log_header(row),
     }
 }
@@ -296,7 +302,7 @@ pub extern "C" fn lateenbael_encode_header(header: DbHeader, buf: &mut [u8]) -> 
 {
     match header::encode_header(header, buf) {
         HeaderEncoded::Done => 0,
-        HeaderEncoded::Refused(row) => refusal::number(row),
+        HeaderEncoded::Refused(row) => storedRefusal::number(row),
     }
 }
 
@@ -304,7 +310,7 @@ fn no_header(row: Refusal) -> HeaderAnswer
     ensures { λ r. ⌜ r ≡ headerRefused row ⌝ }
 {
     HeaderAnswer {
-        refusal: refusal::number(row),
+        storedRefusal: storedRefusal::number(row),
         header: DbHeader {
             page_count: 0,
             schema_root_page: 0,
@@ -316,10 +322,13 @@ fn no_header(row: Refusal) -> HeaderAnswer
 
 #[no_mangle]
 pub extern "C" fn lateenbael_decode_header(buf: &[u8]) -> HeaderAnswer
-    ensures { λ r. ⌜ r ≡ headerAs (decodeHeader (now (buf .entry))) ⌝ }
+    ensures { λ r. ⌜ r ≡ decodedHeaderAs (decodeHeader (now (buf .entry))) ⌝ }
 {
     match header::decode_header(buf) {
-        HeaderDecoded::Header(header) => HeaderAnswer { refusal: 0, header },
+        HeaderDecoded::Header(header) => HeaderAnswer {
+            storedRefusal: 0,
+            header,
+        },
         HeaderDecoded::Refused(row) => no_header(row),
     }
 }

@@ -5,7 +5,7 @@ ghost use lib.Dec.{eqb};
 ghost use Rattle.refusal.specs.Refusal.{numberOf};
 ghost use Rattle.pager_state.specs.World.{world};
 ghost use Rattle.pager_state.specs.Overlay.{slots, placePage, findPage};
-ghost use Rattle.pager_state.specs.Staging.{stageRefusal, stagedAfter, stagingAfter, stagePage, stageAfter, clearStaged};
+ghost use Rattle.pager_state.specs.Staging.{stageRefusal, stagedAfter, stagingBytes, stagePage, stageAfter, clearStaged};
 ghost use Rattle.pager_state.specs.Queries.{header, accessMode, clockHighWater, observeClock};
 ghost use Rattle.pager_state.specs.Batches.{appendBatch, appendAfter, nextRecovered};
 ghost use Rattle.pager_state.specs.Opening.{create, createTable, createLog, createMain, openPager, openedAnswer, openTable, openLogArea};
@@ -13,7 +13,7 @@ ghost use Rattle.pager_state.specs.Steps.{beginCommit, beginCheckpoint, stepAns
 ghost use Rattle.pager_open.specs.Given.{how, files};
 ghost use Rattle.pager_read.specs.Reading.{mayRead, readEnd};
 ghost use Rattle.capi_numbers.specs.Numbers.{pagerIn};
-ghost use Rattle.capi_answers.specs.Answers.{flagIn, modeIn, createdAs, openedAs, headerAs, modeAs, clockAs, observedAs, foundAs, recoveredAs, stagedAs, clearedAs, appendedAs, commitBegunAs, foldBegunAs, committedAs, writtenAs, steppedAs};
+ghost use Rattle.capi_answers.specs.Answers.{flagIn, modeIn, createdAs, openedAs, headerAs, modeAs, clockAs, observedAs, foundAs, recoveredAs, stagedAs, clearedAs, appendedAs, commitBegunAs, checkpointBegunAs, committedAs, writtenAs, steppedAs};
 ghost use Rattle.capi.specs.Store.{readNumber, stagedNumber};
 use capi_answers::Answered;
 use capi_answers::BatchPlace;
@@ -214,7 +214,8 @@ pub extern "C" fn lateenbael_may_read(
     staging: &[u8],
 ) -> u32
     ensures { λ r. ⌜
-        r ≡ readNumber (mayRead «page_count» job «log_len» «main_len» (now (table .entry)) (now (log .entry)) (now (main .entry)) (now (staging .entry)))
+        (let a = mayRead «page_count» job «log_len» «main_len» (now (table .entry)) (now (log .entry)) (now (main .entry)) (now (staging .entry)) in
+        r ≡ readNumber a)
         ⌝ }
 {
     read_number(pager_read::may_read(
@@ -279,7 +280,10 @@ pub extern "C" fn lateenbael_stage_page(
     page_num: u32,
     bytes: &[u8],
 ) -> Answered
-    ensures { λ r. ⌜ (let a = stagePage (pagerIn store) (now (staging .entry)) «page_num» (now (bytes .entry)) in r ≡ stagedAs (a .answer) (a .pager)) ⌝ }
+    ensures { λ r. ⌜
+        (let a = stagePage (pagerIn store) (now (staging .entry)) «page_num» (now (bytes .entry)) in
+        r ≡ stagedAs (a .answer) (a .pager))
+        ⌝ }
     ensures { λ _. ⌜ now (staging .exit) ≡ stageAfter (pagerIn store) (now (staging .entry)) «page_num» (now (bytes .entry)) ⌝ }
 {
     capi_answers::staged_as(pager_stage::stage_page(
@@ -326,7 +330,7 @@ pub extern "C" fn lateenbael_stage_in(
         ⌝ }
     ensures { λ _. ⌜
         (let s = slots «staged_count» (now (staged .entry)) in
-        now (staging .exit) ≡ stagingAfter (not (eqb job 0)) s (now (staging .entry)) «page_num» (now (bytes .entry)))
+        now (staging .exit) ≡ stagingBytes (not (eqb job 0)) s (now (staging .entry)) «page_num» (now (bytes .entry)))
         ⌝ }
 {
     let done = pager_stage::stage_in(job, page_num, staged_count, staged, staging, bytes);
@@ -360,7 +364,7 @@ pub extern "C" fn lateenbael_append_mvcc_batch(
     ))
 }
 
-// ---- commit and fold, begun
+// ---- commit and checkpoint, begun
 
 #[no_mangle]
 pub extern "C" fn lateenbael_begin_commit<'a>(
@@ -399,10 +403,10 @@ pub extern "C" fn lateenbael_begin_checkpoint(
 ) -> Answered
     ensures { λ r. ⌜
         (let w = world (pagerIn store) (now (table .entry)) (now (log .entry)) (now (main .entry)) in
-        (let a = beginCheckpoint (now (staging .entry)) w salt in r ≡ foldBegunAs (a .answer) (a .pager)))
+        (let a = beginCheckpoint (now (staging .entry)) w salt in r ≡ checkpointBegunAs (a .answer) (a .pager)))
         ⌝ }
 {
-    capi_answers::fold_begun_as(pager_fold::begin_checkpoint(
+    capi_answers::checkpoint_begun_as(pager_checkpoint::begin_checkpoint(
         capi_numbers::pager_in(store),
         table,
         log,
@@ -441,7 +445,7 @@ pub extern "C" fn lateenbael_next_step(
     ))
 }
 
-// ---- commit and fold in one call
+// ---- commit and checkpoint in one call
 
 #[no_mangle]
 pub extern "C" fn lateenbael_commit(

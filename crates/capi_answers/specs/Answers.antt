@@ -50,7 +50,8 @@ use Rattle.pager_state.specs.declared.CheckpointAnswer.{CheckpointAnswer}
 use Rattle.pager_state.specs.declared.CheckpointAnswer.the-variants as written
 use Rattle.pager_state.specs.declared.Place.{Place}
 use Rattle.pager_state.specs.declared.Pager.{Pager}
-use Rattle.capi_numbers.specs.Numbers.{noHeader, storeOf}
+use Rattle.pager_state.specs.Opening.{noHeader}
+use Rattle.capi_numbers.specs.Numbers.{storeOf}
 use Rattle.capi_answers.specs.declared.Answered.{Answered}
 use Rattle.capi_answers.specs.declared.HeaderAnswer.{HeaderAnswer}
 use Rattle.capi_answers.specs.declared.NumberAnswer.{NumberAnswer}
@@ -67,15 +68,15 @@ flagIn n = not (eqb n 0)
 abbrev pub flagOf : Bool → ℕ
 flagOf b = pick b 1 0
 
-abbrev pub told : ℕ → ℕ → ℕ → Pager → Answered
-told refusal begun answer p = record { refusal = refusal; begun = begun; answer = answer; store = storeOf p }
+abbrev pub reply : ℕ → ℕ → ℕ → Pager → Answered
+reply refusal begun answer p = record { refusal = refusal; begun = begun; answer = answer; store = storeOf p }
 
-abbrev pub done : Pager → Answered
-done p = told 0 0 0 p
+abbrev pub accepted : Pager → Answered
+accepted p = reply 0 0 0 p
 
 -- beside 14 its "lowest page"
 abbrev pub refusedAs : Refusal → Pager → Answered
-refusedAs r p = told (table.number r) 0 (table.lowestPage r) p
+refusedAs r p = reply (table.number r) 0 (table.lowestPage r) p
 
 -- ---- creation and openings
 
@@ -84,11 +85,11 @@ abbrev pub modeIn : ℕ → AccessMode
 modeIn n = pick (eqb n 0) mode.ReadWrite mode.ReadOnly
 
 abbrev pub createdAs : CreateAnswer → Pager → Answered
-createdAs created.Created p = done p
+createdAs created.Created p = accepted p
 createdAs (created.Refused r) p = refusedAs r p
 
 abbrev pub openedAs : OpenAnswer → Pager → Answered
-openedAs opened.Opened p = done p
+openedAs opened.Opened p = accepted p
 openedAs (opened.Refused r) p = refusedAs r p
 
 -- ---- queries
@@ -97,23 +98,23 @@ abbrev pub headerAs : HeaderRead → HeaderAnswer
 headerAs (head.Header h) = record { refusal = 0; header = h }
 headerAs (head.Refused r) = record { refusal = table.number r; header = noHeader }
 
-abbrev pub number : ℕ → ℕ → NumberAnswer
-number refusal n = record { refusal = refusal; number = n }
+abbrev pub numberReply : ℕ → ℕ → NumberAnswer
+numberReply refusal n = record { refusal = refusal; number = n }
 
 abbrev pub modeOf : AccessMode → ℕ
 modeOf mode.ReadWrite = 0
 modeOf mode.ReadOnly = 1
 
 abbrev pub modeAs : ModeRead → NumberAnswer
-modeAs (moded.Mode m) = number 0 (modeOf m)
-modeAs (moded.Refused r) = number (table.number r) 0
+modeAs (moded.Mode m) = numberReply 0 (modeOf m)
+modeAs (moded.Refused r) = numberReply (table.number r) 0
 
 abbrev pub clockAs : ClockRead → NumberAnswer
-clockAs (clock.Clock c) = number 0 c
-clockAs (clock.Refused r) = number (table.number r) 0
+clockAs (clock.Clock c) = numberReply 0 c
+clockAs (clock.Refused r) = numberReply (table.number r) 0
 
 abbrev pub observedAs : ObserveAnswer → Pager → Answered
-observedAs observe.Observed p = done p
+observedAs observe.Observed p = accepted p
 observedAs (observe.Refused r) p = refusedAs r p
 
 -- ---- pages and batches
@@ -144,50 +145,50 @@ recoveredAs recovered.Nothing = place 0 0 0 0
 recoveredAs (recovered.Refused r) = place (table.number r) 0 0 0
 
 abbrev pub stagedAs : StageAnswer → Pager → Answered
-stagedAs stage.Staged p = done p
+stagedAs stage.Staged p = accepted p
 stagedAs (stage.Refused r) p = refusedAs r p
 
 abbrev pub clearedAs : ClearAnswer → Pager → Answered
-clearedAs clear.Cleared p = done p
+clearedAs clear.Cleared p = accepted p
 clearedAs (clear.Refused r) p = refusedAs r p
 
 abbrev pub appendedAs : BatchAnswer → Pager → Answered
-appendedAs append.Appended p = done p
+appendedAs append.Appended p = accepted p
 appendedAs (append.Refused r) p = refusedAs r p
 
--- ---- commit and fold
+-- ---- commit and checkpoint
 
 abbrev pub commitBegunAs : CommitStart → Pager → Answered
-commitBegunAs commit.Begun p = told 0 1 0 p
+commitBegunAs commit.Begun p = reply 0 1 0 p
 commitBegunAs (commit.Refused r) p = refusedAs r p
 
 -- where there is nothing to store, no step is to be done and the answer is 0
-abbrev pub foldBegunAs : CheckpointStart → Pager → Answered
-foldBegunAs checkpoint.Begun p = told 0 1 0 p
-foldBegunAs checkpoint.Nothing p = done p
-foldBegunAs (checkpoint.Refused r) p = refusedAs r p
+abbrev pub checkpointBegunAs : CheckpointStart → Pager → Answered
+checkpointBegunAs checkpoint.Begun p = reply 0 1 0 p
+checkpointBegunAs checkpoint.Nothing p = accepted p
+checkpointBegunAs (checkpoint.Refused r) p = refusedAs r p
 
 abbrev pub committedAs : CommitAnswer → Pager → Answered
-committedAs (committed.Committed n) p = told 0 0 n p
+committedAs (committed.Committed n) p = reply 0 0 n p
 committedAs (committed.Refused r) p = refusedAs r p
 
 abbrev pub writtenAs : CheckpointAnswer → Pager → Answered
-writtenAs (written.Written n) p = told 0 0 n p
+writtenAs (written.Written n) p = reply 0 0 n p
 writtenAs (written.Refused r) p = refusedAs r p
 
 -- ---- the next step
 
-abbrev pub fileOf : FileKind → ℕ
-fileOf file.Log = 1
-fileOf file.Main = 2
+abbrev pub fileNumber : FileKind → ℕ
+fileNumber file.Log = 1
+fileNumber file.Main = 2
 
 -- a store was done: 1, or 2 if it is the last, which gives the answer
-abbrev pub stored : ℕ → Place → ℕ → Pager → StepAnswered
-stored kind x answer p =
+abbrev pub stepStored : ℕ → Place → ℕ → Pager → StepAnswered
+stepStored kind x answer p =
     record {
       refusal = 0;
       kind = kind;
-      area = fileOf (x .file);
+      area = fileNumber (x .file);
       flush = flagOf (x .flush);
       at = x .at;
       len = x .len;
@@ -200,6 +201,6 @@ noStep refusal p = record { refusal = refusal; kind = 0; area = 0; flush = 0; at
 
 abbrev pub steppedAs : StepAnswer → Pager → StepAnswered
 steppedAs step.Idle p = noStep 0 p
-steppedAs (step.Stored x) p = stored 1 x 0 p
-steppedAs (step.Last x n) p = stored 2 x n p
+steppedAs (step.Stored x) p = stepStored 1 x 0 p
+steppedAs (step.Last x n) p = stepStored 2 x n p
 steppedAs (step.Refused r) p = noStep (table.number r) p

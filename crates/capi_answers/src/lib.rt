@@ -1,6 +1,6 @@
 // The answers of the store's calls in numbers: document 01's refusal or 0, what the call gives, and the store after it.
 ghost use mathlib.Core.Path.{_≡_};
-ghost use Rattle.capi_answers.specs.Answers.{flagIn, flagOf, told, refusedAs, modeIn, createdAs, openedAs, headerAs, number, modeOf, modeAs, clockAs, observedAs, page, foundAs, place, recoveredAs, stagedAs, clearedAs, appendedAs, commitBegunAs, foldBegunAs, committedAs, writtenAs, fileOf, stored, noStep, steppedAs};
+ghost use Rattle.capi_answers.specs.Answers.{flagIn, flagOf, reply, refusedAs, modeIn, createdAs, openedAs, headerAs, numberReply, modeOf, modeAs, clockAs, observedAs, page, foundAs, place, recoveredAs, stagedAs, clearedAs, appendedAs, commitBegunAs, checkpointBegunAs, committedAs, writtenAs, fileNumber, stepStored, noStep, steppedAs};
 use capi_numbers::Store;
 use capi_numbers::no_header;
 use capi_numbers::store_of;
@@ -45,9 +45,9 @@ use wal::WAL_AREA;
 #[repr(C)]
 pub struct Answered {
     pub refusal: u32,
-    // 1 where a commit or fold has begun, and its stores are still to be done by next steps.
+    // 1 where a commit or checkpoint has begun, and its stores are still to be done by next steps.
     pub begun: u32,
-    // The answer of a commit or fold; beside refusal 14 the lowest page that is missing.
+    // The answer of a commit or checkpoint; beside refusal 14 the lowest page that is missing.
     pub answer: usize,
     pub store: Store,
 }
@@ -97,8 +97,8 @@ pub struct StepAnswered {
     pub store: Store,
 }
 
-fn told(refusal: u32, begun: u32, answer: usize, pager: Pager) -> Answered
-    ensures { λ r. ⌜ r ≡ told refusal begun answer pager ⌝ }
+fn reply(refusal: u32, begun: u32, answer: usize, pager: Pager) -> Answered
+    ensures { λ r. ⌜ r ≡ reply refusal begun answer pager ⌝ }
 {
     Answered {
         refusal,
@@ -112,7 +112,7 @@ fn told(refusal: u32, begun: u32, answer: usize, pager: Pager) -> Answered
 fn refused(refusal: Refusal, pager: Pager) -> Answered
     ensures { λ r. ⌜ r ≡ refusedAs refusal pager ⌝ }
 {
-    told(
+    reply(
         refusal::number(refusal),
         0,
         refusal::lowest_page(refusal),
@@ -151,7 +151,7 @@ pub fn created_as(call: PagerCreated) -> Answered
     let a = call.answer;
     let p = call.pager;
     match a {
-        CreateAnswer::Created => told(0, 0, 0, p),
+        CreateAnswer::Created => reply(0, 0, 0, p),
         CreateAnswer::Refused(refusal) => refused(refusal, p),
     }
 }
@@ -162,7 +162,7 @@ pub fn opened_as(call: PagerOpened) -> Answered
     let a = call.answer;
     let p = call.pager;
     match a {
-        OpenAnswer::Opened => told(0, 0, 0, p),
+        OpenAnswer::Opened => reply(0, 0, 0, p),
         OpenAnswer::Refused(refusal) => refused(refusal, p),
     }
 }
@@ -181,8 +181,8 @@ pub fn header_as(a: HeaderRead) -> HeaderAnswer
     }
 }
 
-fn number(refusal: u32, n: u64) -> NumberAnswer
-    ensures { λ r. ⌜ r ≡ number refusal n ⌝ }
+fn number_reply(refusal: u32, n: u64) -> NumberAnswer
+    ensures { λ r. ⌜ r ≡ numberReply refusal n ⌝ }
 {
     NumberAnswer { refusal, number: n }
 }
@@ -200,8 +200,8 @@ pub fn mode_as(a: ModeRead) -> NumberAnswer
     ensures { λ r. ⌜ r ≡ modeAs a ⌝ }
 {
     match a {
-        ModeRead::Mode(m) => number(0, mode_of(m)),
-        ModeRead::Refused(refusal) => number(refusal::number(refusal), 0),
+        ModeRead::Mode(m) => number_reply(0, mode_of(m)),
+        ModeRead::Refused(refusal) => number_reply(refusal::number(refusal), 0),
     }
 }
 
@@ -209,8 +209,8 @@ pub fn clock_as(a: ClockRead) -> NumberAnswer
     ensures { λ r. ⌜ r ≡ clockAs a ⌝ }
 {
     match a {
-        ClockRead::Clock(clock) => number(0, clock),
-        ClockRead::Refused(refusal) => number(refusal::number(refusal), 0),
+        ClockRead::Clock(clock) => number_reply(0, clock),
+        ClockRead::Refused(refusal) => number_reply(refusal::number(refusal), 0),
     }
 }
 
@@ -220,7 +220,7 @@ pub fn observed_as(call: ClockObserved) -> Answered
     let a = call.answer;
     let p = call.pager;
     match a {
-        ObserveAnswer::Observed => told(0, 0, 0, p),
+        ObserveAnswer::Observed => reply(0, 0, 0, p),
         ObserveAnswer::Refused(refusal) => refused(refusal, p),
     }
 }
@@ -282,7 +282,7 @@ pub fn staged_as(call: PageStaged) -> Answered
     let a = call.answer;
     let p = call.pager;
     match a {
-        StageAnswer::Staged => told(0, 0, 0, p),
+        StageAnswer::Staged => reply(0, 0, 0, p),
         StageAnswer::Refused(refusal) => refused(refusal, p),
     }
 }
@@ -293,7 +293,7 @@ pub fn cleared_as(call: StagedCleared) -> Answered
     let a = call.answer;
     let p = call.pager;
     match a {
-        ClearAnswer::Cleared => told(0, 0, 0, p),
+        ClearAnswer::Cleared => reply(0, 0, 0, p),
         ClearAnswer::Refused(refusal) => refused(refusal, p),
     }
 }
@@ -304,12 +304,12 @@ pub fn appended_as(call: PagerAppended) -> Answered
     let a = call.answer;
     let p = call.pager;
     match a {
-        BatchAnswer::Appended => told(0, 0, 0, p),
+        BatchAnswer::Appended => reply(0, 0, 0, p),
         BatchAnswer::Refused(refusal) => refused(refusal, p),
     }
 }
 
-// ---- commit and fold, begun
+// ---- commit and checkpoint, begun
 
 pub fn commit_begun_as(call: CommitStarted) -> Answered
     ensures { λ r. ⌜ r ≡ commitBegunAs (call .answer) (call .pager) ⌝ }
@@ -317,19 +317,19 @@ pub fn commit_begun_as(call: CommitStarted) -> Answered
     let a = call.answer;
     let p = call.pager;
     match a {
-        CommitStart::Begun => told(0, 1, 0, p),
+        CommitStart::Begun => reply(0, 1, 0, p),
         CommitStart::Refused(refusal) => refused(refusal, p),
     }
 }
 
-pub fn fold_begun_as(call: CheckpointStarted) -> Answered
-    ensures { λ r. ⌜ r ≡ foldBegunAs (call .answer) (call .pager) ⌝ }
+pub fn checkpoint_begun_as(call: CheckpointStarted) -> Answered
+    ensures { λ r. ⌜ r ≡ checkpointBegunAs (call .answer) (call .pager) ⌝ }
 {
     let a = call.answer;
     let p = call.pager;
     match a {
-        CheckpointStart::Begun => told(0, 1, 0, p),
-        CheckpointStart::Nothing => told(0, 0, 0, p),
+        CheckpointStart::Begun => reply(0, 1, 0, p),
+        CheckpointStart::Nothing => reply(0, 0, 0, p),
         CheckpointStart::Refused(refusal) => refused(refusal, p),
     }
 }
@@ -337,7 +337,7 @@ pub fn fold_begun_as(call: CheckpointStarted) -> Answered
 // ---- the next step
 
 fn file_of(f: FileKind) -> u32
-    ensures { λ r. ⌜ r ≡ fileOf f ⌝ }
+    ensures { λ r. ⌜ r ≡ fileNumber f ⌝ }
 {
     match f {
         FileKind::Log => 1,
@@ -345,8 +345,8 @@ fn file_of(f: FileKind) -> u32
     }
 }
 
-fn stored(kind: u32, place: Place, answer: usize, pager: Pager) -> StepAnswered
-    ensures { λ r. ⌜ r ≡ stored kind place answer pager ⌝ }
+fn step_stored(kind: u32, place: Place, answer: usize, pager: Pager) -> StepAnswered
+    ensures { λ r. ⌜ r ≡ stepStored kind place answer pager ⌝ }
 {
     let file = place.file;
     StepAnswered {
@@ -383,13 +383,13 @@ pub fn stepped_as(call: Stepped) -> StepAnswered
     let p = call.pager;
     match a {
         StepAnswer::Idle => no_step(0, p),
-        StepAnswer::Stored(place) => stored(1, place, 0, p),
-        StepAnswer::Last(place, answer) => stored(2, place, answer, p),
+        StepAnswer::Stored(place) => step_stored(1, place, 0, p),
+        StepAnswer::Last(place, answer) => step_stored(2, place, answer, p),
         StepAnswer::Refused(refusal) => no_step(refusal::number(refusal), p),
     }
 }
 
-// ---- commit and fold in one call
+// ---- commit and checkpoint in one call
 
 pub fn committed_as(call: Committed) -> Answered
     ensures { λ r. ⌜ r ≡ committedAs (call .answer) (call .pager) ⌝ }
@@ -397,7 +397,7 @@ pub fn committed_as(call: Committed) -> Answered
     let a = call.answer;
     let p = call.pager;
     match a {
-        CommitAnswer::Committed(pages) => told(0, 0, pages, p),
+        CommitAnswer::Committed(pages) => reply(0, 0, pages, p),
         CommitAnswer::Refused(refusal) => refused(refusal, p),
     }
 }
@@ -408,7 +408,7 @@ pub fn written_as(call: Checkpointed) -> Answered
     let a = call.answer;
     let p = call.pager;
     match a {
-        CheckpointAnswer::Written(pages) => told(0, 0, pages, p),
+        CheckpointAnswer::Written(pages) => reply(0, 0, pages, p),
         CheckpointAnswer::Refused(refusal) => refused(refusal, p),
     }
 }

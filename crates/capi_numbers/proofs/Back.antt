@@ -8,26 +8,26 @@ use Rattle.pager_state.specs.declared.Job.the-variants as job
 use Rattle.pager_state.specs.declared.Opening.{Opening}
 use Rattle.pager_state.specs.declared.Opening.the-variants as opening
 use Rattle.pager_state.specs.declared.Pager.{Pager}
-use Rattle.capi_numbers.specs.Numbers.{lastIn, sealedOf, countOf, walIn, walOf, jobIn, jobOf, openingIn, openingOf, pagerIn, storeOf}
+use Rattle.capi_numbers.specs.Numbers.{lastIn, committedOf, lastCommitCount, walIn, numbersOfWal, jobIn, jobOf, openingIn, openingNumber, pagerIn, storeOf}
 
-last-back : (c : LastCommit) → lastIn (sealedOf c) (countOf c) ≡ c
+last-back : (c : LastCommit) → lastIn (committedOf c) (lastCommitCount c) ≡ c
 last-back commit.Nothing = refl
 last-back (commit.Count n) = refl
 
-pub wal-back : (w : Wal) → walIn (walOf w) ≡ w
-unfolding walIn walOf
+pub wal-back : (w : Wal) → walIn (numbersOfWal w) ≡ w
+unfolding walIn numbersOfWal
 wal-back w = rw (last-back (w .«last_commit_page_count»))
 
 pub job-back : (j : Job) → jobIn (jobOf j) ≡ j
 unfolding jobIn jobOf
 job-back job.Idle = refl
 job-back (job.Commit h salt page answer) = refl
-job-back (job.Fold salt page answer) = refl
+job-back (job.Checkpoint salt page answer) = refl
 job-back (job.MainLength salt answer) = refl
 job-back (job.LogLength salt answer) = refl
 job-back (job.LogHeader salt answer) = refl
 
-pub opening-back : (o : Opening) → openingIn (openingOf o) ≡ o
+pub opening-back : (o : Opening) → openingIn (openingNumber o) ≡ o
 opening-back opening.Clean = refl
 opening-back opening.Plain = refl
 opening-back opening.ReadOnly = refl

@@ -1,7 +1,8 @@
 // The open store, an open log and what is part done, in numbers, and back. Any numbers make a store: a kind of job that there is
 // not is none, and a kind of opening that there is not writes nothing.
 ghost use mathlib.Core.Path.{_≡_};
-ghost use Rattle.capi_numbers.specs.Numbers.{lastIn, walIn, sealedOf, countOf, walOf, jobIn, noHeader, plainJob, jobOf, openingIn, openingOf, pagerIn, storeOf};
+ghost use Rattle.pager_state.specs.Opening.{noHeader};
+ghost use Rattle.capi_numbers.specs.Numbers.{lastIn, walIn, committedOf, lastCommitCount, numbersOfWal, jobIn, plainJob, jobOf, openingIn, openingNumber, pagerIn, storeOf};
 use header::DbHeader;
 use pager_state::FileStorage;
 use pager_state::Job;
@@ -19,14 +20,14 @@ pub struct WalNumbers {
     pub good_end: usize,
     pub last_commit_offset: usize,
     pub frame_count: usize,
-    // 0: nothing is sealed.
-    pub sealed: u32,
+    // 0: nothing is committed.
+    pub committed: u32,
     pub last_commit_page_count: u32,
 }
 
 #[repr(C)]
 pub struct JobNumbers {
-    // 0 none, 1 commit, 2 fold, 3 main length, 4 log length, 5 log header.
+    // 0 none, 1 commit, 2 checkpoint, 3 main length, 4 log length, 5 log header.
     pub kind: u32,
     pub salt: u32,
     pub page: usize,
@@ -46,10 +47,10 @@ pub struct Store {
     pub opening: u32,
 }
 
-fn last_in(sealed: u32, count: u32) -> LastCommit
-    ensures { λ r. ⌜ r ≡ lastIn sealed count ⌝ }
+fn last_in(committed: u32, count: u32) -> LastCommit
+    ensures { λ r. ⌜ r ≡ lastIn committed count ⌝ }
 {
-    if sealed == 0 {
+    if committed == 0 {
         return LastCommit::Nothing;
     }
     LastCommit::Count(count)
@@ -64,13 +65,13 @@ pub fn wal_in(w: WalNumbers) -> Wal
         len: w.len,
         good_end: w.good_end,
         last_commit_offset: w.last_commit_offset,
-        last_commit_page_count: last_in(w.sealed, w.last_commit_page_count),
+        last_commit_page_count: last_in(w.committed, w.last_commit_page_count),
         frame_count: w.frame_count,
     }
 }
 
-fn sealed_of(last: LastCommit) -> u32
-    ensures { λ r. ⌜ r ≡ sealedOf last ⌝ }
+fn committed_of(last: LastCommit) -> u32
+    ensures { λ r. ⌜ r ≡ committedOf last ⌝ }
 {
     match last {
         LastCommit::Nothing => 0,
@@ -79,7 +80,7 @@ fn sealed_of(last: LastCommit) -> u32
 }
 
 fn count_of(last: LastCommit) -> u32
-    ensures { λ r. ⌜ r ≡ countOf last ⌝ }
+    ensures { λ r. ⌜ r ≡ lastCommitCount last ⌝ }
 {
     match last {
         LastCommit::Nothing => 0,
@@ -88,7 +89,7 @@ fn count_of(last: LastCommit) -> u32
 }
 
 pub fn wal_of(w: Wal) -> WalNumbers
-    ensures { λ r. ⌜ r ≡ walOf w ⌝ }
+    ensures { λ r. ⌜ r ≡ numbersOfWal w ⌝ }
 {
     let header = w.header;
     let last = w.last_commit_page_count;
@@ -98,7 +99,7 @@ pub fn wal_of(w: Wal) -> WalNumbers
         good_end: w.good_end,
         last_commit_offset: w.last_commit_offset,
         frame_count: w.frame_count,
-        sealed: sealed_of(last),
+        committed: committed_of(last),
         last_commit_page_count: count_of(last),
     }
 }
@@ -118,7 +119,7 @@ fn job_in(j: JobNumbers) -> Job
             page,
             answer,
         },
-        2 => Job::Fold { salt, page, answer },
+        2 => Job::Checkpoint { salt, page, answer },
         3 => Job::MainLength { salt, answer },
         4 => Job::LogLength { salt, answer },
         5 => Job::LogHeader { salt, answer },
@@ -166,7 +167,7 @@ fn job_of(job: Job) -> JobNumbers
             answer,
             header,
         },
-        Job::Fold { salt, page, answer } => plain_job(2, salt, page, answer),
+        Job::Checkpoint { salt, page, answer } => plain_job(2, salt, page, answer),
         Job::MainLength { salt, answer } => plain_job(3, salt, 0, answer),
         Job::LogLength { salt, answer } => plain_job(4, salt, 0, answer),
         Job::LogHeader { salt, answer } => plain_job(5, salt, 0, answer),
@@ -185,7 +186,7 @@ fn opening_in(n: u32) -> Opening
 }
 
 fn opening_of(opening: Opening) -> u32
-    ensures { λ r. ⌜ r ≡ openingOf opening ⌝ }
+    ensures { λ r. ⌜ r ≡ openingNumber opening ⌝ }
 {
     match opening {
         Opening::Clean => 0,

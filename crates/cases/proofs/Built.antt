@@ -13,7 +13,7 @@ use mir.Syntax.{w64}
 use Rattle.le.specs.Le.{leBytes}
 use Rattle.le.proofs.Fields.{length-leBytes}
 use Rattle.refusal.specs.declared.Refusal.the-variants as refusal
-use Rattle.text.specs.Utf8.{wellFormed, after}
+use Rattle.text.specs.Utf8.{wellFormed, formedBehind}
 use Rattle.mvcc.specs.Batch.{null, Col, Rec, tombstone, present, all, encodeText, encodeValue, encodeColumn, encodeRecord, encodeBatch, Each}
 use Rattle.mvcc_build.specs.Build.{recordAdded, columnAdded, column}
 use Rattle.mvcc_build.specs.Built.{Built, builderOf, endsPresent, withIn, withColumn, Held, HeldValue}
@@ -47,7 +47,7 @@ pub tombstones-371 : (t : ℕ) (rows : List ℤ) → length rows ≡ 371 → 409
 tombstones-371 t rows h = rw (tombstones-size, h) (omega arith)
 
 empty-text : wellFormed [] ≡ true
-unfolding wellFormed after
+unfolding wellFormed formedBehind
 empty-text = refl
 
 module _ (t : ℕ) (rows : List ℤ) (b : BatchBuilder) (body : List ℕ) (h : Built t (tombstones rows) b body) where

@@ -1,7 +1,7 @@
 -- Document 01's starred cases hold. Assumes nothing.
 use mathlib.Core.Path.{refl}
 use Rattle.le.specs.Le.{leBytes}
-use Rattle.text.specs.Utf8.{two, three, four, size, after, wellFormed}
+use Rattle.text.specs.Utf8.{two, three, four, size, formedBehind, wellFormed}
 use Rattle.checksum.specs.Checksum.{sumFrom}
 use Rattle.frame.specs.Frame.{heading, frameSum}
 use Rattle.wal.proofs.Lengths.{none-32, none-4143, one-4144, one-8255, two-8256}
@@ -10,7 +10,7 @@ use Rattle.cases.proofs.Built as built
 use Rattle.cases.proofs.Decoded.{bool-two-decodes, bool-two-true, bool-two-one, op-nine-cut, op-nine-whole}
 
 pub cases : Cases
-unfolding frameSum heading leBytes sumFrom wellFormed after size two three four
+unfolding frameSum heading leBytes sumFrom wellFormed formedBehind size two three four
 cases =
     record {
       length-32 = none-32;

@@ -9,13 +9,13 @@ use lib.ListN.{length, getD, replicate}
 use mir.Val.{SFits}
 use mir.Syntax.{w64}
 use Rattle.refusal.specs.declared.Refusal.the-variants as refusal
-use Rattle.text.specs.Utf8.{utf8Of, refusal as textRefusal}
+use Rattle.text.specs.Utf8.{utf8Of, utf8Refusal as textRefusal}
 use Rattle.frame.specs.Frame.{frameSum}
 use Rattle.mvcc.specs.Batch.{null, bool, Col, Rec, tombstone, present, encodeBatch, Each}
 use Rattle.mvcc.specs.Seen.{decodeRefusal, decodes, records, canonical}
 use Rattle.mvcc_build.specs.Build.{startedBytes, recordAdded, column, columnAdded}
 use Rattle.mvcc_build.specs.Built.{builderOf, Built}
-use Rattle.mvcc_build.specs.Run.{Call, record-call, column-call, runBuilder, runBody}
+use Rattle.mvcc_build.specs.Run.{Addition, record-call, column-call, runBuilder, runBody}
 use Rattle.mvcc_build.specs.declared.BatchBuilder.{BatchBuilder}
 use Rattle.mvcc_build.specs.declared.Added.the-variants.{Done, Refused}
 use Rattle.wal.specs.Recovery.{recovered, frameCount}
@@ -29,7 +29,7 @@ abbrev pub tombstones : List ℤ → List Rec
 tombstones rows = map (tombstone []) rows
 
 -- the calls that add them
-abbrev pub tombstoneCalls : List ℤ → List Call
+abbrev pub tombstoneCalls : List ℤ → List Addition
 tombstoneCalls rows = map (λ (row : ℤ). record-call (tombstone [] row)) rows
 
 -- one present record, with an empty table name and n null columns with empty names
@@ -39,11 +39,11 @@ nulls n = replicate n (column [] null)
 abbrev pub nullRow : ℤ → ℕ → List Rec
 nullRow row n = present [] row (nulls n) ∷ []
 
-abbrev pub nullCalls : ℤ → ℕ → List Call
+abbrev pub nullCalls : ℤ → ℕ → List Addition
 nullCalls row n = record-call (present [] row []) ∷ replicate n (column-call (column [] null))
 
 -- the calls from a start in any body of a page's length leave a builder with these records
-abbrev pub Builds : ℕ → List Call → List Rec → Type 0
+abbrev pub Builds : ℕ → List Addition → List Rec → Type 0
 Builds t ks rs = (body : List ℕ) → length body ≡ 4096 → Built t rs (runBuilder ks (builderOf t []) (startedBytes t body)) (runBody ks (builderOf t []) (startedBytes t body))
 
 -- a body of one present record, with an empty table name, the row id 0 and one column with an empty name: a bool whose byte is 2

@@ -12,7 +12,7 @@ use Rattle.le.proofs.Fields.{length-leBytes, field-front, field-behind, field-w
 use Rattle.le.proofs.Stores.{length-put, part-put}
 use Rattle.checksum.specs.Checksum.{sumFrom}
 use Rattle.checksum.proofs.Sums.{sumFrom-fits}
-use Rattle.frame.specs.Frame.{heading, frameSum, encodeFrame, frameAt, headerOf, bodyOf, checksumOf, intact, intactAt}
+use Rattle.frame.specs.Frame.{heading, frameSum, encodeFrame, frameAt, frameHeader, bodyOf, checksumOf, intact, intactAt}
 use Rattle.frame.specs.declared.FrameHeader.{FrameHeader}
 use Rattle.frame.proofs.Stores.{length-heading, length-encodeFrame}
 
@@ -58,9 +58,9 @@ module _ (page count salt : ℕ) (body : List ℕ) where
       field-whole 4 k (encodeFrame page count salt body) n
 
   pub header-back : page < 2 ^ 32 → count < 2 ^ 32 → salt < 2 ^ 32
-      → headerOf (encodeFrame page count salt body)
+      → frameHeader (encodeFrame page count salt body)
       ≡ record { «page_num» = page; «commit_page_count» = count; salt = salt; checksum = frameSum page count salt body }
-  unfolding headerOf
+  unfolding frameHeader
   header-back p c s =
       rw (
         whole-back 0 (omega arith),

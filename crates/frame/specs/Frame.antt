@@ -38,8 +38,8 @@ abbrev pub frameAt : ℕ → List ℕ → List ℕ
 frameAt at l = take frameSize (drop at l)
 
 -- its heading; of less than a frame, a field that is not wholly there is 0
-unfoldable pub headerOf : List ℕ → FrameHeader
-headerOf f =
+unfoldable pub frameHeader : List ℕ → FrameHeader
+frameHeader f =
     record {
       «page_num» = wholeField 4 0 f;
       «commit_page_count» = wholeField 4 4 f;

@@ -6,7 +6,7 @@ ghost use lib.ListN.{length, take, drop};
 ghost use Rattle.le.specs.Answers.{storedOf};
 ghost use Rattle.le.specs.Le.{put, store};
 ghost use Rattle.page.specs.Page.{frontPage};
-ghost use Rattle.frame.specs.Frame.{isCommit, heading, encodeFrame, frameAt, headerOf, bodyOf, checksumOf, intactAt, headingAfter, frameStored, frameAfter};
+ghost use Rattle.frame.specs.Frame.{frameSize, isCommit, heading, encodeFrame, frameAt, frameHeader, bodyOf, checksumOf, intactAt, headingAfter, frameStored, frameAfter};
 use le::Stored;
 use page::PAGE_SIZE;
 
@@ -24,7 +24,7 @@ pub struct FrameHeader {
 }
 
 impl FrameHeader {
-    // Whether the frame seals what stands before it.
+    // Whether the frame commits what stands before it.
     pub fn is_commit(self) -> bool
         ensures { λ r. ⌜ r ≡ isCommit self ⌝ }
     {
@@ -34,7 +34,7 @@ impl FrameHeader {
 
 // The heading of the frame at `at`; a field that is not wholly there is 0.
 pub fn read_frame_header(log: &[u8], at: usize) -> FrameHeader
-    ensures { λ r. ⌜ r ≡ headerOf (frameAt at (now (log .entry))) ⌝ }
+    ensures { λ r. ⌜ r ≡ frameHeader (frameAt at (now (log .entry))) ⌝ }
 {
     let heading = le::part(log, at, FRAME_HEADER_SIZE);
     FrameHeader {
@@ -95,7 +95,7 @@ pub fn write_frame_header(
     commit_page_count: u32,
     salt: u32,
 ) -> Stored
-    ensures { λ r. ⌜ (r ≡ storedOf (now (log .entry)) at 4112) × (now (log .exit) ≡ headingAfter (now (log .entry)) at «page_num» «commit_page_count» salt) ⌝ }
+    ensures { λ r. ⌜ (r ≡ storedOf (now (log .entry)) at frameSize) × (now (log .exit) ≡ headingAfter (now (log .entry)) at «page_num» «commit_page_count» salt) ⌝ }
 {
     if !le::fits_in(log.len(), at, FRAME_SIZE) {
         return Stored::Area;
@@ -115,7 +115,8 @@ pub fn write_frame(
     salt: u32,
     body: &[u8],
 ) -> Stored
-    ensures { λ r. ⌜ (r ≡ frameStored (now (log .entry)) at (now (body .entry))) × (now (log .exit) ≡ frameAfter (now (log .entry)) at «page_num» «commit_page_count» salt (now (body .entry))) ⌝ }
+    ensures { λ r. ⌜ r ≡ frameStored (now (log .entry)) at (now (body .entry)) ⌝ }
+    ensures { λ _. ⌜ now (log .exit) ≡ frameAfter (now (log .entry)) at «page_num» «commit_page_count» salt (now (body .entry)) ⌝ }
 {
     if body.len() != PAGE_SIZE {
         return Stored::Area;
@@ -137,7 +138,8 @@ pub fn write_padded_frame(
     salt: u32,
     front: &[u8],
 ) -> Stored
-    ensures { λ r. ⌜ (r ≡ frameStored (now (log .entry)) at (frontPage (now (front .entry)))) × (now (log .exit) ≡ frameAfter (now (log .entry)) at «page_num» «commit_page_count» salt (frontPage (now (front .entry)))) ⌝ }
+    ensures { λ r. ⌜ r ≡ frameStored (now (log .entry)) at (frontPage (now (front .entry))) ⌝ }
+    ensures { λ _. ⌜ now (log .exit) ≡ frameAfter (now (log .entry)) at «page_num» «commit_page_count» salt (frontPage (now (front .entry))) ⌝ }
 {
     if front.len() != 32 {
         return Stored::Area;

@@ -1,4 +1,4 @@
--- A frame stored behind the log's last: cut, unsealed, or sealing. Assumes nothing.
+-- A frame stored behind the log's last: cut, uncommitted, or sealing. Assumes nothing.
 use mathlib.Core.Path.{_≡_, sym, _∙_}
 use mathlib.Core.Bool.{Bool, true}
 use mathlib.Core.List.{List, [], _∷_, _++_, append-assoc, append-nil}
@@ -10,18 +10,18 @@ use Rattle.le.proofs.Stores.{length-put}
 use Rattle.header.specs.declared.DbHeader.{DbHeader}
 use Rattle.frame.specs.Frame.{frameSize}
 use Rattle.wal.specs.Header.{headerSize, encodeWalHeader}
-use Rattle.wal.specs.Recovery.{countOf, good, goodFront, walArea}
+use Rattle.wal.specs.Recovery.{commitCount, good, goodFront, walArea}
 use Rattle.wal.specs.declared.WalHeader.{WalHeader}
-use Rattle.wal.proofs.Frames.{good-append, good-cons, sealed-snoc}
+use Rattle.wal.proofs.Frames.{good-append, good-cons, committed-snoc}
 use Rattle.wal.proofs.Laid.{joined, Whole, joined-append, whole-append}
 use Rattle.wal.proofs.Laid as laid
 use Rattle.pager_state.specs.Stores.{Disk, content, Kind, Put, stored, cutStore}
 use Rattle.pager_state.specs.declared.FileKind.the-variants as file
-use Rattle.history.specs.Book.{Book}
+use Rattle.history.specs.Model.{Model}
 use Rattle.history.proofs.Files.{putting, put-file, put-front, reach-behind, take-min, appended}
-use Rattle.history.proofs.Disk.{BookIs, OnDisk, DiskOk, short-stop, none-sealed, log-inside, log-len}
+use Rattle.history.proofs.Disk.{ModelIs, OnDisk, DiskOk, short-stop, none-committed, log-inside, log-len}
 
-module _ {d : Disk} {b : Book} {l : WalHeader} {S P : List (List ℕ)} {mh : DbHeader} (o : OnDisk d b l S P [] mh)
+module _ {d : Disk} {b : Model} {l : WalHeader} {S P : List (List ℕ)} {mh : DbHeader} (o : OnDisk d b l S P [] mh)
     (f : List ℕ) (long : length f ≡ frameSize) (fine : good (l .salt) f ≡ true) (room : d .log .len + frameSize ≤ walArea) where
   -- the files with bytes behind the log
   abbrev pub longer : List ℕ → Disk
@@ -77,10 +77,10 @@ module _ {d : Disk} {b : Book} {l : WalHeader} {S P : List (List ℕ)} {mh : DbH
               fits = fits (take n f) (omega arith);
             };
         main = o .main;
-        book = o .book;
+        model = o .model;
       }
 
-  pub whole-on : countOf f ≡ 0 → OnDisk (longer f) b l S (P ++ (f ∷ [])) [] mh
+  pub whole-on : commitCount f ≡ 0 → OnDisk (longer f) b l S (P ++ (f ∷ [])) [] mh
   whole-on e =
       record {
         log =
@@ -91,17 +91,17 @@ module _ {d : Disk} {b : Book} {l : WalHeader} {S P : List (List ℕ)} {mh : DbH
               good = all-good;
               stop = short-stop [] (l .salt) (omega arith);
               ends = o .log .ends;
-              loose = sealed-snoc P f ∙ rw (eq-eqb (countOf f) 0 e) (o .log .loose);
+              loose = committed-snoc P f ∙ rw (eq-eqb (commitCount f) 0 e) (o .log .loose);
               area = area-is f (omega arith);
               fits = fits f (omega arith);
             };
         main = o .main;
-        book = o .book;
+        model = o .model;
       }
 
-  pub sealed-on : (countOf f ≡ 0 → ⊥) → (c : Book) → BookIs (d .main .area) c (S ++ (P ++ (f ∷ []))) mh
+  pub committed-on : (commitCount f ≡ 0 → ⊥) → (c : Model) → ModelIs (d .main .area) c (S ++ (P ++ (f ∷ []))) mh
       → OnDisk (longer f) c l (S ++ (P ++ (f ∷ []))) [] [] mh
-  sealed-on ne c book =
+  committed-on ne c model =
       let nil : S ++ (P ++ (f ∷ [])) ++ [] ≡ S ++ (P ++ (f ∷ [])) = append-nil (S ++ (P ++ (f ∷ []))) in
       record {
         log =
@@ -111,13 +111,13 @@ module _ {d : Disk} {b : Book} {l : WalHeader} {S P : List (List ℕ)} {mh : DbH
               whole = rw nil all-whole;
               good = rw nil all-good;
               stop = short-stop [] (l .salt) (omega arith);
-              ends = rw again (sealed-snoc (S ++ P) f ∙ rw (ne-eqb (countOf f) 0 ne));
-              loose = none-sealed;
+              ends = rw again (committed-snoc (S ++ P) f ∙ rw (ne-eqb (commitCount f) 0 ne));
+              loose = none-committed;
               area = area-is f (omega arith);
               fits = fits f (omega arith);
             };
         main = o .main;
-        book = book;
+        model = model;
       }
 
   -- a cut store leaves the files as they should be

@@ -31,19 +31,19 @@ use Rattle.pager_state.specs.Stores.{diskOf, Act, Put, Batched, stored}
 use Rattle.pager_state.specs.declared.FileKind.the-variants as file
 use Rattle.pager_state.specs.declared.Job.the-variants as job
 use Rattle.pager_state.proofs.Begun.{off, not-busy}
-use Rattle.history.specs.Book.{Book, batchIn, bookWait, tells}
+use Rattle.history.specs.Model.{Model, batchIn, modelWait, modelStores}
 use Rattle.history.specs.Calls.{Append, refusedBy, storesOf, worldAfter}
 use Rattle.history.specs.Run.{keptAfter}
 use Rattle.history.proofs.Frames.{last-other, place-other, batches-append, batches-batch}
 use Rattle.history.proofs.Disk.{OnDisk, DiskOk}
-use Rattle.history.proofs.Opening.{re-book}
+use Rattle.history.proofs.Opening.{re-model}
 use Rattle.history.proofs.Rest.{Resting, Some, Inv, held-disk}
 use Rattle.history.proofs.Append.{longer, whole-store, whole-on, cut-ok}
 use Rattle.history.proofs.CommitFrame.{framed-len, framed-header}
 use Rattle.history.proofs.Running.{cut-none, cut-cons}
 use Rattle.history.proofs.Taken.{Taken, taken-by, at-rest, rest-inv}
 
-module _ (w : World) (g : List ℕ) (b : Book) (z : List ℕ) (i : Inv w g b z) (body : List ℕ) (bs : Bytes body) (ok : refusedBy (Append body) w g ≡ 0) where
+module _ (w : World) (g : List ℕ) (b : Model) (z : List ℕ) (i : Inv w g b z) (body : List ℕ) (bs : Bytes body) (ok : refusedBy (Append body) w g ≡ 0) where
   taken : appendRefusal (w .pager) (w .log) body ≡ none
   unfolding refusedBy
   taken = accepted _ ok
@@ -98,7 +98,7 @@ module _ (w : World) (g : List ℕ) (b : Book) (z : List ℕ) (i : Inv w g b z) 
   f-page : pageOf f ≡ batchPage
   f-page = page-encoded batchPage 0 (w .pager .wal .header .salt) (canonical body) (omega arith)
 
-  f-count : wal.countOf f ≡ 0
+  f-count : wal.commitCount f ≡ 0
   f-count = count-encoded batchPage 0 (w .pager .wal .header .salt) (canonical body) (omega arith)
 
   f-batch : batchIn (bodyOf f) ≡ batchIn body
@@ -131,13 +131,13 @@ module _ (w : World) (g : List ℕ) (b : Book) (z : List ℕ) (i : Inv w g b z) 
   other : (n : ℕ) → n < pageLimit → pageOf f ≡ n → ⊥
   other n h e = omega (arith, f-page)
 
-  resting : Resting v g (bookWait (batchIn body) b) (k .l) (k .S) (k .P ++ (f ∷ [])) (k .mh)
+  resting : Resting v g (modelWait (batchIn body) b) (k .l) (k .S) (k .P ++ (f ∷ [])) (k .mh)
   resting =
       let q = k .it .held in
       record {
         held =
             record {
-              on = re-book on-after (bookWait (batchIn body) b) refl refl refl;
+              on = re-model on-after (modelWait (batchIn body) b) refl refl refl;
               tableLong = q .tableLong;
               stagingLong = q .stagingLong;
               salt = ap (λ (x : WalHeader). x .salt) (framed-header (w .pager .wal) 0) ∙ q .salt;
@@ -160,17 +160,17 @@ module _ (w : World) (g : List ℕ) (b : Book) (z : List ℕ) (i : Inv w g b z) 
   unfolding storesOf batchFrame
   stores-is = refl
 
-  after-ok : Inv v g (bookWait (batchIn body) b) z
+  after-ok : Inv v g (modelWait (batchIn body) b) z
   after-ok =
-      rest-inv v g (bookWait (batchIn body) b) z idle (record { l = k .l; S = k .S; P = k .P ++ (f ∷ []); mh = k .mh; it = resting; kept = k .kept })
+      rest-inv v g (modelWait (batchIn body) b) z idle (record { l = k .l; S = k .S; P = k .P ++ (f ∷ []); mh = k .mh; it = resting; kept = k .kept })
 
-  after-disk : DiskOk (stored act (diskOf w)) (bookWait (batchIn body) b) z
+  after-disk : DiskOk (stored act (diskOf w)) (modelWait (batchIn body) b) z
   after-disk = rw disk-is at (held-disk (resting .held) (k .kept))
 
   pub append-ok : Taken (Append body) w g b z
-  unfolding tells keptAfter
+  unfolding modelStores keptAfter
   append-ok =
       taken-by (Append body) w g b z world-is stores-is after-ok
       (cut-cons body act [] (diskOf w) b z (omega (arith, f-long), omega (arith, f-long))
       (λ j hj. cut-ok (k .it .held .on) f f-long f-good room Batched false j (omega (arith, f-long)) z (k .kept)) after-disk
-      (cut-none body (stored act (diskOf w)) (bookWait (batchIn body) b) z after-disk))
+      (cut-none body (stored act (diskOf w)) (modelWait (batchIn body) b) z after-disk))

@@ -10,18 +10,18 @@ use Rattle.pager_state.specs.Stores.{diskOf}
 use Rattle.pager_state.specs.Steps.{onStore}
 use Rattle.pager_state.specs.declared.Job.the-variants as job
 use Rattle.pager_state.specs.declared.Pager.{Pager}
-use Rattle.history.specs.Book.{Book, bookClear, tells}
+use Rattle.history.specs.Model.{Model, modelClear, modelStores}
 use Rattle.history.specs.Calls.{Clear, refusedBy, storesOf, worldAfter}
 use Rattle.history.specs.Run.{keptAfter}
-use Rattle.history.proofs.Opening.{re-book}
+use Rattle.history.proofs.Opening.{re-model}
 use Rattle.history.proofs.Rest.{Resting, Some, Inv, held-disk}
-use Rattle.history.proofs.CommitSeal.{none-slots, none-staged}
+use Rattle.history.proofs.CommitLast.{none-slots, none-staged}
 use Rattle.history.proofs.Running.{cut-none}
 use Rattle.history.proofs.Taken.{Taken, rests-by, at-rest, rest-inv}
 
 -- ---- dropping what is staged
 
-module _ (w : World) (g : List ℕ) (b : Book) (z : List ℕ) (i : Inv w g b z) (ok : refusedBy Clear w g ≡ 0) where
+module _ (w : World) (g : List ℕ) (b : Model) (z : List ℕ) (i : Inv w g b z) (ok : refusedBy Clear w g ≡ 0) where
   taken : busyRefusal (w .pager) ≡ none
   unfolding refusedBy
   taken = accepted _ ok
@@ -39,13 +39,13 @@ module _ (w : World) (g : List ℕ) (b : Book) (z : List ℕ) (i : Inv w g b z) 
   unfolding clearStaged
   pager-is = rw taken
 
-  resting : Resting v g (bookClear b) (k .l) (k .S) (k .P) (k .mh)
+  resting : Resting v g (modelClear b) (k .l) (k .S) (k .P) (k .mh)
   resting =
       let q = k .it .held in
       record {
         held =
             record {
-              on = re-book (q .on) (bookClear b) refl refl refl;
+              on = re-model (q .on) (modelClear b) refl refl refl;
               tableLong = q .tableLong;
               stagingLong = q .stagingLong;
               salt = q .salt;
@@ -61,10 +61,10 @@ module _ (w : World) (g : List ℕ) (b : Book) (z : List ℕ) (i : Inv w g b z) 
       }
 
   pub clear-ok : Taken Clear w g b z
-  unfolding storesOf worldAfter tells keptAfter
+  unfolding storesOf worldAfter modelStores keptAfter
   clear-ok =
       record {
-        after = subst (λ (p : Pager). Inv (onStore w p) g (bookClear b) z) (sym pager-is)
-            (rest-inv v g (bookClear b) z idle (record { l = k .l; S = k .S; P = k .P; mh = k .mh; it = resting; kept = k .kept }));
-        cut = cut-none [] (diskOf w) (bookClear b) z (held-disk (resting .held) (k .kept));
+        after = subst (λ (p : Pager). Inv (onStore w p) g (modelClear b) z) (sym pager-is)
+            (rest-inv v g (modelClear b) z idle (record { l = k .l; S = k .S; P = k .P; mh = k .mh; it = resting; kept = k .kept }));
+        cut = cut-none [] (diskOf w) (modelClear b) z (held-disk (resting .held) (k .kept));
       }

@@ -16,7 +16,7 @@ use Rattle.pager_state.specs.Steps.{onStore}
 use Rattle.pager_state.specs.declared.Job.the-variants as job
 use Rattle.pager_state.specs.declared.Opening.{Opening}
 use Rattle.pager_state.specs.declared.Pager.{Pager}
-use Rattle.history.specs.Book.{Book, tells}
+use Rattle.history.specs.Model.{Model, modelStores}
 use Rattle.history.specs.Calls.{Observe, refusedBy, storesOf, worldAfter}
 use Rattle.history.specs.Run.{keptAfter}
 use Rattle.history.proofs.Rest.{Resting, Some, Inv, held-disk}
@@ -35,7 +35,7 @@ unfolding withClock
 raised-by v c h k true = record { len = refl; salt = refl; clock = h }
 raised-by v c h k false = record { len = refl; salt = refl; clock = k }
 
-module _ (w : World) (g : List ℕ) (b : Book) (z : List ℕ) (i : Inv w g b z) (c : ℕ) (small : c < 2 ^ 64) (ok : refusedBy (Observe c) w g ≡ 0) where
+module _ (w : World) (g : List ℕ) (b : Model) (z : List ℕ) (i : Inv w g b z) (c : ℕ) (small : c < 2 ^ 64) (ok : refusedBy (Observe c) w g ≡ 0) where
   taken : busyRefusal (w .pager) ≡ none
   unfolding refusedBy
   taken = accepted _ ok
@@ -85,7 +85,7 @@ module _ (w : World) (g : List ℕ) (b : Book) (z : List ℕ) (i : Inv w g b z) 
       }
 
   pub observe-ok : Taken (Observe c) w g b z
-  unfolding storesOf worldAfter tells keptAfter
+  unfolding storesOf worldAfter modelStores keptAfter
   observe-ok =
       record {
         after = subst (λ (p : Pager). Inv (onStore w p) g b z) (sym pager-is)

@@ -27,13 +27,13 @@ use Rattle.pager_state.specs.World.{World, pageLimit}
 use Rattle.pager_state.specs.Overlay.{isStaged, stagedBytes, committedBytes}
 use Rattle.pager_state.specs.Pages.{pagesFrom, differsIn, differs}
 use Rattle.pager_state.specs.Stores.{Disk, diskOf, Other, stored, putFile}
-use Rattle.pager_state.specs.Fold.{foldTodo, foldAdvance}
-use Rattle.pager_state.specs.Commit.{saltOf, frameAct, framed, framesTodo, framesAdvance, commitTodo, commitAdvance}
+use Rattle.pager_state.specs.Checkpoint.{checkpointTodo, checkpointAdvance}
+use Rattle.pager_state.specs.Commit.{saltOf, frameAct, pageFrameStored, framesTodo, framesAdvance, commitTodo, commitAdvance}
 use Rattle.pager_state.specs.Steps.{todo, advance}
 use Rattle.pager_state.specs.declared.Job.the-variants as job
 use Rattle.pager_state.proofs.Next.{todo-by, advance-by}
 use Rattle.pager_state.proofs.Searches.{First, first, pages-same}
-use Rattle.history.specs.Book.{Book}
+use Rattle.history.specs.Model.{Model}
 use Rattle.history.proofs.Files.{same-file}
 use Rattle.history.proofs.Frames.{lastIn, last-same, last-other, batchesOf, batches-append, batches-page, orGive}
 use Rattle.history.proofs.Slots.{staged-long}
@@ -50,7 +50,7 @@ pub framed-header : (v : Wal) (c : ℕ) → withFrame v c .header ≡ v .header
 unfolding longer
 framed-header v c = refl
 
-module _ (g : List ℕ) (w : World) (b : Book) (z : List ℕ) (h : DbHeader) (salt p answer : ℕ) (job-is : w .pager .job ≡ job.Commit h salt p answer)
+module _ (g : List ℕ) (w : World) (b : Model) (z : List ℕ) (h : DbHeader) (salt p answer : ℕ) (job-is : w .pager .job ≡ job.Commit h salt p answer)
     (k : Some (Committing h salt p w g b) z) (n : ℕ) (ns : List ℕ) (found : pagesFrom (differs g w) p ≡ n ∷ ns) where
   abbrev c : Committing h salt p w g b (k .l) (k .S) (k .P) (k .mh)
   c = k .it
@@ -71,7 +71,7 @@ module _ (g : List ℕ) (w : World) (b : Book) (z : List ℕ) (h : DbHeader) (sa
   f = encodeFrame n 0 (saltOf w) (stagedBytes (w .pager .staged) g n)
 
   abbrev v : World
-  v = framed g h salt answer n w
+  v = pageFrameStored g h salt answer n w
 
   is-staged : isStaged (w .pager .staged) n ≡ true
   unfolding differsIn
@@ -97,7 +97,7 @@ module _ (g : List ℕ) (w : World) (b : Book) (z : List ℕ) (h : DbHeader) (sa
   f-page : pageOf f ≡ n
   f-page = page-encoded n 0 (saltOf w) bytes small
 
-  f-count : wal.countOf f ≡ 0
+  f-count : wal.commitCount f ≡ 0
   f-count = count-encoded n 0 (saltOf w) bytes (omega arith)
 
   room : w .pager .wal .len + frameSize ≤ walArea
@@ -110,7 +110,7 @@ module _ (g : List ℕ) (w : World) (b : Book) (z : List ℕ) (h : DbHeader) (sa
   again = sym (append-assoc (k .S) (k .P) (f ∷ []))
 
   disk-is : diskOf v ≡ stored (frameAct g w n) (diskOf w)
-  unfolding framed putFile
+  unfolding pageFrameStored putFile
   disk-is =
       let e : w .pager .wal .len + frameSize ≡ max (w .pager .wal .len) (w .pager .wal .len + length f) = omega (arith, f-long) in
       λ i. record { main = diskOf w .main; log = same-file {f = record { area = stored (frameAct g w n) (diskOf w) .log .area; len = withFrame (w .pager .wal) 0 .len }} {g = stored (frameAct g w n) (diskOf w) .log} refl (framed-len (w .pager .wal) 0 ∙ e) i }
@@ -119,7 +119,7 @@ module _ (g : List ℕ) (w : World) (b : Book) (z : List ℕ) (h : DbHeader) (sa
   on-after = rw (disk-is, whole-store (c .held .on) f f-long f-good room Other false) (whole-on (c .held .on) f f-long f-good room f-count)
 
   held-after : Held v g b (k .l) (k .S) (k .P ++ (f ∷ [])) (k .mh)
-  unfolding framed
+  unfolding pageFrameStored
   held-after =
       let q = c .held in
       record {
@@ -136,7 +136,7 @@ module _ (g : List ℕ) (w : World) (b : Book) (z : List ℕ) (h : DbHeader) (sa
       }
 
   table-after : Tabled v (k .S ++ (k .P ++ (f ∷ []))) (k .mh)
-  unfolding framed
+  unfolding pageFrameStored
   table-after m hm =
       rw again (table-entered (w .table) fs (k .mh) f n (w .pager .wal .len) (c .held .tableLong) (at .below) f-page at-is (c .table) m hm)
 
@@ -150,7 +150,7 @@ module _ (g : List ℕ) (w : World) (b : Book) (z : List ℕ) (h : DbHeader) (sa
   view-other m e = rw (again, last-other m fs f (λ q. e (sym q ∙ f-page)))
 
   main-after : v .main ≡ w .main
-  unfolding framed
+  unfolding pageFrameStored
   main-after = refl
 
   other-page : (m : ℕ) → m < pageLimit → (m ≡ n → ⊥) → worldPage v m ≡ worldPage w m
@@ -158,7 +158,7 @@ module _ (g : List ℕ) (w : World) (b : Book) (z : List ℕ) (h : DbHeader) (sa
       page-view held-after table-after m hm ∙ rw main-after (view-other m e) ∙ sym (page-view (c .held) (c .table) m hm)
 
   differs-other : (m : ℕ) → m < pageLimit → (m ≡ n → ⊥) → differs g v m ≡ differs g w m
-  unfolding differsIn framed
+  unfolding differsIn pageFrameStored
   differs-other m hm e =
       let q : committedBytes v m ≡ committedBytes w m = committed-bytes v m ∙ ap (λ (x : Option (List ℕ)). orGive x []) (other-page m hm e) ∙ sym (committed-bytes w m) in
       ap (λ (x : List ℕ). both (isStaged (w .pager .staged) m) (not (sameBytes (stagedBytes (w .pager .staged) g m) x))) q
@@ -200,7 +200,7 @@ module _ (g : List ℕ) (w : World) (b : Book) (z : List ℕ) (h : DbHeader) (sa
           whole-len = ap (λ (d : Disk). d .log .len) (whole-store (c .held .on) f f-long f-good room Other false) ∙ omega (arith, f-long)
 
   after-ok : Committing h salt (suc n) v g b (k .l) (k .S) (k .P ++ (f ∷ [])) (k .mh)
-  unfolding framed
+  unfolding pageFrameStored
   after-ok =
       record {
         held = held-after;
@@ -217,25 +217,25 @@ module _ (g : List ℕ) (w : World) (b : Book) (z : List ℕ) (h : DbHeader) (sa
       }
 
   todo-is : todo g w ≡ frameAct g w n ∷ framesTodo g h salt answer ns v
-  unfolding commitTodo foldTodo framesTodo
+  unfolding commitTodo checkpointTodo framesTodo
   todo-is =
       todo-by g w (job.Commit h salt p answer) job-is
       ∙ append-nil (framesTodo g h salt answer (pagesFrom (differs g w) p) w) ∙ ap (λ (x : List ℕ). framesTodo g h salt answer x w) found
 
   left-is : todo g v ≡ framesTodo g h salt answer ns v
-  unfolding commitTodo foldTodo framed
+  unfolding commitTodo checkpointTodo pageFrameStored
   left-is =
       todo-by g v (job.Commit h salt (suc n) answer) refl
       ∙ append-nil (framesTodo g h salt answer (pagesFrom (differs g v) (suc n)) v) ∙ ap (λ (x : List ℕ). framesTodo g h salt answer x v) pages-left
 
   next-is : advance g w ≡ v
-  unfolding commitAdvance foldAdvance
+  unfolding commitAdvance checkpointAdvance
   next-is =
       advance-by g w (job.Commit h salt p answer) job-is
       ∙ ap (λ (x : List ℕ). framesAdvance g h salt answer x w) found
 
   pub frame-step : StepOk g w b z
-  unfolding framed
+  unfolding pageFrameStored
   frame-step =
       record {
         act = frameAct g w n;

@@ -20,17 +20,17 @@ use Rattle.pager_state.specs.declared.Staged.{Staged}
 use Rattle.pager_state.proofs.Begun.{CommitBegun, commit-begun, begun-commit}
 use Rattle.pager_state.proofs.Done.{todo-length}
 use Rattle.pager_state.proofs.Searches.{pages-none, no-lowest}
-use Rattle.history.specs.Book.{Book, give, tells}
+use Rattle.history.specs.Model.{Model, modelHeader, modelStores}
 use Rattle.history.specs.Calls.{Commit, BeginCommit, Words, storesOf, worldAfter}
 use Rattle.history.specs.Run.{keptAfter}
-use Rattle.history.proofs.Opening.{re-book}
+use Rattle.history.proofs.Opening.{re-model}
 use Rattle.history.proofs.Rest.{Held, Resting, Committing, Some, Inv, held-disk}
 use Rattle.history.proofs.Running.{cut-none, RunOk, run-ok}
 use Rattle.history.proofs.Taken.{Taken, taken-by, at-rest}
 
 -- ---- a commit
 
-module _ (w : World) (g : List ℕ) (b : Book) (z : List ℕ) (i : Inv w g b z) (h : DbHeader) (salt : ℕ) (words : Words h) (small : salt < 2 ^ 32)
+module _ (w : World) (g : List ℕ) (b : Model) (z : List ℕ) (i : Inv w g b z) (h : DbHeader) (salt : ℕ) (words : Words h) (small : salt < 2 ^ 32)
     (taken : commitRefusal g w h ≡ none) where
   starts : CommitBegun g w h
   starts = commit-begun g w h taken
@@ -62,11 +62,11 @@ module _ (w : World) (g : List ℕ) (b : Book) (z : List ℕ) (i : Inv w g b z) 
       lacks-not (w .pager .staged) (countOf (headerOf (w .pager))) (countOf h) n h1 c h3
       (pages-none lack 0 (no-lowest lack 0 (starts .joined)) n (omega arith) (omega (arith, starts .high)))
 
-  held-begun : Held v g (give h b) (k .l) (k .S) (k .P) (k .mh)
+  held-begun : Held v g (modelHeader h b) (k .l) (k .S) (k .P) (k .mh)
   held-begun =
       let q = k .it .held in
       record {
-        on = re-book (q .on) (give h b) refl refl refl;
+        on = re-model (q .on) (modelHeader h b) refl refl refl;
         tableLong = q .tableLong;
         stagingLong = q .stagingLong;
         salt = q .salt;
@@ -78,7 +78,7 @@ module _ (w : World) (g : List ℕ) (b : Book) (z : List ℕ) (i : Inv w g b z) 
         waiting = q .waiting;
       }
 
-  committing : Committing h salt 0 v g (give h b) (k .l) (k .S) (k .P) (k .mh)
+  committing : Committing h salt 0 v g (modelHeader h b) (k .l) (k .S) (k .P) (k .mh)
   unfolding differsIn committedIn differing
   committing =
       record {
@@ -96,19 +96,19 @@ module _ (w : World) (g : List ℕ) (b : Book) (z : List ℕ) (i : Inv w g b z) 
         room = starts .room;
       }
 
-  begun : Inv v g (give h b) z
+  begun : Inv v g (modelHeader h b) z
   begun = record { l = k .l; S = k .S; P = k .P; mh = k .mh; it = committing; kept = k .kept }
 
   pub begin-commit-ok : Taken (BeginCommit h salt) w g b z
-  unfolding storesOf worldAfter tells keptAfter
+  unfolding storesOf worldAfter modelStores keptAfter
   begin-commit-ok =
       record {
-        after = subst (λ (p : Pager). Inv (onStore w p) g (give h b) z) (sym pager-is) begun;
-        cut = cut-none [] (diskOf w) (give h b) z (held-disk held-begun (k .kept));
+        after = subst (λ (p : Pager). Inv (onStore w p) g (modelHeader h b) z) (sym pager-is) begun;
+        cut = cut-none [] (diskOf w) (modelHeader h b) z (held-disk held-begun (k .kept));
       }
 
-  pub run : RunOk g mostSteps v (give h b) z (todo g v) (diskOf w)
-  run = run-ok g mostSteps v (give h b) z (todo g v) (diskOf w) refl refl (todo-length g v) begun
+  pub run : RunOk g mostSteps v (modelHeader h b) z (todo g v) (diskOf w)
+  run = run-ok g mostSteps v (modelHeader h b) z (todo g v) (diskOf w) refl refl (todo-length g v) begun
 
   pub stores-is : storesOf (Commit h salt) w g ≡ todo g v
   unfolding storesOf

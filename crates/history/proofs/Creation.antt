@@ -25,7 +25,7 @@ use Rattle.pager_state.specs.World.{world, mainArea, countOf}
 use Rattle.pager_state.specs.Overlay.{pageFrom}
 use Rattle.pager_state.specs.Opening.{placeFrom, tableOf, opensAs, firstHeader, logStores, createStores, emptyFile, createdDisk, createdPager, createFine, createTable, createLog, createMain}
 use Rattle.pager_state.specs.Stores.{File, Disk, storedAll, putFile, lenFile}
-use Rattle.history.specs.Book.{firstBook}
+use Rattle.history.specs.Model.{firstModel}
 use Rattle.history.specs.Run.{start}
 use Rattle.history.proofs.Files.{lasting, put-file, len-file, page-same}
 use Rattle.history.proofs.Disk.{viewOf, headerOver, OnDisk, log-alone}
@@ -106,39 +106,39 @@ module _ (t l m g : List ℕ) (salt : ℕ) (ok : createFine t l m g ≡ true) (s
   unfolding firstHeader
   view-one = ap {B = Option (List ℕ)} some page-one
 
-  book-one : firstBook .pages 1 ≡ some emptyTablePage
-  unfolding firstBook
-  book-one = refl
+  model-one : firstModel .pages 1 ≡ some emptyTablePage
+  unfolding firstModel
+  model-one = refl
 
-  book-above : (n : ℕ) → 2 ≤ n → firstBook .pages n ≡ none
-  unfolding firstBook
-  book-above n h = rw (ne-eqb n 1 (λ e. omega arith))
+  model-above : (n : ℕ) → 2 ≤ n → firstModel .pages n ≡ none
+  unfolding firstModel
+  model-above n h = rw (ne-eqb n 1 (λ e. omega arith))
 
-  book-header : firstBook .header ≡ firstHeader
-  unfolding firstBook
-  book-header = refl
+  model-header : firstModel .header ≡ firstHeader
+  unfolding firstModel
+  model-header = refl
 
-  count-is : countOf (firstBook .header) ≡ 2
-  count-is = ap countOf book-header ∙ count-two
+  count-is : countOf (firstModel .header) ≡ 2
+  count-is = ap countOf model-header ∙ count-two
 
-  view-is : (n : ℕ) → n ≡ 1 → viewOf [] firstHeader main-area n ≡ firstBook .pages n
-  view-is n e = rw e (view-one ∙ sym book-one)
+  view-is : (n : ℕ) → n ≡ 1 → viewOf [] firstHeader main-area n ≡ firstModel .pages n
+  view-is n e = rw e (view-one ∙ sym model-one)
 
-  there-is : (n : ℕ) → n ≡ 1 → (y : List ℕ) × (firstBook .pages n ≡ some y)
-  there-is n e = (emptyTablePage, rw e book-one)
+  there-is : (n : ℕ) → n ≡ 1 → (y : List ℕ) × (firstModel .pages n ≡ some y)
+  there-is n e = (emptyTablePage, rw e model-one)
 
-  top-is : headerOver firstHeader [] ≡ main.Header (firstBook .header)
-  unfolding headerOver placeFrom lastCount firstBook
+  top-is : headerOver firstHeader [] ≡ main.Header (firstModel .header)
+  unfolding headerOver placeFrom lastCount firstModel
   top-is = refl
 
-  on : OnDisk x firstBook (createdHeader salt) [] [] [] firstHeader
-  unfolding batchesIn firstBook
+  on : OnDisk x firstModel (createdHeader salt) [] [] [] firstHeader
+  unfolding batchesIn firstModel
   on =
       record {
         log = log-alone (x .log) (createdHeader salt) (created-written salt small)
             (part-put headerSize l 0 log-head (length-encodeWalHeader (createdHeader salt)) (omega arith)) log-long (omega arith);
         main = record { area = main-long; fits = omega arith; long = omega arith; has = omega (arith, count-two); head = main-head };
-        book =
+        model =
             record {
               top = top-is;
               plain = plain;
@@ -146,7 +146,7 @@ module _ (t l m g : List ℕ) (salt : ℕ) (ok : createFine t l m g ≡ true) (s
               most = omega (arith, count-two);
               pages = λ n h k. view-is n (only-one n h (omega (arith, count-two)));
               there = λ n h k. there-is n (only-one n h (omega (arith, count-two)));
-              above = λ n h. book-above n (omega (arith, count-two));
+              above = λ n h. model-above n (omega (arith, count-two));
               batches = refl;
             };
       }
@@ -163,10 +163,10 @@ module _ (t l m g : List ℕ) (salt : ℕ) (ok : createFine t l m g ≡ true) (s
   unfolding emptyWal createdHeader
   wal-clock = omega arith
 
-  resting : Resting (world (createdPager salt) (tableOf firstHeader []) log-area main-area) g firstBook (createdHeader salt) [] [] firstHeader
-  unfolding createdPager firstBook
+  resting : Resting (world (createdPager salt) (tableOf firstHeader []) log-area main-area) g firstModel (createdHeader salt) [] [] firstHeader
+  unfolding createdPager firstModel
   resting =
-      rests x firstBook (createdHeader salt) [] firstHeader firstHeader (emptyWal (createdHeader salt)) headerSize g on wal-len wal-salt wal-clock (sizes .staging) (λ n. refl) refl
+      rests x firstModel (createdHeader salt) [] firstHeader firstHeader (emptyWal (createdHeader salt)) headerSize g on wal-len wal-salt wal-clock (sizes .staging) (λ n. refl) refl
 
   world-is : start t l m g salt .world ≡ world (createdPager salt) (tableOf firstHeader []) log-area main-area
   unfolding start createTable createLog createMain

@@ -20,8 +20,8 @@ use Rattle.pager_state.specs.declared.AccessMode.the-variants as mode
 use Rattle.pager_state.specs.declared.FileKind.the-variants as file
 use Rattle.pager_state.specs.Opened as opened
 use Rattle.pager_state.specs.Opened.{Opens}
-use Rattle.history.specs.Book.{Book, bookOpen, tells}
-use Rattle.history.specs.Calls.{Lent, Call, Ask, Open, Stage, Clear, Append, Observe, Commit, Checkpoint, BeginCommit, BeginCheckpoint, Step, laid, opening, effect, refusedBy, storesOf, worldAfter, stagingAfter, bookFirst, bodyLent}
+use Rattle.history.specs.Model.{Model, modelOpen, modelStores}
+use Rattle.history.specs.Calls.{Lent, Call, Ask, Open, Stage, Clear, Append, Observe, Commit, Checkpoint, BeginCommit, BeginCheckpoint, Step, readInto, opening, effect, refusedBy, storesOf, worldAfter, stagingAfter, modelFirst, bodyLent}
 use Rattle.history.specs.Run.{Run, Left, Attempt, kinds, keptAfter, whole, cutCall, cutOpening, cutOpenings, Event, Whole, Cut, next, start}
 use Rattle.history.specs.Demand3.{walked, Intact, OpenedWhole, Answers, Holds, Typed, AllSized, TypedEvent, AllTyped, Demand3}
 use Rattle.history.proofs.Refused.{refused-stays}
@@ -36,13 +36,13 @@ use Rattle.history.proofs.Clearing.{clear-ok}
 use Rattle.history.proofs.Clock.{observe-ok}
 use Rattle.history.proofs.Batches.{append-ok}
 use Rattle.history.proofs.Commits.{begin-commit-ok, commit-ok}
-use Rattle.history.proofs.Folds.{begin-checkpoint-ok, checkpoint-ok}
+use Rattle.history.proofs.Checkpoints.{begin-checkpoint-ok, checkpoint-ok}
 use Rattle.history.proofs.NextStep.{step-ok}
 use Rattle.history.proofs.Creation.{created-inv}
 
--- the batches that the store gives after a call are the sealed ones of the book
-abbrev Sealed : Call → World → List ℕ → Book → Type 0
-Sealed c w g b = walked 1025 (worldAfter c w g) 0 ≡ tells (bodyLent c) (kinds (storesOf c w g)) (bookFirst c b) .sealed
+-- the batches that the store gives after a call are the committed ones of the model
+abbrev CommitFrame : Call → World → List ℕ → Model → Type 0
+CommitFrame c w g b = walked 1025 (worldAfter c w g) 0 ≡ modelStores (bodyLent c) (kinds (storesOf c w g)) (modelFirst c b) .committed
 
 -- ---- openings that are not refused
 
@@ -50,13 +50,13 @@ fine-by : (t : Bool) (x : Opens) → openRefusal (pick t x (opened.Refused refus
 fine-by true x e = refl
 fine-by false x e = absurd (omega arith)
 
-module _ (w : World) (g : List ℕ) (b : Book) (z : List ℕ) (i : Inv w g b z) (lent : Lent) where
+module _ (w : World) (g : List ℕ) (b : Model) (z : List ℕ) (i : Inv w g b z) (lent : Lent) where
   pub disk-now : DiskOk (diskOf w) b z
   disk-now = inv-disk (w .pager .job) w g b z i
 
   pub areas-of : (m : AccessMode) → refusedBy (Open m lent) w g ≡ 0 → Areas lent (diskOf w)
   unfolding refusedBy openPager
-  areas-of m e = fine-areas lent (diskOf w) (fine-by (openFine (lent .table) (laid lent (diskOf w)) (lent .staging)) _ e)
+  areas-of m e = fine-areas lent (diskOf w) (fine-by (openFine (lent .table) (readInto lent (diskOf w)) (lent .staging)) _ e)
 
   pub never : {A : Type 0} → refusedBy (Open mode.ReadOnly lent) w g ≡ 0 → A
   unfolding refusedBy
@@ -75,28 +75,28 @@ module _ (w : World) (g : List ℕ) (b : Book) (z : List ℕ) (i : Inv w g b z) 
   lent-staging m e = rw (eq-eqb (openRefusal (opening m lent (diskOf w))) 0 e)
 
   open-ok : (m : AccessMode) → refusedBy (Open m lent) w g ≡ 0 → Taken (Open m lent) w g b z
-  unfolding worldAfter tells keptAfter
+  unfolding worldAfter modelStores keptAfter
   open-ok mode.ReadOnly e = never e
   open-ok mode.ReadWrite e =
       let a = areas-of mode.ReadWrite e in
       taken-by (Open mode.ReadWrite lent) w g b z refl (open-stores mode.ReadWrite a)
-      (subst (λ (x : List ℕ). Inv (worldAfter (Open mode.ReadWrite lent) w g) x (bookOpen b) z) (sym (lent-staging mode.ReadWrite e)) (opened-rest disk-now lent a w))
+      (subst (λ (x : List ℕ). Inv (worldAfter (Open mode.ReadWrite lent) w g) x (modelOpen b) z) (sym (lent-staging mode.ReadWrite e)) (opened-rest disk-now lent a w))
       (open-cut (disk-now .on) z (disk-now .kept))
 
-  open-returns : (m : AccessMode) → refusedBy (Open m lent) w g ≡ 0 → Sealed (Open m lent) w g b
-  unfolding worldAfter tells
+  open-returns : (m : AccessMode) → refusedBy (Open m lent) w g ≡ 0 → CommitFrame (Open m lent) w g b
+  unfolding worldAfter modelStores
   open-returns mode.ReadOnly e = never e
   open-returns mode.ReadWrite e = let a = areas-of mode.ReadWrite e in rw (open-stores mode.ReadWrite a) (opened-returns disk-now lent a w)
 
 -- ---- any call that is not refused
 
-module _ (w : World) (g : List ℕ) (b : Book) (z : List ℕ) (i : Inv w g b z) where
+module _ (w : World) (g : List ℕ) (b : Model) (z : List ℕ) (i : Inv w g b z) where
   -- a read changes nothing
   stays : CutOk [] [] (diskOf w) b z
   stays = cut-none [] (diskOf w) b z (inv-disk (w .pager .job) w g b z i)
 
-  taken : (c : Call) → Typed c → refusedBy c w g ≡ 0 → Taken c w g b z × (effect c .opens ≡ true → Sealed c w g b)
-  unfolding refusedBy storesOf worldAfter tells keptAfter
+  taken : (c : Call) → Typed c → refusedBy c w g ≡ 0 → Taken c w g b z × (effect c .opens ≡ true → CommitFrame c w g b)
+  unfolding refusedBy storesOf worldAfter modelStores keptAfter
   taken (Ask q) t e = (record { after = i; cut = stays }, no-test)
   taken (Open m lent) t e = (open-ok w g b z i lent m e, λ o. open-returns w g b z i lent m e)
   taken (Stage n bytes) t e = (stage-ok w g b z i n bytes e, no-test)
@@ -115,8 +115,8 @@ module _ (c : Call) (r : Run) (t : Typed c) (i : InvRun r) where
   abbrev takes : Bool
   takes = eqb (refusedBy c (r .world) (r .staging)) 0
 
-  taken-when : takes ≡ true → Taken c (r .world) (r .staging) (r .book) (r .kept)
-  taken-when e = taken (r .world) (r .staging) (r .book) (r .kept) i c t (eqb-true _ _ e) .0
+  taken-when : takes ≡ true → Taken c (r .world) (r .staging) (r .model) (r .kept)
+  taken-when e = taken (r .world) (r .staging) (r .model) (r .kept) i c t (eqb-true _ _ e) .0
 
   refuses-it : takes ≡ false → refusedBy c (r .world) (r .staging) ≡ 0 → ⊥
   refuses-it e q = no-test (sym e ∙ eq-eqb (refusedBy c (r .world) (r .staging)) 0 q)
@@ -134,7 +134,7 @@ module _ (c : Call) (r : Run) (t : Typed c) (i : InvRun r) where
   cut-by : (j k : ℕ) (s : Bool) → takes ≡ s → LeftOk (cutCall c j k r)
   unfolding cutCall
   cut-by j k true e = rw e (taken-when e .cut j k)
-  cut-by j k false e = rw e (inv-disk (r .world .pager .job) (r .world) (r .staging) (r .book) (r .kept) i)
+  cut-by j k false e = rw e (inv-disk (r .world .pager .job) (r .world) (r .staging) (r .model) (r .kept) i)
 
   cut-ok : (j k : ℕ) → LeftOk (cutCall c j k r)
   cut-ok j k = cut-by j k takes refl
@@ -144,7 +144,7 @@ module _ (c : Call) (r : Run) (t : Typed c) (i : InvRun r) where
 
   opened-whole : OpenedWhole c r
   unfolding whole
-  opened-whole o e = rw (eq-eqb (refusedBy c (r .world) (r .staging)) 0 e) (taken (r .world) (r .staging) (r .book) (r .kept) i c t e .1 o)
+  opened-whole o e = rw (eq-eqb (refusedBy c (r .world) (r .staging)) 0 e) (taken (r .world) (r .staging) (r .model) (r .kept) i c t e .1 o)
 
 -- ---- any list of events
 

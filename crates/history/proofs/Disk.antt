@@ -17,19 +17,19 @@ use Rattle.header.specs.declared.HeaderDecoded.{HeaderDecoded}
 use Rattle.header.specs.declared.HeaderDecoded.the-variants as main
 use Rattle.header.proofs.RoundTrip.{Plain}
 use Rattle.frame.specs.Frame.{frameSize, bodyOf, intactAt}
-use Rattle.wal.specs.Header.{headerSize, encodeWalHeader, headerIn}
-use Rattle.wal.specs.Recovery.{chunkAt, goodAt, goodFront, sealed, lastCount, pageIn, recovered, sealedFrames, walArea}
+use Rattle.wal.specs.Header.{headerSize, encodeWalHeader, walHeaderIn}
+use Rattle.wal.specs.Recovery.{chunkAt, goodAt, goodFront, committed, lastCount, pageIn, recovered, committedFrames, walArea}
 use Rattle.wal.specs.declared.WalHeader.{WalHeader}
 use Rattle.wal.proofs.Encoding.{length-encodeWalHeader}
 use Rattle.wal.proofs.HeaderRoundTrip.{Written, header-back}
-use Rattle.wal.proofs.Frames.{sealed-open}
+use Rattle.wal.proofs.Frames.{committed-open}
 use Rattle.wal.proofs.Laid.{joined, Whole, joined-append, length-joined, laid-recovered}
 use Rattle.wal.proofs.Laid as laid
 use Rattle.pager_state.specs.World.{mainArea, pageLimit, countOf}
 use Rattle.pager_state.specs.Overlay.{pageFrom}
 use Rattle.pager_state.specs.Opening.{placeFrom, hasPage, recounted}
 use Rattle.pager_state.specs.Stores.{File, Disk, content}
-use Rattle.history.specs.Book.{Book, orElse}
+use Rattle.history.specs.Model.{Model, orElse}
 use Rattle.history.specs.Run.{Left}
 use Rattle.history.specs.Demand3.{Kept}
 use Rattle.history.proofs.Files.{length-content}
@@ -49,15 +49,15 @@ viewOf S mh m n = orElse (lastIn n S) (mainPage mh m n)
 unfoldable pub headerOver : DbHeader → List (List ℕ) → HeaderDecoded
 headerOver mh S = pick (eqb (placeFrom 0 0 S) 0) (main.Header (recounted mh (lastCount S))) (decodeHeader (bodyOf (pageIn 0 S)))
 
--- the log: l is its header, S the sealed frames, P good frames that aren't sealed, t a rest with no good frame at its front
+-- the log: l is its header, S the committed frames, P good frames that aren't committed, t a rest with no good frame at its front
 pub record LogIs (f : File) (l : WalHeader) (S P : List (List ℕ)) (t : List ℕ) : Type 0 where
   pub written : Written l
   pub bytes : content f ≡ encodeWalHeader l ++ (joined (S ++ P) ++ t)
   pub whole : Whole (S ++ P)
   pub good : goodFront (l .salt) (S ++ P) ≡ S ++ P
   pub stop : goodAt t 0 (l .salt) ≡ false
-  pub ends : sealed S ≡ S
-  pub loose : sealed P ≡ []
+  pub ends : committed S ≡ S
+  pub loose : committed P ≡ []
   pub area : length (f .area) ≡ walArea
   pub fits : f .len ≤ walArea
 
@@ -69,8 +69,8 @@ pub record MainIs (f : File) (mh : DbHeader) : Type 0 where
   pub has : pageSize * countOf mh ≤ f .len
   pub head : decodeHeader (take pageSize (f .area)) ≡ main.Header mh
 
--- sealed frames over a main file are what the book has
-pub record BookIs (m : List ℕ) (b : Book) (S : List (List ℕ)) (mh : DbHeader) : Type 0 where
+-- committed frames over a main file are what the model has
+pub record ModelIs (m : List ℕ) (b : Model) (S : List (List ℕ)) (mh : DbHeader) : Type 0 where
   pub top : headerOver mh S ≡ main.Header (b .header)
   pub plain : Plain (b .header)
   pub least : 1 ≤ countOf (b .header)
@@ -78,15 +78,15 @@ pub record BookIs (m : List ℕ) (b : Book) (S : List (List ℕ)) (mh : DbHeader
   pub pages : (n : ℕ) → 1 ≤ n → n < countOf (b .header) → viewOf S mh m n ≡ b .pages n
   pub there : (n : ℕ) → 1 ≤ n → n < countOf (b .header) → (x : List ℕ) × (b .pages n ≡ some x)
   pub above : (n : ℕ) → countOf (b .header) ≤ n → b .pages n ≡ none
-  pub batches : batchesOf S ≡ b .sealed
+  pub batches : batchesOf S ≡ b .committed
 
-pub record OnDisk (d : Disk) (b : Book) (l : WalHeader) (S P : List (List ℕ)) (t : List ℕ) (mh : DbHeader) : Type 0 where
+pub record OnDisk (d : Disk) (b : Model) (l : WalHeader) (S P : List (List ℕ)) (t : List ℕ) (mh : DbHeader) : Type 0 where
   pub log : LogIs (d .log) l S P t
   pub main : MainIs (d .main) mh
-  pub book : BookIs (d .main .area) b S mh
+  pub model : ModelIs (d .main .area) b S mh
 
--- z: the sealed frames' bytes
-pub record DiskOk (d : Disk) (b : Book) (z : List ℕ) : Type 0 where
+-- z: the committed frames' bytes
+pub record DiskOk (d : Disk) (b : Model) (z : List ℕ) : Type 0 where
   pub l : WalHeader
   pub S : List (List ℕ)
   pub P : List (List ℕ)
@@ -96,7 +96,7 @@ pub record DiskOk (d : Disk) (b : Book) (z : List ℕ) : Type 0 where
   pub kept : joined S ≡ z
 
 abbrev pub LeftOk : Left → Type 0
-LeftOk x = DiskOk (x .disk) (x .book) (x .kept)
+LeftOk x = DiskOk (x .disk) (x .model) (x .kept)
 
 -- ---- a rest shorter than a frame
 
@@ -105,9 +105,9 @@ unfolding goodAt intactAt
 short-stop t salt h = rw (lt-leb frameSize (length t) h)
 
 -- a log of its header alone
-pub none-sealed : sealed [] ≡ []
-unfolding sealed
-none-sealed = refl
+pub none-committed : committed [] ≡ []
+unfolding committed
+none-committed = refl
 
 pub log-alone : (f : File) (h : WalHeader) → Written h → content f ≡ encodeWalHeader h → length (f .area) ≡ walArea → f .len ≤ walArea → LogIs f h [] [] []
 unfolding goodFront joined
@@ -118,8 +118,8 @@ log-alone f h w e a n =
       whole = laid.none;
       good = refl;
       stop = short-stop [] (h .salt) (omega arith);
-      ends = none-sealed;
-      loose = none-sealed;
+      ends = none-committed;
+      loose = none-committed;
       area = a;
       fits = n;
     }
@@ -130,7 +130,7 @@ pub whole-left : (fs gs : List (List ℕ)) → Whole (fs ++ gs) → Whole fs
 whole-left [] gs w = laid.none
 whole-left (f ∷ fs) gs (laid.more h w) = laid.more h (whole-left fs gs w)
 
-module _ {d : Disk} {b : Book} {l : WalHeader} {S P : List (List ℕ)} {t : List ℕ} {mh : DbHeader} (o : OnDisk d b l S P t mh) where
+module _ {d : Disk} {b : Model} {l : WalHeader} {S P : List (List ℕ)} {t : List ℕ} {mh : DbHeader} (o : OnDisk d b l S P t mh) where
   pub log-inside : d .log .len ≤ length (d .log .area)
   log-inside = rw (o .log .area) (o .log .fits)
 
@@ -140,12 +140,12 @@ module _ {d : Disk} {b : Book} {l : WalHeader} {S P : List (List ℕ)} {t : List
       sym (length-content (d .log) log-inside) ∙ ap length (o .log .bytes) ∙ length-append (encodeWalHeader l) (joined (S ++ P) ++ t)
       ∙ omega (arith, length-encodeWalHeader l, length-append (joined (S ++ P)) t, length-joined (o .log .whole))
 
-  -- header and sealed frames come first
+  -- header and committed frames come first
   pub split : content (d .log) ≡ encodeWalHeader l ++ joined S ++ (joined P ++ t)
   split = o .log .bytes ∙ rw (joined-append S P) (simp append-assoc)
 
-  pub sealed-len : headerSize + frameSize * length S ≤ d .log .len
-  sealed-len = omega (arith, log-len, length-append S P)
+  pub committed-len : headerSize + frameSize * length S ≤ d .log .len
+  committed-len = omega (arith, log-len, length-append S P)
 
   pub front-long : length (encodeWalHeader l ++ joined S) ≡ headerSize + frameSize * length S
   front-long = length-append (encodeWalHeader l) (joined S) ∙ omega (arith, length-encodeWalHeader l, length-joined (whole-left S P (o .log .whole)))
@@ -153,7 +153,7 @@ module _ {d : Disk} {b : Book} {l : WalHeader} {S P : List (List ℕ)} {t : List
   pub front-is : take (chunkAt (length S)) (content (d .log)) ≡ encodeWalHeader l ++ joined S
   front-is = rw split (take-at (encodeWalHeader l ++ joined S) (joined P ++ t) (headerSize + frameSize * length S) front-long)
 
-  pub header-is : headerIn (encodeWalHeader l) ≡ l
+  pub header-is : walHeaderIn (encodeWalHeader l) ≡ l
   header-is = rw append-nil at (header-back l [] (o .log .written))
 
   -- what reading the log finds
@@ -163,8 +163,8 @@ module _ {d : Disk} {b : Book} {l : WalHeader} {S P : List (List ℕ)} {t : List
       let r = laid-recovered (encodeWalHeader l) (S ++ P) t (length-encodeWalHeader l) (o .log .whole) (rw e (o .log .good)) (rw e (o .log .stop)) in
       rw (o .log .bytes) (rw e at r)
 
-  pub sealed-is : sealedFrames (recovered (content (d .log))) ≡ S
-  sealed-is = rw recovered-is (sealed-open S P (o .log .loose) ∙ o .log .ends)
+  pub committed-is : committedFrames (recovered (content (d .log))) ≡ S
+  committed-is = rw recovered-is (committed-open S P (o .log .loose) ∙ o .log .ends)
 
   -- the log's area behind its header
   pub all-lie : drop headerSize (d .log .area) ≡ joined (S ++ P) ++ (t ++ drop (d .log .len) (d .log .area))
@@ -174,7 +174,7 @@ module _ {d : Disk} {b : Book} {l : WalHeader} {S P : List (List ℕ)} {t : List
       ∙ append-assoc (encodeWalHeader l) (joined (S ++ P) ++ t) Z)
       ∙ drop-at (encodeWalHeader l) (joined (S ++ P) ++ t ++ Z) headerSize (length-encodeWalHeader l) ∙ append-assoc (joined (S ++ P)) t Z
 
--- the sealed bytes lie there
+-- the committed bytes lie there
 pub disk-kept : (x : Left) → LeftOk x → Kept x
 disk-kept x k =
     let o = k .on in

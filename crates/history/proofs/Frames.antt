@@ -20,7 +20,7 @@ use Rattle.wal.proofs.Laid.{joined, Whole}
 use Rattle.wal.proofs.Laid as laid
 use Rattle.pager_state.specs.Overlay.{pageFrom}
 use Rattle.pager_state.specs.Opening.{placeFrom}
-use Rattle.history.specs.Book.{Batch, batchIn, orElse}
+use Rattle.history.specs.Model.{Batch, batchIn, orElse}
 
 -- ---- options
 
@@ -65,15 +65,15 @@ give-step false none f acc = refl
 give-step true (some a) f acc = refl
 give-step false (some a) f acc = refl
 
-page-fold : (p : ℕ) (fs : List (List ℕ)) (acc : List ℕ)
+page-checkpoint : (p : ℕ) (fs : List (List ℕ)) (acc : List ℕ)
     → bodyOf (foldl (λ (found f : List ℕ). pick (eqb (pageOf f) p) f found) acc fs) ≡ orGive (lastIn p fs) (bodyOf acc)
-page-fold p [] acc = refl
-page-fold p (f ∷ fs) acc = page-fold p fs (pick (eqb (pageOf f) p) f acc) ∙ give-step (eqb (pageOf f) p) (lastIn p fs) f acc
+page-checkpoint p [] acc = refl
+page-checkpoint p (f ∷ fs) acc = page-checkpoint p fs (pick (eqb (pageOf f) p) f acc) ∙ give-step (eqb (pageOf f) p) (lastIn p fs) f acc
 
 -- the same as the log's own search
 pub page-last : (p : ℕ) (fs : List (List ℕ)) (x : List ℕ) → lastIn p fs ≡ some x → bodyOf (pageIn p fs) ≡ x
 unfolding pageIn
-page-last p fs x e = page-fold p fs [] ∙ rw e
+page-last p fs x e = page-checkpoint p fs [] ∙ rw e
 
 pub body-long : (f : List ℕ) → length f ≡ frameSize → length (bodyOf f) ≡ pageSize
 unfolding bodyOf

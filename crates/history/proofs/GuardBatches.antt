@@ -1,4 +1,4 @@
--- Batches that are appended: nothing refuses them while there is room, and once sealed an opening returns them.
+-- Batches that are appended: nothing refuses them while there is room, and once committed an opening returns them.
 use mathlib.Core.Path.{_≡_, sym, ap, _∙_}
 use mathlib.Core.Bool.{true}
 use mathlib.Core.List.{List, [], _∷_, _++_}
@@ -22,6 +22,7 @@ use Rattle.mvcc.proofs.Canonical.{decodes-none, decodes-zero, canonical-length}
 use Rattle.wal.specs.Header.{headerSize}
 use Rattle.wal.specs.Recovery.{batchPage, walArea}
 use Rattle.wal.specs.Write.{longer, withFrame}
+use Rattle.pager_state.specs.Commit.{checkpointFrames}
 use Rattle.pager_state.specs.World.{World, world, countOf, withWal}
 use Rattle.pager_state.specs.Batches.{appendRefusal, batchFrame, appendBatch, appendAfter}
 use Rattle.pager_state.specs.Opening.{createFine}
@@ -29,16 +30,16 @@ use Rattle.pager_state.specs.Steps.{differing, commitWorld, commitStart, commit
 use Rattle.pager_state.specs.declared.CommitStart.the-variants as commit
 use Rattle.pager_state.specs.declared.BatchAnswer.the-variants as append
 use Rattle.pager_state.proofs.Made.{Made}
-use Rattle.history.specs.Book.{batchIn, firstBook}
+use Rattle.history.specs.Model.{batchIn, firstModel}
 use Rattle.history.specs.Calls.{Append, Commit, Words, refusedBy, worldAfter}
 use Rattle.history.specs.Run.{Run, whole, Whole, next, start}
 use Rattle.history.specs.Demand3.{Demand3}
-use Rattle.history.specs.Guards.{newStore, GoodHeader, Joined, Unrefused, UnrefusedBatch, LongerBy, Empty, Ends, after, Accepted, sealedBatch, framesAfter, Returned, Recovers, Filled}
+use Rattle.history.specs.Guards.{newStore, GoodHeader, Joined, Unrefused, UnrefusedBatch, LongerBy, Empty, Ends, after, Accepted, committedBatch, framesAfter, Returned, Recovers, Filled}
 use Rattle.history.proofs.GuardRefusals.{told-full, none-begun, unrefused, unrefused-batch, batch-told-full}
-use Rattle.history.proofs.GuardCommit.{seal-idle, commit-ends}
+use Rattle.history.proofs.GuardCommit.{commit-frame-idle, commit-ends}
 use Rattle.history.proofs.GuardNew.{fine-create, none-staged, none-differ, new-unrefused, new-made, new-count, new-none, new-len, new-frames}
 use Rattle.history.proofs.GuardHistories.{made-history}
-use Rattle.history.proofs.GuardBook.{world-after, staging-after, append-book, open-book, commit-batches}
+use Rattle.history.proofs.GuardModel.{world-after, staging-after, append-model, open-model, commit-batches}
 use Rattle.history.proofs.GuardReached.{Reached, reached-none, reached-whole, reached-made, opening-taken, opening-returns}
 
 -- ---- in any history
@@ -48,31 +49,31 @@ module _ (d : Demand3) (t l m g : List ℕ) (salt : ℕ) (f : createFine t l m g
   new = start t l m g salt
 
   module _ {r : Run} (k : Reached new r) (body : List ℕ) (h : DbHeader) (next : ℕ) (b : Bytes body) (v : Words h) (s : next < 2 ^ 32)
-      (a : Accepted (Append body) r) (c : Accepted (Commit h next) (whole (Append body) r)) (few : framesAfter (whole (Append body) r) < 100) where
+      (a : Accepted (Append body) r) (c : Accepted (Commit h next) (whole (Append body) r)) (few : framesAfter (whole (Append body) r) < checkpointFrames) where
     abbrev appended : Run
     appended = whole (Append body) r
 
     reached-appended : Reached new appended
     reached-appended = reached-whole k (Append body) b
 
-    reached-sealed : Reached new (sealedBatch body h next r)
-    reached-sealed = reached-whole reached-appended (Commit h next) (v, s)
+    reached-committed-front : Reached new (committedBatch body h next r)
+    reached-committed-front = reached-whole reached-appended (Commit h next) (v, s)
 
-    all-sealed : sealedBatch body h next r .book .sealed ≡ r .book .sealed ++ (r .book .waiting ++ (batchIn body ∷ []))
+    all-committed : committedBatch body h next r .model .committed ≡ r .model .committed ++ (r .model .waiting ++ (batchIn body ∷ []))
     unfolding refusedBy
-    all-sealed =
+    all-committed =
         let u = reached-made reached-appended (new-made t l m g salt f) in
         let e = accepted (commitRefusal (appended .staging) (appended .world) h) c in
-        commit-batches h next appended c (seal-idle (appended .staging) (appended .world) h next (u .slots) (omega arith) e few)
-        ∙ rw (append-book body r a)
+        commit-batches h next appended c (commit-frame-idle (appended .staging) (appended .world) h next (u .slots) (omega arith) e few)
+        ∙ rw (append-model body r a)
 
     pub returned : Returned r body h next
     returned =
         record {
-          sealed = all-sealed;
+          batches = all-committed;
           opened = λ lent z.
-              opening-returns d t l m g salt f small reached-sealed lent z
-              ∙ rw (open-book lent (sealedBatch body h next r) (opening-taken d t l m g salt f small reached-sealed lent z)) all-sealed;
+              opening-returns d t l m g salt f small reached-committed-front lent z
+              ∙ rw (open-model lent (committedBatch body h next r) (opening-taken d t l m g salt f small reached-committed-front lent z)) all-committed;
         }
 
 -- ---- one batch more
@@ -176,8 +177,8 @@ module _ (h : DbHeader) (k : ℕ) (r : Run) (u : Ready h k r) (body : List ℕ) 
     ready-longer : k < 99 → LongerBy (r .world) (commitWorld (r .staging) (r .world) h salt) 1
     ready-longer e = rw none-differs at (ready-ends .below (omega (arith, u .frames, none-differs)))
 
-    ready-folded : 99 ≤ k → Empty (commitWorld (r .staging) (r .world) h salt)
-    ready-folded e = ready-ends .above (omega (arith, u .frames, none-differs))
+    ready-checkpointed : 99 ≤ k → Empty (commitWorld (r .staging) (r .world) h salt)
+    ready-checkpointed e = ready-ends .above (omega (arith, u .frames, none-differs))
 
   ready-full : k ≡ 1024 → commitStart (r .staging) (r .world) h ≡ commit.Refused refusal.LogFull
   ready-full e = told-full (r .staging) (r .world) h (u .unrefused) (omega (arith, u .logFile, none-differs, e))
@@ -213,19 +214,19 @@ module _ (t l m g : List ℕ) (salt : ℕ) (f : createFine t l m g ≡ true) (h 
       record {
         logFile = u .logFile;
         longer = λ z next. ready-longer h n r u body b q (omega arith) next z;
-        folded = λ z low next. ready-folded h n r u body b q low next z;
+        checkpointed = λ z low next. ready-checkpointed h n r u body b q low next z;
         room = λ low. none-begun (r .staging) (r .world) h (ready-begun h n r u body b low);
         full = ready-full h n r u body b;
         fullBatch = batch-full h n r u body b;
       }
 
   pub recovers : Demand3 → salt < 2 ^ 32 → (body : List ℕ) → Good body → (next : ℕ) → Words h → next < 2 ^ 32 → Recovers (start t l m g salt) body h next
-  unfolding refusedBy start firstBook
+  unfolding refusedBy start firstModel
   recovers d small body b next v s =
       let r : Run = start t l m g salt in
       let a : Accepted (Append body) r = append-taken h 0 r new-ready body b (omega arith) in
       let u : Ready h 1 (whole (Append body) r) = append-ready h 0 r new-ready body b (omega arith) in
       let e : Accepted (Commit h next) (whole (Append body) r) = ap numberOf (ready-begun h 1 (whole (Append body) r) u body b (omega arith)) in
-      let few : framesAfter (whole (Append body) r) < 100 = omega (arith, u .frames, none-differs h 1 (whole (Append body) r) u body b) in
+      let few : framesAfter (whole (Append body) r) < checkpointFrames = omega (arith, u .frames, none-differs h 1 (whole (Append body) r) u body b) in
       let x : Returned r body h next = returned d t l m g salt f small (reached-none r) body h next (b .bytes) v s a e few in
-      record { appended = a; committed = e; sealed = x .sealed; opened = x .opened }
+      record { appended = a; committed = e; batches = x .batches; opened = x .opened }

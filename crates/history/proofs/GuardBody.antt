@@ -15,7 +15,7 @@ use Rattle.mvcc.specs.Batch.{Rec, tombstone, all, encodeText, encodeRecord, enc
 use Rattle.mvcc.proofs.Bytes.{bytes-none, bytes-cons, bytes-append, bytes-leBytes, bytes-zeros}
 use Rattle.mvcc.proofs.Whole.{batch-length, batch-bytes}
 use Rattle.mvcc.proofs.Canonical.{body-length, body-decodes, body-commitTs, body-records}
-use Rattle.history.specs.Book.{batchIn}
+use Rattle.history.specs.Model.{batchIn}
 use Rattle.history.specs.Guards.{Body}
 
 module _ (time : ℕ) (row : ℤ) (early : time < 2 ^ 64) (fits : SFits w64 row) where
@@ -23,7 +23,7 @@ module _ (time : ℕ) (row : ℤ) (early : time < 2 ^ 64) (fits : SFits w64 row)
   rows = tombstone [] row ∷ []
 
   good : GoodBatch time rows
-  unfolding Each GoodRecord wellFormed Rattle.text.specs.Utf8.after
+  unfolding Each GoodRecord wellFormed Rattle.text.specs.Utf8.formedBehind
   good =
       record {
         time = early;

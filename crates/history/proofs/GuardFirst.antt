@@ -1,4 +1,4 @@
--- The first page that is committed in a new store: nothing refuses it, and a fold leaves it in the main file.
+-- The first page that is committed in a new store: nothing refuses it, and a checkpoint leaves it in the main file.
 use mathlib.Core.Path.{_≡_, sym, ap, _∙_}
 use mathlib.Core.Bool.{Bool, true, false}
 use mathlib.Core.List.{List}
@@ -16,9 +16,9 @@ use Rattle.refusal.specs.Refusal.{numberOf}
 use Rattle.header.specs.declared.DbHeader.{DbHeader}
 use Rattle.pager_state.specs.World.{World, stagingArea, stagedLimit, countOf, headerOf, busy, readOnlyBy, readOnly}
 use Rattle.pager_state.specs.Overlay.{pageFrom, slotOf, inLog, onMain, below, placePage, readRefusal, findPage}
-use Rattle.pager_state.specs.Staging.{stageRefusal, slotted, stagedAfter, stagingAfter}
+use Rattle.pager_state.specs.Staging.{stageRefusal, withSlot, stagedAfter, stagingBytes}
 use Rattle.pager_state.specs.Opening.{createFine}
-use Rattle.pager_state.specs.Steps.{differing, commitRefusal, nothingToFold, checkpointRefusal, checkpointStart, checkpointBegins, beginCheckpoint, todo, stepFine, onStore, commitWorld, checkpointWorld}
+use Rattle.pager_state.specs.Steps.{differing, commitRefusal, nothingToCheckpoint, checkpointRefusal, checkpointStart, checkpointBegins, beginCheckpoint, todo, stepFine, onStore, commitWorld, checkpointWorld}
 use Rattle.pager_state.specs.declared.Staged.{Staged}
 use Rattle.pager_state.specs.declared.Job.the-variants as job
 use Rattle.pager_state.specs.declared.CheckpointStart.the-variants as checkpoint
@@ -29,12 +29,12 @@ use Rattle.pager_state.proofs.Begun.{begins}
 use Rattle.history.specs.Calls.{Stage, Commit, Checkpoint, Words, refusedBy, worldAfter}
 use Rattle.history.specs.Run.{Run, whole, start}
 use Rattle.history.specs.Demand3.{readingAt, Demand3}
-use Rattle.history.specs.Guards.{GoodHeader, withSlots, LongerBy, FoldedTo, Accepted, reading, committedPage, ReadsBack, Keeps}
+use Rattle.history.specs.Guards.{GoodHeader, withSlots, LongerBy, CheckpointedTo, Accepted, reading, committedPage, ReadsBack, Keeps}
 use Rattle.history.proofs.GuardNew.{fine-create, few-differ, none-staged, new-begun, new-made, new-idle, new-count, new-none, new-frames, new-writes, made-framed}
 use Rattle.history.proofs.GuardHistories.{made-whole}
 use Rattle.history.proofs.GuardCommit.{commit-ends}
-use Rattle.history.proofs.GuardFold.{fold-leaves}
-use Rattle.history.proofs.GuardBook.{world-after, staging-after}
+use Rattle.history.proofs.GuardCheckpoint.{checkpoint-leaves}
+use Rattle.history.proofs.GuardModel.{world-after, staging-after}
 use Rattle.history.proofs.GuardReached.{reached-none}
 use Rattle.history.proofs.GuardPages.{some-same, none-some, reads-back}
 
@@ -82,7 +82,7 @@ module _ (t l m g : List ℕ) (salt : ℕ) (f : createFine t l m g ≡ true) (by
 
   -- the slots then
   abbrev slots : Staged
-  slots = slotted (w .pager .staged) (slotOf (w .pager .staged) 1) 1
+  slots = withSlot (w .pager .staged) (slotOf (w .pager .staged) 1) 1
 
   abbrev staged : Run
   staged = whole (Stage 1 bytes) new
@@ -92,7 +92,7 @@ module _ (t l m g : List ℕ) (salt : ℕ) (f : createFine t l m g ≡ true) (by
   staged-world = world-after (Stage 1 bytes) new ∙ rw stage-none
 
   staged-staging : staged .staging ≡ put (new .staging) 0 bytes
-  unfolding stagingAfter
+  unfolding stagingBytes
   staged-staging = staging-after (Stage 1 bytes) new ∙ rw (stage-none, slot-first)
 
   staging-long : length (staged .staging) ≡ stagingArea
@@ -102,7 +102,7 @@ module _ (t l m g : List ℕ) (salt : ℕ) (f : createFine t l m g ≡ true) (by
 
   module _ (h : DbHeader) (next : ℕ) (k : GoodHeader h) (two : countOf h ≡ 2) where
     first-begun : commitRefusal (staged .staging) (staged .world) h ≡ none
-    unfolding slotted
+    unfolding withSlot
     first-begun =
         let z : length (slots .pages) ≡ stagedLimit = length-set (w .pager .staged .pages) (slotOf (w .pager .staged) 1) 1 ∙ new-made t l m g salt f .slots in
         rw staged-world
@@ -140,52 +140,52 @@ module _ (t l m g : List ℕ) (salt : ℕ) (f : createFine t l m g ≡ true) (by
     committed-made : Made (committed .world)
     committed-made = made-whole (Commit h next) staged staged-made
 
-    -- ---- and a fold
+    -- ---- and a checkpoint
 
     committed-writes : readOnly (committed .world .pager) ≡ false
     committed-writes = ap readOnlyBy (first-longer .opening) ∙ rw staged-world (new-writes t l m g salt f)
 
-    some-frames : nothingToFold (committed .world) ≡ false
-    unfolding nothingToFold
+    some-frames : nothingToCheckpoint (committed .world) ≡ false
+    unfolding nothingToCheckpoint
     some-frames = rw (ne-eqb (committed .world .pager .wal .«frame_count») 0 (λ e. omega (arith, e, first-longer .frames)))
 
-    fold-none : checkpointRefusal (committed .staging) (committed .world) ≡ none
+    checkpoint-none : checkpointRefusal (committed .staging) (committed .world) ≡ none
     unfolding checkpointRefusal
-    fold-none = rw (committed-fine, first-longer .rests, committed-writes)
+    checkpoint-none = rw (committed-fine, first-longer .rests, committed-writes)
 
-    fold-begins : checkpointBegins (committed .staging) (committed .world) ≡ true
-    fold-begins = begins (committed .staging) (committed .world) fold-none some-frames
+    checkpoint-begins : checkpointBegins (committed .staging) (committed .world) ≡ true
+    checkpoint-begins = begins (committed .staging) (committed .world) checkpoint-none some-frames
 
-    fold-begun : checkpointStart (committed .staging) (committed .world) ≡ checkpoint.Begun
+    checkpoint-starts : checkpointStart (committed .staging) (committed .world) ≡ checkpoint.Begun
     unfolding checkpointStart
-    fold-begun = rw (fold-none, some-frames)
+    checkpoint-starts = rw (checkpoint-none, some-frames)
 
     module _ (last : ℕ) where
-      abbrev folded : Run
-      folded = whole (Checkpoint last) committed
+      abbrev checkpointed : Run
+      checkpointed = whole (Checkpoint last) committed
 
-      fold-taken : Accepted (Checkpoint last) committed
+      checkpoint-taken : Accepted (Checkpoint last) committed
       unfolding refusedBy
-      fold-taken = ap numberOf fold-none
+      checkpoint-taken = ap numberOf checkpoint-none
 
-      folded-world : folded .world ≡ checkpointWorld (committed .staging) (committed .world) last
+      checkpointed-world : checkpointed .world ≡ checkpointWorld (committed .staging) (committed .world) last
       unfolding worldAfter
-      folded-world = world-after (Checkpoint last) committed
+      checkpointed-world = world-after (Checkpoint last) committed
 
-      fold-done : Rests (λ (n : ℕ). false) (committed .staging) (todo (committed .staging) (onStore (committed .world) (beginCheckpoint (committed .staging) (committed .world) last .pager))) (committed .world) (folded .world)
-      fold-done = rw folded-world (checkpoint-done (committed .staging) (committed .world) last fold-begins (committed-made .slots))
+      checkpoint-ends : Rests (λ (n : ℕ). false) (committed .staging) (todo (committed .staging) (onStore (committed .world) (beginCheckpoint (committed .staging) (committed .world) last .pager))) (committed .world) (checkpointed .world)
+      checkpoint-ends = rw checkpointed-world (checkpoint-done (committed .staging) (committed .world) last checkpoint-begins (committed-made .slots))
 
-      fold-to : FoldedTo (committed .world) (folded .world)
-      fold-to =
+      checkpoint-to : CheckpointedTo (committed .world) (checkpointed .world)
+      checkpoint-to =
           let u = made-framed (committed .world) committed-made in
-          rw folded-world (fold-leaves (committed .staging) (committed .world) last (u .0) (u .1 (first-longer .rests)) fold-begins)
+          rw checkpointed-world (checkpoint-leaves (committed .staging) (committed .world) last (u .0) (u .1 (first-longer .rests)) checkpoint-begins)
 
       -- no page is staged or in the log: it is read from the main file
-      in-main : reading folded 1 ≡ some bytes → pageFrom pageSize (folded .world .main) ≡ bytes
+      in-main : reading checkpointed 1 ≡ some bytes → pageFrom pageSize (checkpointed .world .main) ≡ bytes
       in-main e =
-          let fine : stepFine (folded .staging) (folded .world) ≡ true = rw (staging-after (Checkpoint last) committed) (fold-done .ready .right) in
-          let unstaged : folded .world .pager .staged .count ≡ 0 = rw (fold-to .staged) (first-longer .unstaged) in
-          read-main (folded .world) (folded .staging) 1 fine (fold-done .idle) unstaged (fold-to .empty .none 1) bytes e
+          let fine : stepFine (checkpointed .staging) (checkpointed .world) ≡ true = rw (staging-after (Checkpoint last) committed) (checkpoint-ends .ready .right) in
+          let unstaged : checkpointed .world .pager .staged .count ≡ 0 = rw (checkpoint-to .staged) (first-longer .unstaged) in
+          read-main (checkpointed .world) (checkpointed .staging) 1 fine (checkpoint-ends .idle) unstaged (checkpoint-to .empty .none 1) bytes e
 
     pub keeps : Demand3 → salt < 2 ^ 32 → Bytes bytes → Words h → next < 2 ^ 32 → Keeps new bytes h next
     keeps d small b v s =
@@ -195,6 +195,6 @@ module _ (t l m g : List ℕ) (salt : ℕ) (f : createFine t l m g ≡ true) (by
           staged = stage-taken;
           committed = first-taken;
           reads = back;
-          folds = fold-begun;
-          folded = λ last z. in-main last (back .folded last z (fold-taken last));
+          begins = checkpoint-starts;
+          checkpointed = λ last z. in-main last (back .checkpointed last z (checkpoint-taken last));
         }

@@ -20,7 +20,7 @@ use Rattle.pager_state.proofs.Runs.{made-steps}
 use Rattle.pager_state.proofs.Begun.{commit-made, checkpoint-made}
 use Rattle.pager_state.proofs.Opened.{open-made}
 use Rattle.pager_state.proofs.Calls.{stage-made, clear-made, observe-made, append-made}
-use Rattle.history.specs.Calls.{Lent, Call, Ask, Open, Stage, Clear, Append, Observe, Commit, Checkpoint, BeginCommit, BeginCheckpoint, Step, cleanly, laid, opening, openedOr, openedWorld, worldAfter}
+use Rattle.history.specs.Calls.{Lent, Call, Ask, Open, Stage, Clear, Append, Observe, Commit, Checkpoint, BeginCommit, BeginCheckpoint, Step, cleanly, readInto, opening, openedOr, openedWorld, worldAfter}
 use Rattle.history.specs.Run.{Run, whole, reopened, Event, Whole, Cut, next}
 use Rattle.history.specs.Guards.{after}
 
@@ -28,15 +28,15 @@ use Rattle.history.specs.Guards.{after}
 
 module _ (m : AccessMode) (lent : Lent) (d : Disk) (w : World) (k : Made w) where
   made-by : (a : Opens) → opening m lent d ≡ a
-      → Made (openedOr a w (openTable (cleanly m) (lent .table) (laid lent d) (lent .staging)) (openLogArea (cleanly m) (lent .table) (laid lent d) (lent .staging)) (laid lent d .main .area))
-  made-by (opened.Opened p) e = open-made (cleanly m) (lent .table) (laid lent d) (lent .staging) p e _ _
+      → Made (openedOr a w (openTable (cleanly m) (lent .table) (readInto lent d) (lent .staging)) (openLogArea (cleanly m) (lent .table) (readInto lent d) (lent .staging)) (readInto lent d .main .area))
+  made-by (opened.Opened p) e = open-made (cleanly m) (lent .table) (readInto lent d) (lent .staging) p e _ _
   made-by (opened.Refused r) e = k
 
   made-opened : Made (openedWorld m lent d w)
   unfolding openedWorld
   made-opened = made-by (opening m lent d) refl
 
--- ---- commits and folds
+-- ---- commits and checkpoints
 
 module _ (g : List ℕ) (w : World) (salt : ℕ) (k : Made w) where
   made-begun : (h : DbHeader) (v : Option Refusal) → commitRefusal g w h ≡ v → Made (onStore w (beginCommit g w h salt .pager))
@@ -49,15 +49,15 @@ module _ (g : List ℕ) (w : World) (salt : ℕ) (k : Made w) where
   made-commit h none e = rw e (made-steps g mostSteps (onStore w (beginCommit g w h salt .pager)) (made-begun h none e))
   made-commit h (some r) e = rw e k
 
-  made-folding : (b : Bool) → checkpointBegins g w ≡ b → Made (onStore w (beginCheckpoint g w salt .pager))
+  made-checkpointing : (b : Bool) → checkpointBegins g w ≡ b → Made (onStore w (beginCheckpoint g w salt .pager))
   unfolding beginCheckpoint
-  made-folding true e = checkpoint-made g w e salt k .made
-  made-folding false e = rw e k
+  made-checkpointing true e = checkpoint-made g w e salt k .made
+  made-checkpointing false e = rw e k
 
-  made-fold : (b : Bool) → checkpointBegins g w ≡ b → Made (checkpointWorld g w salt)
+  made-checkpoint : (b : Bool) → checkpointBegins g w ≡ b → Made (checkpointWorld g w salt)
   unfolding checkpointWorld
-  made-fold true e = rw e (made-steps g mostSteps (onStore w (beginCheckpoint g w salt .pager)) (made-folding true e))
-  made-fold false e = rw e k
+  made-checkpoint true e = rw e (made-steps g mostSteps (onStore w (beginCheckpoint g w salt .pager)) (made-checkpointing true e))
+  made-checkpoint false e = rw e k
 
 -- ---- any call
 
@@ -70,9 +70,9 @@ made-after Clear w g k = clear-made w k
 made-after (Append body) w g k = append-made w body k
 made-after (Observe c) w g k = observe-made w c k
 made-after (Commit h salt) w g k = made-commit g w salt k h (commitRefusal g w h) refl
-made-after (Checkpoint salt) w g k = made-fold g w salt k (checkpointBegins g w) refl
+made-after (Checkpoint salt) w g k = made-checkpoint g w salt k (checkpointBegins g w) refl
 made-after (BeginCommit h salt) w g k = made-begun g w salt k h (commitRefusal g w h) refl
-made-after (BeginCheckpoint salt) w g k = made-folding g w salt k (checkpointBegins g w) refl
+made-after (BeginCheckpoint salt) w g k = made-checkpointing g w salt k (checkpointBegins g w) refl
 made-after Step w g k = made-keeps g w k
 
 pub made-whole : (c : Call) (r : Run) → Made (r .world) → Made (whole c r .world)

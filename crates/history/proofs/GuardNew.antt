@@ -124,7 +124,7 @@ create-inside salt =
       ),
     )
 
--- what the guards of commits and folds ask, of a store as the laws of steps ask
+-- what the guards of commits and checkpoints ask, of a store as the laws of steps ask
 pub made-framed : (w : World) → Made w → (length (w .pager .staged .pages) ≡ stagedLimit) × (w .pager .job ≡ job.Idle → FramesInside w)
 made-framed w k = (k .slots, λ e n h i. subst (λ (j : Job). AsksOf every j w) e (k .asked) n h refl i)
 

@@ -26,10 +26,10 @@ use Rattle.history.specs.Run.{Run, whole, Cut, start}
 use Rattle.history.specs.Demand3.{readingAt, Demand3}
 use Rattle.history.specs.Guards.{Accepted, reading, committedPage, ReadsBack}
 use Rattle.history.proofs.GuardNew.{new-made}
-use Rattle.history.proofs.GuardBook.{Shows, shows-read, world-after, stage-book, open-book, commit-header, commit-shows, checkpoint-shows, lost-shows, open-shows}
+use Rattle.history.proofs.GuardModel.{Shows, shows-read, world-after, stage-model, open-model, commit-header, commit-shows, checkpoint-shows, lost-shows, open-shows}
 use Rattle.history.proofs.GuardReached.{Reached, reached-next, reached-whole, reached-made, reads-header, reads, opening-taken, opening-rests, lost-rests}
 
--- ---- a commit and a fold that are not refused leave nothing part done
+-- ---- a commit and a checkpoint that are not refused leave nothing part done
 
 module _ (r : Run) (k : Made (r .world)) (salt : ℕ) where
   commit-rests : (h : DbHeader) → Accepted (Commit h salt) r → whole (Commit h salt) r .world .pager .job ≡ job.Idle
@@ -38,15 +38,15 @@ module _ (r : Run) (k : Made (r .world)) (salt : ℕ) where
       rw (world-after (Commit h salt) r)
       (commit-done (r .staging) (r .world) h salt (accepted _ e) (k .slots) .idle)
 
-  fold-by : r .world .pager .job ≡ job.Idle → (b : Bool) → checkpointBegins (r .staging) (r .world) ≡ b
+  checkpoint-goes-by : r .world .pager .job ≡ job.Idle → (b : Bool) → checkpointBegins (r .staging) (r .world) ≡ b
       → checkpointWorld (r .staging) (r .world) salt .pager .job ≡ job.Idle
   unfolding checkpointWorld
-  fold-by i true e = checkpoint-done (r .staging) (r .world) salt e (k .slots) .idle
-  fold-by i false e = rw e i
+  checkpoint-goes-by i true e = checkpoint-done (r .staging) (r .world) salt e (k .slots) .idle
+  checkpoint-goes-by i false e = rw e i
 
-  fold-rests : r .world .pager .job ≡ job.Idle → Accepted (Checkpoint salt) r → whole (Checkpoint salt) r .world .pager .job ≡ job.Idle
+  checkpoint-rests : r .world .pager .job ≡ job.Idle → Accepted (Checkpoint salt) r → whole (Checkpoint salt) r .world .pager .job ≡ job.Idle
   unfolding worldAfter
-  fold-rests i e = rw (world-after (Checkpoint salt) r) (fold-by i (checkpointBegins (r .staging) (r .world)) refl)
+  checkpoint-rests i e = rw (world-after (Checkpoint salt) r) (checkpoint-goes-by i (checkpointBegins (r .staging) (r .world)) refl)
 
 -- ---- a reading's bytes
 
@@ -75,12 +75,12 @@ module _ (d : Demand3) (t l m g : List ℕ) (salt : ℕ) (f : createFine t l m g
       reads-header d t l m g salt f small (reached-whole k (Commit h next) (v, s)) (ap busyWith (commit-rests r (reached-made k (new-made t l m g salt f)) next h c))
       ∙ ap head.Header (commit-header h next r c)
 
-  -- a page that the book shows, at rest
-  shown : {r : Run} → Reached new r → r .world .pager .job ≡ job.Idle → Made (r .world) → (n : ℕ) (bytes : List ℕ) → 1 ≤ n → Shows (r .book) n bytes
+  -- a page that the model shows, at rest
+  shown : {r : Run} → Reached new r → r .world .pager .job ≡ job.Idle → Made (r .world) → (n : ℕ) (bytes : List ℕ) → 1 ≤ n → Shows (r .model) n bytes
       → ReadsBack r n bytes
   unfolding readPage
   shown {r} k i q n bytes a y =
-      let now : reading r n ≡ some bytes = reads d t l m g salt f small k (ap busyWith i) n a ∙ shows-read (r .book) n bytes y in
+      let now : reading r n ≡ some bytes = reads d t l m g salt f small k (ap busyWith i) n a ∙ shows-read (r .model) n bytes y in
       record {
         now = now;
         bytes = read-bytes (r .world) (r .staging) (findPage (r .world) (r .staging) n) bytes now;
@@ -88,12 +88,12 @@ module _ (d : Demand3) (t l m g : List ℕ) (salt : ℕ) (f : createFine t l m g
         opened = λ lent z.
             let c : Accepted (Open mode.ReadWrite lent) r = opening-taken d t l m g salt f small k lent z in
             reads d t l m g salt f small (reached-whole k (Open mode.ReadWrite lent) tt) (opening-rests d t l m g salt f small k lent z) n a
-            ∙ rw (open-book lent r c) (shows-read _ n bytes (open-shows n bytes (r .book) y));
+            ∙ rw (open-model lent r c) (shows-read _ n bytes (open-shows n bytes (r .model) y));
         lost = λ attempts s lent z.
             reads d t l m g salt f small (reached-next k (Cut (Ask ReadMode) 0 0 attempts lent) (tt, (s, z))) (lost-rests d t l m g salt f small k attempts s lent z) n a
             ∙ shows-read _ n bytes (lost-shows n bytes attempts lent r y);
-        folded = λ next z c.
-            reads d t l m g salt f small (reached-whole k (Checkpoint next) z) (ap busyWith (fold-rests r q next i c)) n a
+        checkpointed = λ next z c.
+            reads d t l m g salt f small (reached-whole k (Checkpoint next) z) (ap busyWith (checkpoint-rests r q next i c)) n a
             ∙ shows-read _ n bytes (checkpoint-shows next r c i n bytes y);
       }
 
@@ -105,8 +105,8 @@ module _ (d : Demand3) (t l m g : List ℕ) (salt : ℕ) (f : createFine t l m g
     reached-committed : Reached new (committedPage n bytes h next r)
     reached-committed = reached-whole reached-staged (Commit h next) (v, s)
 
-    page-waits : whole (Stage n bytes) r .book .staged n ≡ some bytes
-    page-waits = rw (stage-book n bytes r e, eq-eqb n n refl)
+    page-waits : whole (Stage n bytes) r .model .staged n ≡ some bytes
+    page-waits = rw (stage-model n bytes r e, eq-eqb n n refl)
 
     pub reads-back : ReadsBack (committedPage n bytes h next r) n bytes
     reads-back =

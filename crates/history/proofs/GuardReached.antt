@@ -1,4 +1,4 @@
--- Demand 3 of a history that goes on: readings are the book's, clean openings are not refused and return the book's batches.
+-- Demand 3 of a history that goes on: readings are the model's, clean openings are not refused and return the model's batches.
 use mathlib.Core.Path.{_≡_, refl, ap, subst, _∙_}
 use mathlib.Core.Bool.{Bool, true, false}
 use mathlib.Core.List.{List, [], _∷_, _++_}
@@ -15,13 +15,13 @@ use Rattle.pager_state.specs.Opened.{Opens}
 use Rattle.pager_state.specs.Opened as opened
 use Rattle.pager_state.proofs.Made.{Made}
 use Rattle.pager_state.proofs.Opened.{open-idle}
-use Rattle.history.specs.Book.{bookRead}
-use Rattle.history.specs.Calls.{Lent, ReadMode, Call, Ask, Open, cleanly, laid, opening, openedOr, openedWorld, refusedBy, storesOf, worldAfter}
+use Rattle.history.specs.Model.{modelRead}
+use Rattle.history.specs.Calls.{Lent, ReadMode, Call, Ask, Open, cleanly, readInto, opening, openedOr, openedWorld, refusedBy, storesOf, worldAfter}
 use Rattle.history.specs.Run.{Run, whole, Left, cutCall, Attempt, cutOpening, cutOpenings, reopening, reopened, Event, Whole, Cut, next, start}
 use Rattle.history.specs.Demand3.{Same, AtRest, Returns, Answers, Holds, Reopens, Sized, AllSized, Typed, TypedEvent, AllTyped, Demand3}
 use Rattle.history.specs.Guards.{after, Accepted, reading}
 use Rattle.history.proofs.GuardHistories.{made-history}
-use Rattle.history.proofs.GuardBook.{world-after}
+use Rattle.history.proofs.GuardModel.{world-after}
 
 -- ---- one event more
 
@@ -86,7 +86,7 @@ uncut r = uncut-by r (eqb (refusedBy (Ask ReadMode) (r .world) (r .staging)) 0) 
 module _ (lent : Lent) (d : Disk) (w : World) where
   opened-by : (a : Opens) → opening mode.ReadWrite lent d ≡ a → openRefusal a ≡ 0 → (t l m : List ℕ)
       → busy (openedOr a w t l m .pager) ≡ false
-  opened-by (opened.Opened p) e z t l m = ap busyWith (open-idle (cleanly mode.ReadWrite) (lent .table) (laid lent d) (lent .staging) p e)
+  opened-by (opened.Opened p) e z t l m = ap busyWith (open-idle (cleanly mode.ReadWrite) (lent .table) (readInto lent d) (lent .staging) p e)
   opened-by (opened.Refused r) e z t l m = absurd (numbered r z)
 
   opened-rests : openRefusal (opening mode.ReadWrite lent d) ≡ 0
@@ -115,10 +115,10 @@ module _ (d : Demand3) (t l m g : List ℕ) (salt : ℕ) (f : createFine t l m g
     same : AtRest r (Same r)
     same = subst (λ (x : Run). AtRest x (Same x)) (k .is) (holds-end (k .events) new (all-hold (k .events) (k .typed)))
 
-    pub reads-header : busy (r .world .pager) ≡ false → header (r .world .pager) ≡ head.Header (r .book .header)
+    pub reads-header : busy (r .world .pager) ≡ false → header (r .world .pager) ≡ head.Header (r .model .header)
     reads-header e = same e .sameHeader
 
-    pub reads : busy (r .world .pager) ≡ false → (n : ℕ) → 1 ≤ n → reading r n ≡ bookRead (r .book) n
+    pub reads : busy (r .world .pager) ≡ false → (n : ℕ) → 1 ≤ n → reading r n ≡ modelRead (r .model) n
     reads e n a = same e .samePage n a
 
     answers : (e : Event) → TypedEvent e → Answers e r

@@ -23,7 +23,7 @@ use Rattle.refusal.proofs.Judged.{met, resulted}
 use Rattle.header.specs.Header.{isVersion}
 use Rattle.header.specs.declared.DbHeader.{DbHeader}
 use Rattle.frame.specs.Frame.{frameSize}
-use Rattle.mvcc.specs.Decode.{magic}
+use Rattle.mvcc.specs.Decode.{batchMagic}
 use Rattle.mvcc.specs.Seen.{decodeRefusal, headingRefusal}
 use Rattle.mvcc.proofs.Heading.{heading-none}
 use Rattle.wal.specs.Recovery.{walArea}
@@ -229,7 +229,7 @@ heading-by false b e = let z : _≡_ {A = ℕ} 2 15 = ap numberOf e in omega ari
 
 heading-apart : (body : List ℕ) → headingRefusal body ≡ some refusal.LogFull → ⊥
 unfolding headingRefusal
-heading-apart body e = heading-by (leb 18 (length body)) (eqb (field 8 0 body) magic) e
+heading-apart body e = heading-by (leb 18 (length body)) (eqb (field 8 0 body) batchMagic) e
 
 module _ (p : Pager) (l body : List ℕ) where
   pub unrefused-batch : UnrefusedBatch p l body → appendRefusal p l body ≡ unless (hasRoom (p .wal)) refusal.LogFull (decodeRefusal body)

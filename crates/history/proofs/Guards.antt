@@ -10,10 +10,10 @@ use Rattle.wal.specs.Recovery.{walArea}
 use Rattle.pager_state.specs.Opening.{firstHeader}
 use Rattle.pager_state.specs.World.{mainArea, stagingArea, pageLimit}
 use Rattle.history.specs.Run.{start}
-use Rattle.history.specs.Guards.{zeros, zeroAreas, Met, LogFullGuard, BegunGuard, BatchFullGuard, CommitGuard, CommitEndsGuard, EmptyCommitGuard, FoldGuard, SoundGuard, TableGuard, OpeningGuard, HeaderGuard, PageGuard, NewPageGuard, BatchGuard, NewBatchGuard, FilledGuard, BodyGuard}
+use Rattle.history.specs.Guards.{zeros, zeroAreas, Met, LogFullGuard, BegunGuard, BatchFullGuard, CommitGuard, CommitEndsGuard, EmptyCommitGuard, CheckpointGuard, SoundGuard, TableGuard, OpeningGuard, HeaderGuard, PageGuard, NewPageGuard, BatchGuard, NewBatchGuard, FilledGuard, BodyGuard}
 use Rattle.history.proofs.Demand3Holds.{demand3}
 use Rattle.history.proofs.GuardRefusals.{full-told, told-full, begun-none, none-begun, begun-told, told-begun, batch-full-told, batch-told-full}
-use Rattle.history.proofs.GuardFold.{start-begins, fold-leaves, fold-answer}
+use Rattle.history.proofs.GuardCheckpoint.{start-begins, checkpoint-leaves, checkpointed-answer}
 use Rattle.history.proofs.GuardCommit.{commit-ends}
 use Rattle.history.proofs.GuardNew.{made-framed, new-made, new-begun, committed-alone}
 use Rattle.history.proofs.GuardHistories.{made-history}
@@ -80,9 +80,9 @@ pub empty-commit : EmptyCommitGuard
 unfolding EmptyCommitGuard
 empty-commit t l m g salt f h k c next = committed-alone t l m g salt f h k c next
 
-pub fold : FoldGuard
-unfolding FoldGuard
-fold g w salt z i b = let e = start-begins g w b in (fold-answer g w salt z i e, fold-leaves g w salt z i e)
+pub checkpoint : CheckpointGuard
+unfolding CheckpointGuard
+checkpoint g w salt z i b = let e = start-begins g w b in (checkpointed-answer g w salt z i e, checkpoint-leaves g w salt z i e)
 
 pub filled : FilledGuard
 unfolding FilledGuard

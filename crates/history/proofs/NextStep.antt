@@ -6,7 +6,7 @@ use Prim.Native.Nat.{ℕ}
 use Rattle.pager_state.specs.World.{World}
 use Rattle.pager_state.specs.Stores.{diskOf, kindOf, stored}
 use Rattle.pager_state.specs.Steps.{todo}
-use Rattle.history.specs.Book.{Book, tell, tells}
+use Rattle.history.specs.Model.{Model, modelStore, modelStores}
 use Rattle.history.specs.Calls.{Step, storesOf, worldAfter}
 use Rattle.history.specs.Run.{keptBy, keptAfter}
 use Rattle.history.proofs.Rest.{Inv, inv-disk}
@@ -16,7 +16,7 @@ use Rattle.history.proofs.Taken.{Taken, taken-by}
 
 -- ---- the next step
 
-module _ (w : World) (g : List ℕ) (b : Book) (z : List ℕ) (i : Inv w g b z) where
+module _ (w : World) (g : List ℕ) (b : Model) (z : List ℕ) (i : Inv w g b z) where
   world-next : (s : StepOk g w b z) → worldAfter Step w g ≡ s .next
   unfolding worldAfter
   world-next s = stepped-is g w b z s
@@ -34,12 +34,12 @@ module _ (w : World) (g : List ℕ) (b : Book) (z : List ℕ) (i : Inv w g b z) 
   stores-idle e = rw e
 
   step-by : (StepOk g w b z) ⊎ (todo g w ≡ []) → Taken Step w g b z
-  unfolding tells keptAfter
+  unfolding modelStores keptAfter
   step-by (inl s) =
       let d = step-disk g w b z s in
       taken-by Step w g b z (world-next s) (stores-next s) (s .after)
       (cut-cons [] (s .act) [] (diskOf w) b z (s .covers) (s .cut) d
-      (cut-none [] (stored (s .act) (diskOf w)) (tell [] (kindOf (s .act)) b) (keptBy (s .act) (stored (s .act) (diskOf w)) z) d))
+      (cut-none [] (stored (s .act) (diskOf w)) (modelStore [] (kindOf (s .act)) b) (keptBy (s .act) (stored (s .act) (diskOf w)) z) d))
   step-by (inr e) = taken-by Step w g b z (world-idle e) (stores-idle e) i (cut-none [] (diskOf w) b z (inv-disk (w .pager .job) w g b z i))
 
   pub step-ok : Taken Step w g b z

@@ -20,18 +20,18 @@ use Rattle.header.specs.declared.DbHeader.{DbHeader}
 use Rattle.header.specs.declared.HeaderDecoded.the-variants as main
 use Rattle.header.proofs.RoundTrip.{decoded-as}
 use Rattle.wal.specs.Header.{headerSize, encodeWalHeader, decodeWalHeader}
-use Rattle.wal.specs.Recovery.{chunkAt, goodFront, lastCount, batchesIn, Recovered, recovered, sealedFrames, commitPoint, walOf, walArea}
+use Rattle.wal.specs.Recovery.{chunkAt, goodFront, lastCount, batchesIn, Recovered, recovered, committedFrames, commitPoint, walOf, walArea}
 use Rattle.wal.specs.declared.WalHeader.{WalHeader}
 use Rattle.wal.specs.declared.WalHeaderDecoded.the-variants as log
 use Rattle.wal.specs.declared.Wal.{Wal}
 use Rattle.wal.proofs.HeaderRoundTrip.{decode-encode}
 use Rattle.wal.proofs.Frames.{all-good-cons}
-use Rattle.wal.proofs.Recovered.{recovered-cut, cut-sealed}
+use Rattle.wal.proofs.Recovered.{recovered-cut, cut-committed}
 use Rattle.wal.proofs.Laid.{joined}
 use Rattle.wal.proofs.Opening.{length-cut}
 use Rattle.pager_state.specs.World.{world, mainArea, stagingArea, pageLimit, countOf, inArea, lengthsFine}
 use Rattle.pager_state.specs.Overlay.{pageFrom, entry, isStaged, slotOf}
-use Rattle.pager_state.specs.Opening.{tabulate, placeFrom, hasPage, tableOf, emptyStaged, opensAs, keptOf, foundIn, foundBy, mainHeader, headerBy, openedAs, judged, openFine, openPager, openRefusal, openStores, openTable, openLogArea}
+use Rattle.pager_state.specs.Opening.{tabulate, placeFrom, hasPage, tableOf, emptyStaged, opensAs, keptOf, foundIn, foundBy, mainHeader, headerBy, openedStore, judged, openFine, openPager, openRefusal, openStores, openTable, openLogArea}
 use Rattle.pager_state.specs.Stores.{File, Disk, content, SetLen, Other, lenFile, lenCut, cutAll, wholeOf, storedAll}
 use Rattle.pager_state.specs.declared.AccessMode.{AccessMode}
 use Rattle.pager_state.specs.declared.AccessMode.the-variants as mode
@@ -39,13 +39,13 @@ use Rattle.pager_state.specs.declared.FileKind.the-variants as file
 use Rattle.pager_state.specs.declared.Opening.the-variants as opening
 use Rattle.pager_state.specs.declared.Pager.{Pager}
 use Rattle.pager_state.specs.Opened as opened
-use Rattle.history.specs.Book.{Book, bookOpen, tells}
-use Rattle.history.specs.Calls.{Lent, cleanly, laidIn, laid}
+use Rattle.history.specs.Model.{Model, modelOpen, modelStores}
+use Rattle.history.specs.Calls.{Lent, cleanly, fileReadInto, readInto}
 use Rattle.history.specs.Run.{kinds, keptAfter}
 use Rattle.history.specs.Demand3.{Sized}
 use Rattle.history.proofs.Files.{lasting, grown-none, len-file, length-content}
 use Rattle.history.proofs.Slots.{Slots}
-use Rattle.history.proofs.Disk.{mainPage, viewOf, headerOver, LogIs, BookIs, OnDisk, DiskOk, short-stop, none-sealed, whole-left, log-inside, log-len, sealed-len, front-is, recovered-is, sealed-is}
+use Rattle.history.proofs.Disk.{mainPage, viewOf, headerOver, LogIs, ModelIs, OnDisk, DiskOk, short-stop, none-committed, whole-left, log-inside, log-len, committed-len, front-is, recovered-is, committed-is}
 use Rattle.history.proofs.Rest.{Resting}
 
 -- ---- the same files in other areas
@@ -64,7 +64,7 @@ main-same mh a c len n e h = go (leb 1 n) (ltb n (countOf mh)) refl
         let k : pageSize * n + pageSize ≤ len = omega (arith, leb-true (suc n) (countOf mh) q) in
         ap {B = Option (List ℕ)} some (part-same a c len (pageSize * n) pageSize e k)
 
--- the same log in another file, and the same book over another main file
+-- the same log in another file, and the same model over another main file
 pub log-again : {f : File} {l : WalHeader} {S P : List (List ℕ)} {t : List ℕ} → LogIs f l S P t → (g : File) → content g ≡ content f → length (g .area) ≡ walArea
     → g .len ≤ walArea → LogIs g l S P t
 log-again o g e a n =
@@ -80,9 +80,9 @@ log-again o g e a n =
       fits = n;
     }
 
-pub book-over : {m : List ℕ} {b : Book} {S : List (List ℕ)} {mh : DbHeader} → BookIs m b S mh → {k : List ℕ} {own : DbHeader}
-    → headerOver own S ≡ main.Header (b .header) → ((n : ℕ) → 1 ≤ n → n < countOf (b .header) → viewOf S own k n ≡ b .pages n) → BookIs k b S own
-book-over o top pages =
+pub model-over : {m : List ℕ} {b : Model} {S : List (List ℕ)} {mh : DbHeader} → ModelIs m b S mh → {k : List ℕ} {own : DbHeader}
+    → headerOver own S ≡ main.Header (b .header) → ((n : ℕ) → 1 ≤ n → n < countOf (b .header) → viewOf S own k n ≡ b .pages n) → ModelIs k b S own
+model-over o top pages =
     record {
       top = top;
       plain = o .plain;
@@ -94,7 +94,7 @@ book-over o top pages =
       batches = o .batches;
     }
 
-pub re-lay : {d : Disk} {b : Book} {l : WalHeader} {S P : List (List ℕ)} {t : List ℕ} {mh : DbHeader} → OnDisk d b l S P t mh → (e : Disk)
+pub re-lay : {d : Disk} {b : Model} {l : WalHeader} {S P : List (List ℕ)} {t : List ℕ} {mh : DbHeader} → OnDisk d b l S P t mh → (e : Disk)
     → content (e .log) ≡ content (d .log) → length (e .log .area) ≡ walArea → e .log .len ≤ walArea
     → e .main .len ≡ d .main .len → take (d .main .len) (e .main .area) ≡ take (d .main .len) (d .main .area) → length (e .main .area) ≡ mainArea
     → OnDisk e b l S P t mh
@@ -109,26 +109,26 @@ re-lay {d} {b} {l} {S} {P} {t} {mh} o e h₁ h₂ h₃ h₄ h₅ h₆ =
             has = rw h₄ (o .main .has);
             head = ap decodeHeader (part-same (e .main .area) (d .main .area) (d .main .len) 0 pageSize h₅ (o .main .long)) ∙ o .main .head;
           };
-      book = book-over (o .book) (o .book .top) (λ n n1 n2. rw (main-same mh (e .main .area) (d .main .area) (d .main .len) n h₅ (o .main .has)) (o .book .pages n n1 n2));
+      model = model-over (o .model) (o .model .top) (λ n n1 n2. rw (main-same mh (e .main .area) (d .main .area) (d .main .len) n h₅ (o .main .has)) (o .model .pages n n1 n2));
     }
 
--- the book's other fields play no part
-pub re-book : {d : Disk} {b : Book} {l : WalHeader} {S P : List (List ℕ)} {t : List ℕ} {mh : DbHeader} → OnDisk d b l S P t mh → (c : Book)
-    → c .header ≡ b .header → c .pages ≡ b .pages → c .sealed ≡ b .sealed → OnDisk d c l S P t mh
-re-book o c e₁ e₂ e₃ =
+-- the model's other fields play no part
+pub re-model : {d : Disk} {b : Model} {l : WalHeader} {S P : List (List ℕ)} {t : List ℕ} {mh : DbHeader} → OnDisk d b l S P t mh → (c : Model)
+    → c .header ≡ b .header → c .pages ≡ b .pages → c .committed ≡ b .committed → OnDisk d c l S P t mh
+re-model o c e₁ e₂ e₃ =
     record {
       log = o .log;
       main = o .main;
-      book =
+      model =
           record {
-            top = o .book .top ∙ ap main.Header (sym e₁);
-            plain = rw e₁ (o .book .plain);
-            least = rw e₁ (o .book .least);
-            most = rw e₁ (o .book .most);
-            pages = rw (e₁, e₂) (o .book .pages);
-            there = rw (e₁, e₂) (o .book .there);
-            above = rw (e₁, e₂) (o .book .above);
-            batches = o .book .batches ∙ sym e₃;
+            top = o .model .top ∙ ap main.Header (sym e₁);
+            plain = rw e₁ (o .model .plain);
+            least = rw e₁ (o .model .least);
+            most = rw e₁ (o .model .most);
+            pages = rw (e₁, e₂) (o .model .pages);
+            there = rw (e₁, e₂) (o .model .there);
+            above = rw (e₁, e₂) (o .model .above);
+            batches = o .model .batches ∙ sym e₃;
           };
     }
 
@@ -161,18 +161,18 @@ sized-fine a l m s h k =
 
 -- the areas with both files read into them
 abbrev pub laidAreas : Lent → Disk → Lent
-laidAreas lent d = record { table = lent .table; staging = lent .staging; log = laid lent d .log .area; main = laid lent d .main .area }
+laidAreas lent d = record { table = lent .table; staging = lent .staging; log = readInto lent d .log .area; main = readInto lent d .main .area }
 
 abbrev pub Areas : Lent → Disk → Type 0
 Areas lent d = Sized (laidAreas lent d)
 
-pub laid-content : (f : File) (a : List ℕ) → f .len ≤ length (f .area) → content (laidIn a f) ≡ content f
+pub laid-content : (f : File) (a : List ℕ) → f .len ≤ length (f .area) → content (fileReadInto a f) ≡ content f
 laid-content f a h = take-at (content f) (drop (f .len) a) (f .len) (length-content f h)
 
 laid-long : (f : File) (a : List ℕ) (n : ℕ) → f .len ≤ length (f .area) → f .len ≤ n → length a ≡ n → length (content f ++ drop (f .len) a) ≡ n
 laid-long f a n h k e = length-append (content f) (drop (f .len) a) ∙ omega (arith, length-content f h, length-drop (f .len) a)
 
-module _ {d : Disk} {b : Book} {l : WalHeader} {S P : List (List ℕ)} {t : List ℕ} {mh : DbHeader} (o : OnDisk d b l S P t mh) where
+module _ {d : Disk} {b : Model} {l : WalHeader} {S P : List (List ℕ)} {t : List ℕ} {mh : DbHeader} (o : OnDisk d b l S P t mh) where
   pub main-inside : d .main .len ≤ length (d .main .area)
   main-inside = rw (o .main .area) (o .main .fits)
 
@@ -185,13 +185,13 @@ module _ {d : Disk} {b : Book} {l : WalHeader} {S P : List (List ℕ)} {t : List
         main = laid-long (d .main) (lent .main) mainArea main-inside (o .main .fits) (s .main);
       }
 
-  pub laid-on : (lent : Lent) → Areas lent d → OnDisk (laid lent d) b l S P t mh
+  pub laid-on : (lent : Lent) → Areas lent d → OnDisk (readInto lent d) b l S P t mh
   laid-on lent a =
-      re-lay o (laid lent d) (laid-content (d .log) (lent .log) (log-inside o)) (a .log) (o .log .fits) refl
+      re-lay o (readInto lent d) (laid-content (d .log) (lent .log) (log-inside o)) (a .log) (o .log .fits) refl
       (laid-content (d .main) (lent .main) main-inside) (a .main)
 
-pub fine-areas : (lent : Lent) (d : Disk) → openFine (lent .table) (laid lent d) (lent .staging) ≡ true → Areas lent d
-fine-areas lent d e = fine-sized (laidAreas lent d) (laid lent d .log .len) (laid lent d .main .len) e
+pub fine-areas : (lent : Lent) (d : Disk) → openFine (lent .table) (readInto lent d) (lent .staging) ≡ true → Areas lent d
+fine-areas lent d e = fine-sized (laidAreas lent d) (readInto lent d .log .len) (readInto lent d .main .len) e
 
 -- ---- fronts of good frames
 
@@ -210,7 +210,7 @@ header-inside l =
     let f : (w k : ℕ) → k + w ≤ pageSize → field w k (take pageSize l) ≡ field w k l = λ w k h. rw zero-add at (field-part w k pageSize 0 l h) in
     rw (f 4 20 (omega arith), f 4 24 (omega arith), f 2 16 (omega arith), f 4 28 (omega arith))
 
-module _ {x : Disk} {b : Book} {l : WalHeader} {S P : List (List ℕ)} {t : List ℕ} {mh : DbHeader} (o : OnDisk x b l S P t mh) where
+module _ {x : Disk} {b : Model} {l : WalHeader} {S P : List (List ℕ)} {t : List ℕ} {mh : DbHeader} (o : OnDisk x b l S P t mh) where
   -- what is kept of the log
   abbrev keptLog : List ℕ
   keptLog = take (commitPoint (recovered (content (x .log)))) (content (x .log))
@@ -224,7 +224,7 @@ module _ {x : Disk} {b : Book} {l : WalHeader} {S P : List (List ℕ)} {t : List
   openStore = opensAs (b .header) mh (x .main .len) openLog (chunkAt (length S)) opening.Clean
 
   pub point-is : commitPoint (recovered (content (x .log))) ≡ chunkAt (length S)
-  point-is = ap (λ (fs : List (List ℕ)). chunkAt (length fs)) (sealed-is o)
+  point-is = ap (λ (fs : List (List ℕ)). chunkAt (length fs)) (committed-is o)
 
   long-enough : headerSize ≤ length (content (x .log))
   long-enough = omega (arith, length-content (x .log) (log-inside o), log-len o)
@@ -235,7 +235,7 @@ module _ {x : Disk} {b : Book} {l : WalHeader} {S P : List (List ℕ)} {t : List
 
   pub open-header : openLog .header ≡ l
   unfolding walOf
-  open-header = ap (λ (r : Recovered). r .header) (recovered-cut (content (x .log)) ∙ ap (λ (r : Recovered). record { header = r .header; frames = sealedFrames (recovered (content (x .log))); stopped = false }) (recovered-is o))
+  open-header = ap (λ (r : Recovered). r .header) (recovered-cut (content (x .log)) ∙ ap (λ (r : Recovered). record { header = r .header; frames = committedFrames (recovered (content (x .log))); stopped = false }) (recovered-is o))
 
   main-is : mainHeader (x .main) ≡ main.Header mh
   unfolding mainHeader
@@ -243,11 +243,11 @@ module _ {x : Disk} {b : Book} {l : WalHeader} {S P : List (List ℕ)} {t : List
 
   found-frames : (m : AccessMode) → foundBy (cleanly m) (x .log) .frames ≡ S
   unfolding foundBy foundIn keptOf
-  found-frames m = cut-sealed (content (x .log)) ∙ sealed-is o
+  found-frames m = cut-committed (content (x .log)) ∙ committed-is o
 
   found-last : (m : AccessMode) → foundBy (cleanly m) (x .log) .last ≡ lastCount S
   unfolding foundBy foundIn keptOf
-  found-last m = ap lastCount (cut-sealed (content (x .log)) ∙ sealed-is o)
+  found-last m = ap lastCount (cut-committed (content (x .log)) ∙ committed-is o)
 
   found-log : (m : AccessMode) → foundBy (cleanly m) (x .log) .log ≡ openLog
   unfolding foundBy foundIn keptOf
@@ -255,12 +255,12 @@ module _ {x : Disk} {b : Book} {l : WalHeader} {S P : List (List ℕ)} {t : List
 
   header-by : (m : AccessMode) → headerBy mh (foundBy (cleanly m) (x .log)) ≡ main.Header (b .header)
   unfolding headerBy headerOver
-  header-by m = rw (found-frames m, found-last m) (o .book .top)
+  header-by m = rw (found-frames m, found-last m) (o .model .top)
 
   log-decodes : decodeWalHeader (content (x .log)) ≡ log.Header l
   log-decodes = rw (o .log .bytes) (decode-encode l (joined (S ++ P) ++ t) (o .log .written))
 
-  judged-is : (m : AccessMode) → judged (cleanly m) x mh ≡ openedAs (cleanly m) x mh (foundBy (cleanly m) (x .log)) (b .header)
+  judged-is : (m : AccessMode) → judged (cleanly m) x mh ≡ openedStore (cleanly m) x mh (foundBy (cleanly m) (x .log)) (b .header)
   unfolding judged
   judged-is m = rw (log-decodes, header-by m)
 
@@ -270,21 +270,21 @@ module _ {x : Disk} {b : Book} {l : WalHeader} {S P : List (List ℕ)} {t : List
         sized-fine (record { table = T; staging = G; log = x .log .area; main = x .main .area }) (x .log .len) (x .main .len)
         (record { table = tl; staging = gl; log = o .log .area; main = o .main .area }) (o .log .fits) (o .main .fits)
 
-    opening-is : (m : AccessMode) → openPager (cleanly m) T x G ≡ openedAs (cleanly m) x mh (foundBy (cleanly m) (x .log)) (b .header)
+    opening-is : (m : AccessMode) → openPager (cleanly m) T x G ≡ openedStore (cleanly m) x mh (foundBy (cleanly m) (x .log)) (b .header)
     unfolding openPager
     opening-is m = rw (fine-is, main-is, le-leb (pageSize * countOf mh) (x .main .len) (o .main .has)) (judged-is m)
 
     -- read-write it is not refused
     pub opens : openPager (cleanly mode.ReadWrite) T x G ≡ opened.Opened openStore
-    unfolding openedAs
+    unfolding openedStore
     opens =
         opening-is mode.ReadWrite
-        ∙ rw (le-leb (countOf (b .header)) pageLimit (o .book .most), found-log mode.ReadWrite, found-frames mode.ReadWrite)
+        ∙ rw (le-leb (countOf (b .header)) pageLimit (o .model .most), found-log mode.ReadWrite, found-frames mode.ReadWrite)
 
     -- read-only it is (10)
     pub refuses : openRefusal (openPager (cleanly mode.ReadOnly) T x G) ≡ 10
-    unfolding openedAs
-    refuses = rw (opening-is mode.ReadOnly, le-leb (countOf (b .header)) pageLimit (o .book .most))
+    unfolding openedStore
+    refuses = rw (opening-is mode.ReadOnly, le-leb (countOf (b .header)) pageLimit (o .model .most))
 
     own-header : headerIn (x .main .area) ≡ mh
     own-header = sym (header-inside (x .main .area)) ∙ decoded-as (take pageSize (x .main .area)) mh (o .main .head) .fields
@@ -296,7 +296,7 @@ module _ {x : Disk} {b : Book} {l : WalHeader} {S P : List (List ℕ)} {t : List
     pub area-is : openLogArea (cleanly mode.ReadWrite) T x G ≡ x .log .area
     unfolding openLogArea openStores storedAll lenFile
     area-is =
-        let k : commitPoint (recovered (content (x .log))) ≤ x .log .len = rw point-is (sealed-len o) in
+        let k : commitPoint (recovered (content (x .log))) ≤ x .log .len = rw point-is (committed-len o) in
         rw opens (grown-none (x .log) (commitPoint (recovered (content (x .log)))) k)
 
   -- its one store
@@ -306,7 +306,7 @@ module _ {x : Disk} {b : Book} {l : WalHeader} {S P : List (List ℕ)} {t : List
 
   -- ---- the files with the log cut at the commit point
 
-  pub cut-on : OnDisk (record { main = x .main; log = lasting (x .log) (chunkAt (length S)) }) (bookOpen b) l S [] [] mh
+  pub cut-on : OnDisk (record { main = x .main; log = lasting (x .log) (chunkAt (length S)) }) (modelOpen b) l S [] [] mh
   cut-on =
       let nil : S ++ [] ≡ S = append-nil S in
       record {
@@ -318,28 +318,28 @@ module _ {x : Disk} {b : Book} {l : WalHeader} {S P : List (List ℕ)} {t : List
               good = rw nil (good-left (l .salt) S P (o .log .good));
               stop = short-stop [] (l .salt) (omega arith);
               ends = o .log .ends;
-              loose = none-sealed;
+              loose = none-committed;
               area = o .log .area;
-              fits = omega (arith, sealed-len o, o .log .fits);
+              fits = omega (arith, committed-len o, o .log .fits);
             };
         main = o .main;
-        book = re-book o (bookOpen b) refl refl refl .book;
+        model = re-model o (modelOpen b) refl refl refl .model;
       }
     where
       cut-content : take (chunkAt (length S)) (x .log .area) ≡ encodeWalHeader l ++ joined S
-      cut-content = sym (take-take (chunkAt (length S)) (x .log .len) (x .log .area) (sealed-len o)) ∙ front-is o
+      cut-content = sym (take-take (chunkAt (length S)) (x .log .len) (x .log .area) (committed-len o)) ∙ front-is o
 
-  cut-ok : (z : List ℕ) → joined S ≡ z → {f : File} → f ≡ lasting (x .log) (chunkAt (length S)) → DiskOk (record { main = x .main; log = f }) (bookOpen b) z
+  cut-ok : (z : List ℕ) → joined S ≡ z → {f : File} → f ≡ lasting (x .log) (chunkAt (length S)) → DiskOk (record { main = x .main; log = f }) (modelOpen b) z
   cut-ok z e q = rw q (record { l = l; S = S; P = []; t = []; mh = mh; on = cut-on; kept = e })
 
   pub open-cut : (z : List ℕ) → joined S ≡ z → (j k : ℕ)
       → DiskOk (cutAll (SetLen Other file.Log (chunkAt (length S)) true ∷ []) j k x)
-      (tells [] (kinds (wholeOf (SetLen Other file.Log (chunkAt (length S)) true ∷ []) j k)) (bookOpen b))
+      (modelStores [] (kinds (wholeOf (SetLen Other file.Log (chunkAt (length S)) true ∷ []) j k)) (modelOpen b))
       (keptAfter (wholeOf (SetLen Other file.Log (chunkAt (length S)) true ∷ []) j k) x z)
-  unfolding cutAll wholeOf lenCut tells keptAfter
-  open-cut z e zero zero = record { l = l; S = S; P = P; t = t; mh = mh; on = re-book o (bookOpen b) refl refl refl; kept = e }
-  open-cut z e zero (suc k) = rw (le-leb 1 (suc k) (omega arith)) (cut-ok z e (len-file (x .log) (chunkAt (length S)) (sealed-len o)))
-  open-cut z e (suc j) k = cut-ok z e (len-file (x .log) (chunkAt (length S)) (sealed-len o))
+  unfolding cutAll wholeOf lenCut modelStores keptAfter
+  open-cut z e zero zero = record { l = l; S = S; P = P; t = t; mh = mh; on = re-model o (modelOpen b) refl refl refl; kept = e }
+  open-cut z e zero (suc k) = rw (le-leb 1 (suc k) (omega arith)) (cut-ok z e (len-file (x .log) (chunkAt (length S)) (committed-len o)))
+  open-cut z e (suc j) k = cut-ok z e (len-file (x .log) (chunkAt (length S)) (committed-len o))
 
 -- ---- the open store
 
@@ -373,7 +373,7 @@ unfolding emptyStaged isStaged slotOf
 empty-none n = refl
 
 -- a store with nothing staged and nothing part done, whose files are these
-pub rests : (x : Disk) (b : Book) (l : WalHeader) (S : List (List ℕ)) (mh own : DbHeader) (v : Wal) (end : ℕ) (G : List ℕ)
+pub rests : (x : Disk) (b : Model) (l : WalHeader) (S : List (List ℕ)) (mh own : DbHeader) (v : Wal) (end : ℕ) (G : List ℕ)
     → OnDisk x b l S [] [] mh → v .len ≡ x .log .len → v .header .salt ≡ l .salt → v .header .«clock_high_water» < 2 ^ 64 → length G ≡ stagingArea
     → ((n : ℕ) → b .staged n ≡ none) → b .waiting ≡ []
     → Resting (world (opensAs (b .header) own (x .main .len) v end opening.Clean) (tableOf mh S) (x .log .area) (x .main .area)) G b l S [] mh

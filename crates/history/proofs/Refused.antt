@@ -20,7 +20,7 @@ use Rattle.pager_state.specs.Opened.{Opens}
 use Rattle.pager_state.specs.Opened as opened
 use Rattle.pager_state.specs.declared.StepAnswer.the-variants as step
 use Rattle.pager_state.specs.Staging as staging
-use Rattle.history.specs.Calls.{Call, Ask, Open, Stage, Clear, Append, Observe, Commit, Checkpoint, BeginCommit, BeginCheckpoint, Step, cleanly, laid, opening, openedOr, openedWorld, refusedBy, worldAfter, stagingAfter}
+use Rattle.history.specs.Calls.{Call, Ask, Open, Stage, Clear, Append, Observe, Commit, Checkpoint, BeginCommit, BeginCheckpoint, Step, cleanly, readInto, opening, openedOr, openedWorld, refusedBy, worldAfter, stagingAfter}
 
 open-stays : (x : Opens) (w : World) (t l m : List ℕ) → (openRefusal x ≡ 0 → ⊥) → openedOr x w t l m ≡ w
 open-stays (opened.Opened p) w t l m n = absurd (n refl)
@@ -53,12 +53,12 @@ step-stays g w n = go (stepFine g w) n
 
 -- "A refusal changes no lent area and no store": the store and the staging area
 pub refused-stays : (c : Call) (w : World) (g : List ℕ) → (refusedBy c w g ≡ 0 → ⊥) → (worldAfter c w g ≡ w) × (stagingAfter c w g ≡ g)
-unfolding refusedBy worldAfter openedWorld stagedAfter staging.stagingAfter clearStaged observeClock appendBatch appendAfter beginCommit beginCheckpoint commitWorld checkpointWorld
+unfolding refusedBy worldAfter openedWorld stagedAfter staging.stagingBytes clearStaged observeClock appendBatch appendAfter beginCommit beginCheckpoint commitWorld checkpointWorld
 refused-stays (Ask q) w g n = (refl, refl)
 refused-stays (Open m lent) w g n =
     let d : Disk = diskOf w in (
-      open-stays (opening m lent d) w (openTable (cleanly m) (lent .table) (laid lent d) (lent .staging))
-          (openLogArea (cleanly m) (lent .table) (laid lent d) (lent .staging)) (laid lent d .main .area) n,
+      open-stays (opening m lent d) w (openTable (cleanly m) (lent .table) (readInto lent d) (lent .staging))
+          (openLogArea (cleanly m) (lent .table) (readInto lent d) (lent .staging)) (readInto lent d .main .area) n,
       rw (ne-eqb (openRefusal (opening m lent d)) 0 n),
     )
 refused-stays (Stage p bytes) w g n = let e = unaccepted (stageRefusal (busy (w .pager)) (w .pager .staged) g p bytes) n in (rw e, rw e)

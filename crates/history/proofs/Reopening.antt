@@ -1,4 +1,4 @@
--- The store that a clean opening gives: it is at rest, and its recovered batches are the book's sealed ones. Assumes nothing.
+-- The store that a clean opening gives: it is at rest, and its recovered batches are the model's committed ones. Assumes nothing.
 use mathlib.Core.Path.{_≡_, refl, sym, ap, _∙_}
 use mathlib.Core.Bool.{Bool, true, false}
 use mathlib.Core.List.{List, [], _∷_, map}
@@ -19,25 +19,25 @@ use Rattle.wal.specs.declared.WalHeader.{WalHeader}
 use Rattle.wal.specs.declared.BatchFound.{BatchFound}
 use Rattle.wal.specs.declared.BatchFound.the-variants as batch
 use Rattle.wal.proofs.Places.{get-chunk}
-use Rattle.wal.proofs.Recovered.{committed-sealed}
+use Rattle.wal.proofs.Recovered.{committed-committed}
 use Rattle.wal.proofs.Reading.{Walked, batches-walked}
 use Rattle.pager_state.specs.World.{World, world, logFine, busy}
 use Rattle.pager_state.specs.Overlay.{pageFrom}
 use Rattle.pager_state.specs.Opening.{tableOf, opensAs, openRefusal}
-use Rattle.pager_state.specs.Batches.{recoveredAs, recoveredRefusal, nextRecovered}
+use Rattle.pager_state.specs.Batches.{recoveredBatch, recoveredRefusal, nextRecovered}
 use Rattle.pager_state.specs.Stores.{Disk, content}
 use Rattle.pager_state.specs.declared.AccessMode.the-variants as mode
-use Rattle.history.specs.Book.{Book, Batch, batchIn, bookOpen, tells}
-use Rattle.history.specs.Calls.{Lent, laid, openedWorld}
+use Rattle.history.specs.Model.{Model, Batch, batchIn, modelOpen, modelStores}
+use Rattle.history.specs.Calls.{Lent, readInto, openedWorld}
 use Rattle.history.specs.Run.{Run, Left, Attempt, keptAfter, cutOpening, reopening, reopened}
 use Rattle.history.specs.Demand3.{walkedAt, walked, Returns, Sized, AllSized, Reopens}
 use Rattle.history.proofs.Files.{lasting}
-use Rattle.history.proofs.Disk.{OnDisk, DiskOk, LeftOk, disk-kept, sealed-is, sealed-len}
+use Rattle.history.proofs.Disk.{OnDisk, DiskOk, LeftOk, disk-kept, committed-is, committed-len}
 use Rattle.history.proofs.Rest.{Inv}
 use Rattle.history.proofs.Opening.{Areas, laid-on, sized-areas, openLog, openStore, point-is, open-len, open-header, opens, table-is, area-is, stores-is, cut-on, open-cut, rests}
 
 abbrev pub InvRun : Run → Type 0
-InvRun r = Inv (r .world) (r .staging) (r .book) (r .kept)
+InvRun r = Inv (r .world) (r .staging) (r .model) (r .kept)
 
 -- ---- walking the batches
 
@@ -66,7 +66,7 @@ within-more e n batch.Nothing h w = tt
 
 module _ (w : World) (S : List (List ℕ)) (fine : logFine (w .pager .wal .len) (w .log) ≡ true) (idle : busy (w .pager) ≡ false)
     (end : w .pager .recovered ≡ chunkAt (length S)) (front : chunks (take (chunkAt (length S)) (w .log)) ≡ S) (long : headerSize + frameSize * length S ≤ length (w .log)) where
-  next-is : (i : ℕ) → nextRecovered (w .pager) (w .log) i ≡ recoveredAs (batchFrom i (drop i S))
+  next-is : (i : ℕ) → nextRecovered (w .pager) (w .log) i ≡ recoveredBatch (batchFrom i (drop i S))
   unfolding nextRecovered recoveredRefusal nextBatch
   next-is i = rw (fine, idle, end, front)
 
@@ -84,7 +84,7 @@ module _ (w : World) (S : List (List ℕ)) (fine : logFine (w .pager .wal .len) 
   told fs = map (λ (f : List ℕ). batchIn (bodyOf f)) fs
 
   walk-step : (k i : ℕ) → ((m : ℕ) → length S ≤ k + m → walked k w m ≡ told (batchesIn (drop m S))) → length S ≤ suc k + i → (r : BatchFound)
-      → Walked S i r → Within (length S) r → walkedAt (recoveredAs r) (w .log) (walked k w) ≡ told (batchesIn (drop i S))
+      → Walked S i r → Within (length S) r → walkedAt (recoveredBatch r) (w .log) (walked k w) ≡ told (batchesIn (drop i S))
   unfolding Within
   walk-step k i later h batch.Nothing f b = sym (ap told f)
   walk-step k i later h (batch.Batch j at) f b =
@@ -104,19 +104,19 @@ module _ (w : World) (S : List (List ℕ)) (fine : logFine (w .pager .wal .len) 
 
 -- ---- after the opening
 
-module _ {d : Disk} {b : Book} {z : List ℕ} (k : DiskOk d b z) (lent : Lent) (a : Areas lent d) (w : World) where
-  pub on : OnDisk (laid lent d) b (k .l) (k .S) (k .P) (k .t) (k .mh)
+module _ {d : Disk} {b : Model} {z : List ℕ} (k : DiskOk d b z) (lent : Lent) (a : Areas lent d) (w : World) where
+  pub on : OnDisk (readInto lent d) b (k .l) (k .S) (k .P) (k .t) (k .mh)
   on = laid-on (k .on) lent a
 
   abbrev pub opensTo : World
-  opensTo = world (openStore on) (tableOf (k .mh) (k .S)) (laid lent d .log .area) (laid lent d .main .area)
+  opensTo = world (openStore on) (tableOf (k .mh) (k .S)) (readInto lent d .log .area) (readInto lent d .main .area)
 
   pub world-is : openedWorld mode.ReadWrite lent d w ≡ opensTo
   unfolding openedWorld
   world-is =
       rw (opens on (lent .table) (lent .staging) (a .table) (a .staging), table-is on (lent .table) (lent .staging) (a .table) (a .staging), area-is on (lent .table) (lent .staging) (a .table) (a .staging))
 
-  pub opened-rest : Inv (openedWorld mode.ReadWrite lent d w) (lent .staging) (bookOpen b) z
+  pub opened-rest : Inv (openedWorld mode.ReadWrite lent d w) (lent .staging) (modelOpen b) z
   unfolding opensAs
   opened-rest =
       rw world-is (record {
@@ -124,25 +124,25 @@ module _ {d : Disk} {b : Book} {z : List ℕ} (k : DiskOk d b z) (lent : Lent) (
         S = k .S;
         P = [];
         mh = k .mh;
-        it = rests (record { main = laid lent d .main; log = lasting (laid lent d .log) (chunkAt (length (k .S))) }) (bookOpen b) (k .l) (k .S) (k .mh) (k .mh) (openLog on)
+        it = rests (record { main = readInto lent d .main; log = lasting (readInto lent d .log) (chunkAt (length (k .S))) }) (modelOpen b) (k .l) (k .S) (k .mh) (k .mh) (openLog on)
             (chunkAt (length (k .S))) (lent .staging) (cut-on on) (open-len on) (ap (λ (h : WalHeader). h .salt) (open-header on))
             (rw (open-header on) (k .on .log .written .clock)) (a .staging) (λ n. refl) refl;
         kept = k .kept;
       })
 
-  returned : walked 1025 opensTo 0 ≡ b .sealed
+  returned : walked 1025 opensTo 0 ≡ b .committed
   unfolding opensAs
   returned =
-      let len : openLog on .len ≤ walArea = rw (open-len on) (omega (arith, sealed-len on, on .log .fits)) in
-      let fine : logFine (openLog on .len) (laid lent d .log .area) ≡ true =
-      rw (eq-eqb (length (laid lent d .log .area)) walArea (on .log .area), le-leb (openLog on .len) walArea len) in
-      let few : headerSize + frameSize * length (k .S) ≤ walArea = omega (arith, sealed-len on, on .log .fits) in
-      let front : chunks (take (chunkAt (length (k .S))) (laid lent d .log .area)) ≡ k .S =
-      ap chunks (sym (take-take (chunkAt (length (k .S))) (d .log .len) (laid lent d .log .area) (sealed-len on)) ∙ ap (λ (m : ℕ). take m (content (laid lent d .log))) (sym (point-is on)))
-      ∙ committed-sealed (content (laid lent d .log)) ∙ sealed-is on in
-      walked-is opensTo (k .S) fine refl refl front (rw (on .log .area) few) 1025 0 (omega arith) ∙ k .on .book .batches
+      let len : openLog on .len ≤ walArea = rw (open-len on) (omega (arith, committed-len on, on .log .fits)) in
+      let fine : logFine (openLog on .len) (readInto lent d .log .area) ≡ true =
+      rw (eq-eqb (length (readInto lent d .log .area)) walArea (on .log .area), le-leb (openLog on .len) walArea len) in
+      let few : headerSize + frameSize * length (k .S) ≤ walArea = omega (arith, committed-len on, on .log .fits) in
+      let front : chunks (take (chunkAt (length (k .S))) (readInto lent d .log .area)) ≡ k .S =
+      ap chunks (sym (take-take (chunkAt (length (k .S))) (d .log .len) (readInto lent d .log .area) (committed-len on)) ∙ ap (λ (m : ℕ). take m (content (readInto lent d .log))) (sym (point-is on)))
+      ∙ committed-committed (content (readInto lent d .log)) ∙ committed-is on in
+      walked-is opensTo (k .S) fine refl refl front (rw (on .log .area) few) 1025 0 (omega arith) ∙ k .on .model .batches
 
-  pub opened-returns : walked 1025 (openedWorld mode.ReadWrite lent d w) 0 ≡ b .sealed
+  pub opened-returns : walked 1025 (openedWorld mode.ReadWrite lent d w) 0 ≡ b .committed
   opened-returns = rw world-is returned
 
 -- ---- the openings that follow a cut
@@ -151,7 +151,7 @@ module _ (lent : Lent) (s : Sized lent) (x : Left) (k : LeftOk x) where
   areas : Areas lent (x .disk)
   areas = sized-areas (k .on) lent s
 
-  on-laid : OnDisk (laid lent (x .disk)) (x .book) (k .l) (k .S) (k .P) (k .t) (k .mh)
+  on-laid : OnDisk (readInto lent (x .disk)) (x .model) (k .l) (k .S) (k .P) (k .t) (k .mh)
   on-laid = laid-on (k .on) lent areas
 
   pub reopening-taken : openRefusal (reopening lent x) ≡ 0
@@ -159,11 +159,11 @@ module _ (lent : Lent) (s : Sized lent) (x : Left) (k : LeftOk x) where
   reopening-taken = rw (opens on-laid (lent .table) (lent .staging) (s .table) (s .staging))
 
   pub reopened-inv : (w : World) → InvRun (reopened lent w x)
-  unfolding reopened tells keptAfter
+  unfolding reopened modelStores keptAfter
   reopened-inv w = rw (stores-is on-laid mode.ReadWrite) (opened-rest k lent areas w)
 
   pub reopened-returns : (w : World) → Returns (reopened lent w x)
-  unfolding reopened tells
+  unfolding reopened modelStores
   reopened-returns w = rw (stores-is on-laid mode.ReadWrite) (opened-returns k lent areas w)
 
 pub cut-opening : (a : Attempt) → Sized (a .lent) → (x : Left) → LeftOk x → LeftOk (cutOpening a x)

@@ -1,4 +1,4 @@
--- An open store beside its files, at rest and with a commit or fold part done; what it reads at rest. Assumes nothing.
+-- An open store beside its files, at rest and with a commit or checkpoint part done; what it reads at rest. Assumes nothing.
 use mathlib.Core.Path.{_≡_, refl, sym, ap, _∙_}
 use mathlib.Core.Bool.{Bool, true, false, not}
 use mathlib.Core.List.{List, [], _++_}
@@ -26,7 +26,7 @@ use Rattle.pager_state.specs.Queries.{header}
 use Rattle.pager_state.specs.Opening.{placeFrom, hasPage}
 use Rattle.pager_state.specs.Pages.{pagesFrom, differs}
 use Rattle.pager_state.specs.Stores.{Disk, diskOf}
-use Rattle.pager_state.specs.Fold.{mainStored}
+use Rattle.pager_state.specs.Checkpoint.{mainStored}
 use Rattle.pager_state.specs.Steps.{stepFine}
 use Rattle.pager_state.specs.declared.Job.{Job}
 use Rattle.pager_state.specs.declared.Job.the-variants as job
@@ -35,7 +35,7 @@ use Rattle.pager_state.specs.declared.PageFound.the-variants as found
 use Rattle.pager_state.specs.declared.HeaderRead.the-variants as head
 use Rattle.pager_state.specs.declared.Staged.{Staged}
 use Rattle.pager_state.specs.declared.PageFound.{PageFound}
-use Rattle.history.specs.Book.{Book, bookRead, orElse}
+use Rattle.history.specs.Model.{Model, modelRead, orElse}
 use Rattle.history.specs.Run.{Run}
 use Rattle.history.specs.Demand3.{readingAt, Same}
 use Rattle.history.proofs.Frames.{lastIn, last-append, bodyAt, body-last, batchesOf, orGive}
@@ -44,7 +44,7 @@ use Rattle.history.proofs.Disk.{mainPage, viewOf, OnDisk, DiskOk, all-l
 
 -- ---- what an open store has, whatever is part done
 
-pub record Held (w : World) (g : List ℕ) (b : Book) (l : WalHeader) (S P : List (List ℕ)) (mh : DbHeader) : Type 0 where
+pub record Held (w : World) (g : List ℕ) (b : Model) (l : WalHeader) (S P : List (List ℕ)) (mh : DbHeader) : Type 0 where
   pub on : OnDisk (diskOf w) b l S P [] mh
   pub tableLong : length (w .table) ≡ pageLimit
   pub stagingLong : length g ≡ stagingArea
@@ -70,13 +70,13 @@ worldPage w n = pick (inLog (w .table) n) (some (logBytes (w .table) (w .log) n)
 
 -- ---- what is part done
 
-pub record Resting (w : World) (g : List ℕ) (b : Book) (l : WalHeader) (S P : List (List ℕ)) (mh : DbHeader) : Type 0 where
+pub record Resting (w : World) (g : List ℕ) (b : Model) (l : WalHeader) (S P : List (List ℕ)) (mh : DbHeader) : Type 0 where
   pub held : Held w g b l S P mh
   pub table : Tabled w (S ++ P) mh
   pub loose : Loose P
 
 -- a commit that has looked at the pages below p: their frames are behind the batches in P
-pub record Committing (h : DbHeader) (salt p : ℕ) (w : World) (g : List ℕ) (b : Book) (l : WalHeader) (S P : List (List ℕ)) (mh : DbHeader) : Type 0 where
+pub record Committing (h : DbHeader) (salt p : ℕ) (w : World) (g : List ℕ) (b : Model) (l : WalHeader) (S P : List (List ℕ)) (mh : DbHeader) : Type 0 where
   pub held : Held w g b l S P mh
   pub table : Tabled w (S ++ P) mh
   pub given : b .given ≡ h
@@ -89,8 +89,8 @@ pub record Committing (h : DbHeader) (salt p : ℕ) (w : World) (g : List ℕ) (
   pub joins : (n : ℕ) → 1 ≤ n → countOf (b .header) ≤ n → n < countOf h → isStaged (w .pager .staged) n ≡ true
   pub room : w .pager .wal .len + frameSize * (length (pagesFrom (differs g w) p) + 1) ≤ walArea
 
--- a fold that has looked at the pages below p: those that the log has stand in the main file
-pub record Folding (salt p : ℕ) (w : World) (g : List ℕ) (b : Book) (l : WalHeader) (S P : List (List ℕ)) (mh : DbHeader) : Type 0 where
+-- a checkpoint that has looked at the pages below p: those that the log has stand in the main file
+pub record Folding (salt p : ℕ) (w : World) (g : List ℕ) (b : Model) (l : WalHeader) (S P : List (List ℕ)) (mh : DbHeader) : Type 0 where
   pub held : Held w g b l S P mh
   pub table : Tabled w (S ++ P) mh
   pub loose : Loose P
@@ -99,7 +99,7 @@ pub record Folding (salt p : ℕ) (w : World) (g : List ℕ) (b : Book) (l : Wal
       → (pageFrom (pageSize * n) (w .main) ≡ x) × (pageSize * suc n ≤ w .pager .storage .len)
 
 -- the main file alone has every page, with the header that counts
-pub record Flattened (salt : ℕ) (w : World) (g : List ℕ) (b : Book) (l : WalHeader) (S P : List (List ℕ)) (mh : DbHeader) : Type 0 where
+pub record Flattened (salt : ℕ) (w : World) (g : List ℕ) (b : Model) (l : WalHeader) (S P : List (List ℕ)) (mh : DbHeader) : Type 0 where
   pub held : Held w g b l S P mh
   pub own : mh ≡ b .header
   pub flat : (n : ℕ) → 1 ≤ n → n < countOf (b .header) → b .pages n ≡ some (pageFrom (pageSize * n) (w .main))
@@ -107,15 +107,15 @@ pub record Flattened (salt : ℕ) (w : World) (g : List ℕ) (b : Book) (l : Wal
   pub fits : salt < 2 ^ 32
 
 -- and the log has its header alone
-pub record Bared (salt : ℕ) (w : World) (g : List ℕ) (b : Book) (l : WalHeader) (S P : List (List ℕ)) (mh : DbHeader) : Type 0 where
+pub record Bared (salt : ℕ) (w : World) (g : List ℕ) (b : Model) (l : WalHeader) (S P : List (List ℕ)) (mh : DbHeader) : Type 0 where
   pub held : Held w g b l S P mh
   pub own : mh ≡ b .header
-  pub noSealed : S ≡ []
+  pub noneCommitted : S ≡ []
   pub noWaiting : P ≡ []
   pub full : (n : ℕ) → 1 ≤ n → n < countOf (b .header) → getD (w .table) n 0 ≡ 0 → ⊥
   pub fits : salt < 2 ^ 32
 
--- for some log and main header; z: the sealed frames' bytes
+-- for some log and main header; z: the committed frames' bytes
 pub record Some (Q : WalHeader → List (List ℕ) → List (List ℕ) → DbHeader → Type 0) (z : List ℕ) : Type 0 where
   pub l : WalHeader
   pub S : List (List ℕ)
@@ -124,34 +124,34 @@ pub record Some (Q : WalHeader → List (List ℕ) → List (List ℕ) → DbHea
   pub it : Q l S P mh
   pub kept : joined S ≡ z
 
-abbrev pub InvJob : Job → World → List ℕ → Book → List ℕ → Type 0
+abbrev pub InvJob : Job → World → List ℕ → Model → List ℕ → Type 0
 InvJob job.Idle w g b z = Some (Resting w g b) z
 InvJob (job.Commit h salt p answer) w g b z = Some (Committing h salt p w g b) z
-InvJob (job.Fold salt p answer) w g b z = Some (Folding salt p w g b) z
+InvJob (job.Checkpoint salt p answer) w g b z = Some (Folding salt p w g b) z
 InvJob (job.MainLength salt answer) w g b z = Some (Flattened salt w g b) z
 InvJob (job.LogLength salt answer) w g b z = Some (Flattened salt w g b) z
 InvJob (job.LogHeader salt answer) w g b z = Some (Bared salt w g b) z
 
-abbrev pub Inv : World → List ℕ → Book → List ℕ → Type 0
+abbrev pub Inv : World → List ℕ → Model → List ℕ → Type 0
 Inv w g b z = InvJob (w .pager .job) w g b z
 
 -- ---- whatever is part done, the files are as they should be
 
-pub held-disk : {w : World} {g : List ℕ} {b : Book} {z : List ℕ} {l : WalHeader} {S P : List (List ℕ)} {mh : DbHeader} → Held w g b l S P mh → joined S ≡ z
+pub held-disk : {w : World} {g : List ℕ} {b : Model} {z : List ℕ} {l : WalHeader} {S P : List (List ℕ)} {mh : DbHeader} → Held w g b l S P mh → joined S ≡ z
     → DiskOk (diskOf w) b z
 held-disk {w} {g} {b} {z} {l} {S} {P} {mh} k e = record { l = l; S = S; P = P; t = []; mh = mh; on = k .on; kept = e }
 
-pub inv-disk : (j : Job) (w : World) (g : List ℕ) (b : Book) (z : List ℕ) → InvJob j w g b z → DiskOk (diskOf w) b z
+pub inv-disk : (j : Job) (w : World) (g : List ℕ) (b : Model) (z : List ℕ) → InvJob j w g b z → DiskOk (diskOf w) b z
 inv-disk job.Idle w g b z i = held-disk (i .it .held) (i .kept)
 inv-disk (job.Commit h salt p answer) w g b z i = held-disk (i .it .held) (i .kept)
-inv-disk (job.Fold salt p answer) w g b z i = held-disk (i .it .held) (i .kept)
+inv-disk (job.Checkpoint salt p answer) w g b z i = held-disk (i .it .held) (i .kept)
 inv-disk (job.MainLength salt answer) w g b z i = held-disk (i .it .held) (i .kept)
 inv-disk (job.LogLength salt answer) w g b z i = held-disk (i .it .held) (i .kept)
 inv-disk (job.LogHeader salt answer) w g b z i = held-disk (i .it .held) (i .kept)
 
 -- ---- stores in the main file, a job, and a given header leave the rest
 
-pub held-stored : {w : World} {g : List ℕ} {b : Book} {l : WalHeader} {S P : List (List ℕ)} {mh : DbHeader} → Held w g b l S P mh
+pub held-stored : {w : World} {g : List ℕ} {b : Model} {l : WalHeader} {S P : List (List ℕ)} {mh : DbHeader} → Held w g b l S P mh
     → (d : Disk) (h : DbHeader) (j : Job) (own : DbHeader) → OnDisk (diskOf (mainStored d h j w)) b l S P [] own → Held (mainStored d h j w) g b l S P own
 held-stored k d h j own o =
     record {
@@ -169,12 +169,12 @@ held-stored k d h j own o =
 
 -- ---- areas and lengths
 
-module _ {w : World} {g : List ℕ} {b : Book} {l : WalHeader} {S P : List (List ℕ)} {mh : DbHeader} (k : Held w g b l S P mh) where
+module _ {w : World} {g : List ℕ} {b : Model} {l : WalHeader} {S P : List (List ℕ)} {mh : DbHeader} (k : Held w g b l S P mh) where
   pub held-fine : fine w ≡ true
   unfolding fine
   held-fine =
       let o = k .on in
-      let c : countOf (headerOf (w .pager)) ≤ pageLimit = rw (k .header) (o .book .most) in
+      let c : countOf (headerOf (w .pager)) ≤ pageLimit = rw (k .header) (o .model .most) in
       rw (
         eq-eqb (length (w .table)) pageLimit (k .tableLong),
         eq-eqb (length (w .log)) walArea (o .log .area),
@@ -206,7 +206,7 @@ log-page : (l : List ℕ) (p : ℕ) (y : Option (List ℕ)) (t : Bool) → eqb p
 log-page l p y true e = refl
 log-page l p y false e = refl
 
-module _ {w : World} {g : List ℕ} {b : Book} {l : WalHeader} {S P : List (List ℕ)} {mh : DbHeader} (k : Held w g b l S P mh) (t : Tabled w (S ++ P) mh) where
+module _ {w : World} {g : List ℕ} {b : Model} {l : WalHeader} {S P : List (List ℕ)} {mh : DbHeader} (k : Held w g b l S P mh) (t : Tabled w (S ++ P) mh) where
   pub in-log : (n : ℕ) → n < pageLimit → bodyAt (w .log) (placeFrom n 0 (S ++ P)) ≡ lastIn n (S ++ P)
   in-log n h = body-last (w .log) n 0 (drop (w .pager .wal .len) (w .log)) (k .on .log .whole) (all-lie (k .on))
 
@@ -236,9 +236,9 @@ module _ {w : World} {g : List ℕ} {b : Book} {l : WalHeader} {S P : List (List
       let z : eqb p 0 ≡ true = not-false (eqb p 0) (rw f at e) in
       sym (in-log n h) ∙ rw z
 
-  -- where no frame of the page waits, it is the sealed frames'
-  pub page-sealed : (n : ℕ) → n < pageLimit → lastIn n P ≡ none → worldPage w n ≡ viewOf S mh (w .main) n
-  page-sealed n h e = page-view n h ∙ rw (last-append n S P, e)
+  -- where no frame of the page waits, it is the committed frames'
+  pub page-committed : (n : ℕ) → n < pageLimit → lastIn n P ≡ none → worldPage w n ≡ viewOf S mh (w .main) n
+  page-committed n h e = page-view n h ∙ rw (last-append n S P, e)
 
 pub committed-bytes : (w : World) (n : ℕ) → committedBytes w n ≡ orGive (worldPage w n) []
 unfolding committedIn
@@ -282,7 +282,7 @@ unfolding findPage
 find-number w g n =
     answer-number (readRefusal w g) (overlay (w .pager) (w .table) n) (place-number (countOf (headerOf (w .pager))) (w .pager .staged) (w .table) n)
 
-module _ (r : Run) (l : WalHeader) (S P : List (List ℕ)) (mh : DbHeader) (k : Resting (r .world) (r .staging) (r .book) l S P mh)
+module _ (r : Run) (l : WalHeader) (S P : List (List ℕ)) (mh : DbHeader) (k : Resting (r .world) (r .staging) (r .model) l S P mh)
     (idle : busy (r .world .pager) ≡ false) where
   read-none : readRefusal (r .world) (r .staging) ≡ none
   unfolding readRefusal
@@ -292,29 +292,29 @@ module _ (r : Run) (l : WalHeader) (S P : List (List ℕ)) (mh : DbHeader) (k : 
   unfolding findPage
   find-is n = rw read-none
 
-  book-staged : (n : ℕ) (t : Bool) → isStaged (r .world .pager .staged) n ≡ t
-      → r .book .staged n ≡ pick t (some (stagedBytes (r .world .pager .staged) (r .staging) n)) none
-  book-staged n t e = sym (k .held .staged n) ∙ rw e
+  model-staged : (n : ℕ) (t : Bool) → isStaged (r .world .pager .staged) n ≡ t
+      → r .model .staged n ≡ pick t (some (stagedBytes (r .world .pager .staged) (r .staging) n)) none
+  model-staged n t e = sym (k .held .staged n) ∙ rw e
 
-  below-is : (n : ℕ) → 1 ≤ n → (n < countOf (r .book .header)) ⊎ (countOf (r .book .header) < suc n)
-      → readingAt (r .world) (r .staging) (below (countOf (headerOf (r .world .pager))) (r .world .table) n) ≡ r .book .pages n
+  below-is : (n : ℕ) → 1 ≤ n → (n < countOf (r .model .header)) ⊎ (countOf (r .model .header) < suc n)
+      → readingAt (r .world) (r .staging) (below (countOf (headerOf (r .world .pager))) (r .world .table) n) ≡ r .model .pages n
   unfolding below
   below-is n h (inl c) =
-      let hn : n < pageLimit = omega (arith, k .held .on .book .most) in
+      let hn : n < pageLimit = omega (arith, k .held .on .model .most) in
       ap (λ (c : ℕ). readingAt (r .world) (r .staging) (below c (r .world .table) n)) (ap countOf (k .held .header))
-      ∙ rw (lt-leb (countOf (r .book .header)) n c)
+      ∙ rw (lt-leb (countOf (r .model .header)) n c)
       (reading-below (r .world) (r .staging) n (inLog (r .world .table) n) (onMain (r .world .table) n)
-      ∙ page-sealed (k .held) (k .table) n hn (k .loose n hn) ∙ k .held .on .book .pages n h c)
+      ∙ page-committed (k .held) (k .table) n hn (k .loose n hn) ∙ k .held .on .model .pages n h c)
   below-is n h (inr c) =
-      let q : countOf (r .book .header) ≤ n = omega arith in
+      let q : countOf (r .model .header) ≤ n = omega arith in
       ap (λ (c : ℕ). readingAt (r .world) (r .staging) (below c (r .world .table) n)) (ap countOf (k .held .header))
-      ∙ rw (le-leb (countOf (r .book .header)) n q) (sym (k .held .on .book .above n q))
+      ∙ rw (le-leb (countOf (r .model .header)) n q) (sym (k .held .on .model .above n q))
 
   page-is : (n : ℕ) → 1 ≤ n → (t : Bool) → isStaged (r .world .pager .staged) n ≡ t
-      → readingAt (r .world) (r .staging) (overlay (r .world .pager) (r .world .table) n) ≡ bookRead (r .book) n
-  unfolding placePage bookRead stagedBytes
-  page-is n h true e = rw (e, book-staged n true e)
-  page-is n h false e = rw (e, book-staged n false e) (below-is n h (le-or-lt (suc n) (countOf (r .book .header))))
+      → readingAt (r .world) (r .staging) (overlay (r .world .pager) (r .world .table) n) ≡ modelRead (r .model) n
+  unfolding placePage modelRead stagedBytes
+  page-is n h true e = rw (e, model-staged n true e)
+  page-is n h false e = rw (e, model-staged n false e) (below-is n h (le-or-lt (suc n) (countOf (r .model .header))))
 
   pub same-at-rest : Same r
   unfolding header
@@ -325,10 +325,10 @@ module _ (r : Run) (l : WalHeader) (S P : List (List ℕ)) (mh : DbHeader) (k : 
         samePage = λ n h. rw (find-is n) (page-is n h (isStaged (r .world .pager .staged) n) refl);
       }
 
-pub same-of : (r : Run) (j : Job) → r .world .pager .job ≡ j → InvJob j (r .world) (r .staging) (r .book) (r .kept) → busy (r .world .pager) ≡ false → Same r
+pub same-of : (r : Run) (j : Job) → r .world .pager .job ≡ j → InvJob j (r .world) (r .staging) (r .model) (r .kept) → busy (r .world .pager) ≡ false → Same r
 same-of r job.Idle e i f = same-at-rest r (i .l) (i .S) (i .P) (i .mh) (i .it) f
 same-of r (job.Commit h salt p answer) e i f = let z : _≡_ {A = Bool} true false = sym (ap busyWith e) ∙ f in let q : _≡_ {A = ℕ} 0 1 = cc in absurd (omega arith)
-same-of r (job.Fold salt p answer) e i f = let z : _≡_ {A = Bool} true false = sym (ap busyWith e) ∙ f in let q : _≡_ {A = ℕ} 0 1 = cc in absurd (omega arith)
+same-of r (job.Checkpoint salt p answer) e i f = let z : _≡_ {A = Bool} true false = sym (ap busyWith e) ∙ f in let q : _≡_ {A = ℕ} 0 1 = cc in absurd (omega arith)
 same-of r (job.MainLength salt answer) e i f = let z : _≡_ {A = Bool} true false = sym (ap busyWith e) ∙ f in let q : _≡_ {A = ℕ} 0 1 = cc in absurd (omega arith)
 same-of r (job.LogLength salt answer) e i f = let z : _≡_ {A = Bool} true false = sym (ap busyWith e) ∙ f in let q : _≡_ {A = ℕ} 0 1 = cc in absurd (omega arith)
 same-of r (job.LogHeader salt answer) e i f = let z : _≡_ {A = Bool} true false = sym (ap busyWith e) ∙ f in let q : _≡_ {A = ℕ} 0 1 = cc in absurd (omega arith)

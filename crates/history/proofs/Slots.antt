@@ -15,7 +15,7 @@ use Rattle.le.specs.Le.{put}
 use Rattle.le.proofs.Tests.{le-or-lt, eq-or-not}
 use Rattle.page.specs.Page.{pageSize}
 use Rattle.pager_state.specs.Overlay.{pageFrom, findIn, stagedPages, slotOf, isStaged, stagedBytes}
-use Rattle.pager_state.specs.Staging.{slotted}
+use Rattle.pager_state.specs.Staging.{withSlot}
 use Rattle.pager_state.specs.declared.Staged.{Staged}
 use Rattle.pager_state.proofs.Slots.{find-length, find-there}
 use Rattle.pager_state.specs.World.{stagingArea, stagedLimit}
@@ -125,12 +125,12 @@ module _ (s : Staged) (k : Slots s) where
       length-take pageSize (drop (pageSize * slotOf s n) g) ∙ omega (arith, length-drop (pageSize * slotOf s n) g, slot-staged n e)
 
   module _ (n : ℕ) (low : slotOf s n < stagedLimit) where
-    pub slotted-slots : Slots (slotted s (slotOf s n) n)
-    unfolding slotted
+    pub slotted-slots : Slots (withSlot s (slotOf s n) n)
+    unfolding withSlot
     slotted-slots = record { few = omega (arith, k .few); long = length-set (s .pages) (slotOf s n) n ∙ k .long }
 
-    pages-again : findIn (stagedPages s) n < length (stagedPages s) → stagedPages (slotted s (slotOf s n) n) ≡ stagedPages s
-    unfolding slotted slotOf
+    pages-again : findIn (stagedPages s) n < length (stagedPages s) → stagedPages (withSlot s (slotOf s n) n) ≡ stagedPages s
+    unfolding withSlot slotOf
     pages-again h =
         let i : ℕ = findIn (stagedPages s) n in
         let lt : i < s .count = omega (arith, slots-few) in
@@ -139,8 +139,8 @@ module _ (s : Staged) (k : Slots s) where
         let p : set (s .pages) i n ≡ s .pages = ap (λ (x : ℕ). set (s .pages) i x) (sym e) ∙ set-getD (s .pages) i 0 in
         rw (c, p)
 
-    pages-more : length (stagedPages s) ≤ findIn (stagedPages s) n → stagedPages (slotted s (slotOf s n) n) ≡ stagedPages s ++ (n ∷ [])
-    unfolding slotted slotOf
+    pages-more : length (stagedPages s) ≤ findIn (stagedPages s) n → stagedPages (withSlot s (slotOf s n) n) ≡ stagedPages s ++ (n ∷ [])
+    unfolding withSlot slotOf
     pages-more h =
         let i : ℕ = findIn (stagedPages s) n in
         let e : i ≡ s .count = omega (arith, find-length (stagedPages s) n, slots-few) in
@@ -149,7 +149,7 @@ module _ (s : Staged) (k : Slots s) where
 
     -- "that page is staged anew"
     pub staged-anew : (g bytes : List ℕ) → length g ≡ stagingArea → length bytes ≡ pageSize → (m : ℕ)
-        → stagedFor (slotted s (slotOf s n) n) (put g (pageSize * slotOf s n) bytes) m ≡ pick (eqb m n) (some bytes) (stagedFor s g m)
+        → stagedFor (withSlot s (slotOf s n) n) (put g (pageSize * slotOf s n) bytes) m ≡ pick (eqb m n) (some bytes) (stagedFor s g m)
     unfolding isStaged stagedBytes slotOf
     staged-anew g bytes hg hb m = go (le-or-lt (suc (findIn (stagedPages s) n)) (length (stagedPages s)))
       where
@@ -157,6 +157,6 @@ module _ (s : Staged) (k : Slots s) where
         room = omega (arith, slots-few, k .few)
 
         go : (findIn (stagedPages s) n < length (stagedPages s)) ⊎ (length (stagedPages s) < suc (findIn (stagedPages s) n))
-            → stagedFor (slotted s (slotOf s n) n) (put g (pageSize * slotOf s n) bytes) m ≡ pick (eqb m n) (some bytes) (stagedFor s g m)
+            → stagedFor (withSlot s (slotOf s n) n) (put g (pageSize * slotOf s n) bytes) m ≡ pick (eqb m n) (some bytes) (stagedFor s g m)
         go (inl h) = rw (pages-again h) (again (stagedPages s) g bytes n hb room h m)
         go (inr h) = rw (pages-more (omega arith)) (more (stagedPages s) g bytes n hb room (omega arith) m)

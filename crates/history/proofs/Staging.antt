@@ -18,24 +18,24 @@ use Rattle.refusal.proofs.Rows.{accepted}
 use Rattle.refusal.proofs.Judged.{met}
 use Rattle.pager_state.specs.World.{World, stagedLimit, pageLimit, stagingFine, busy, withStaged}
 use Rattle.pager_state.specs.Overlay.{slotOf, stagedAt}
-use Rattle.pager_state.specs.Staging.{stageRefusal, slotted, stagedAfter, stagingAfter, stageAfter}
+use Rattle.pager_state.specs.Staging.{stageRefusal, withSlot, stagedAfter, stagingBytes, stageAfter}
 use Rattle.pager_state.specs.Stores.{diskOf}
 use Rattle.pager_state.specs.Steps.{onStore}
 use Rattle.pager_state.specs.declared.Job.the-variants as job
 use Rattle.pager_state.specs.declared.Staged.{Staged}
 use Rattle.pager_state.proofs.Begun.{off, not-busy}
-use Rattle.history.specs.Book.{Book, bookStage, tells}
+use Rattle.history.specs.Model.{Model, modelStage, modelStores}
 use Rattle.history.specs.Calls.{Stage, refusedBy, storesOf, worldAfter}
 use Rattle.history.specs.Run.{keptAfter}
 use Rattle.history.proofs.Slots.{slotted-slots, staged-anew}
-use Rattle.history.proofs.Opening.{re-book}
+use Rattle.history.proofs.Opening.{re-model}
 use Rattle.history.proofs.Rest.{Resting, Some, Inv, held-disk}
 use Rattle.history.proofs.Running.{cut-none}
 use Rattle.history.proofs.Taken.{Taken, at-rest, rest-inv}
 
 -- ---- staging
 
-module _ (w : World) (g : List ℕ) (b : Book) (z : List ℕ) (i : Inv w g b z) (n : ℕ) (bytes : List ℕ) (ok : refusedBy (Stage n bytes) w g ≡ 0) where
+module _ (w : World) (g : List ℕ) (b : Model) (z : List ℕ) (i : Inv w g b z) (n : ℕ) (bytes : List ℕ) (ok : refusedBy (Stage n bytes) w g ≡ 0) where
   taken : stageRefusal (busy (w .pager)) (w .pager .staged) g n bytes ≡ none
   unfolding refusedBy
   taken = accepted _ ok
@@ -59,7 +59,7 @@ module _ (w : World) (g : List ℕ) (b : Book) (z : List ℕ) (i : Inv w g b z) 
       }
 
   abbrev slots′ : Staged
-  slots′ = slotted (w .pager .staged) (slotOf (w .pager .staged) n) n
+  slots′ = withSlot (w .pager .staged) (slotOf (w .pager .staged) n) n
 
   abbrev g′ : List ℕ
   g′ = put g (stagedAt (w .pager .staged) n) bytes
@@ -72,13 +72,13 @@ module _ (w : World) (g : List ℕ) (b : Book) (z : List ℕ) (i : Inv w g b z) 
   slots-is = rw taken
 
   staging-is : stageAfter (w .pager) g n bytes ≡ g′
-  unfolding stagingAfter
+  unfolding stagingBytes
   staging-is = rw taken
 
   k : Some (Resting w g b) z
   k = at-rest w g b z i (staging-ok .idle)
 
-  resting : Resting v g′ (bookStage n bytes b) (k .l) (k .S) (k .P) (k .mh)
+  resting : Resting v g′ (modelStage n bytes b) (k .l) (k .S) (k .P) (k .mh)
   resting =
       let q = k .it .held in
       let low = staging-ok .low in
@@ -86,7 +86,7 @@ module _ (w : World) (g : List ℕ) (b : Book) (z : List ℕ) (i : Inv w g b z) 
       record {
         held =
             record {
-              on = re-book (q .on) (bookStage n bytes b) refl refl refl;
+              on = re-model (q .on) (modelStage n bytes b) refl refl refl;
               tableLong = q .tableLong;
               stagingLong = length-put g (stagedAt (w .pager .staged) n) bytes (omega (arith, low, long, q .stagingLong)) ∙ q .stagingLong;
               salt = q .salt;
@@ -101,14 +101,14 @@ module _ (w : World) (g : List ℕ) (b : Book) (z : List ℕ) (i : Inv w g b z) 
         loose = k .it .loose;
       }
 
-  after-ok : Inv v g′ (bookStage n bytes b) z
-  after-ok = rest-inv v g′ (bookStage n bytes b) z (staging-ok .idle) (record { l = k .l; S = k .S; P = k .P; mh = k .mh; it = resting; kept = k .kept })
+  after-ok : Inv v g′ (modelStage n bytes b) z
+  after-ok = rest-inv v g′ (modelStage n bytes b) z (staging-ok .idle) (record { l = k .l; S = k .S; P = k .P; mh = k .mh; it = resting; kept = k .kept })
 
   pub stage-ok : Taken (Stage n bytes) w g b z
-  unfolding storesOf worldAfter tells keptAfter
+  unfolding storesOf worldAfter modelStores keptAfter
   stage-ok =
       record {
-        after = subst (λ (s : Staged). Inv (onStore w (withStaged (w .pager) s)) (stageAfter (w .pager) g n bytes) (bookStage n bytes b) z) (sym slots-is)
-            (subst (λ (h : List ℕ). Inv v h (bookStage n bytes b) z) (sym staging-is) after-ok);
-        cut = cut-none [] (diskOf w) (bookStage n bytes b) z (held-disk (resting .held) (k .kept));
+        after = subst (λ (s : Staged). Inv (onStore w (withStaged (w .pager) s)) (stageAfter (w .pager) g n bytes) (modelStage n bytes b) z) (sym slots-is)
+            (subst (λ (h : List ℕ). Inv v h (modelStage n bytes b) z) (sym staging-is) after-ok);
+        cut = cut-none [] (diskOf w) (modelStage n bytes b) z (held-disk (resting .held) (k .kept));
       }

@@ -1,4 +1,4 @@
--- One store of a commit or fold: what is to be shown of it, and what a commit's frames share. Assumes nothing.
+-- One store of a commit or checkpoint: what is to be shown of it, and what a commit's frames share. Assumes nothing.
 use mathlib.Core.Path.{_≡_, refl, sym, ap, _∙_}
 use mathlib.Core.Bool.{Bool, true, false, not}
 use mathlib.Core.List.{List, [], _∷_, _++_}
@@ -22,7 +22,7 @@ use Rattle.pager_state.specs.Pages.{differsIn, differs}
 use Rattle.pager_state.specs.Stores.{diskOf, Act, Put, SetLen, kindOf, inside, stored, cutStore, sizeOf}
 use Rattle.pager_state.specs.Commit as commit
 use Rattle.pager_state.specs.Steps.{todo, advance, stepFine}
-use Rattle.history.specs.Book.{Book, tell}
+use Rattle.history.specs.Model.{Model, modelStore}
 use Rattle.history.specs.Run.{keptBy}
 use Rattle.history.proofs.Frames.{place-same, place-other, orGive}
 use Rattle.history.proofs.Disk.{DiskOk}
@@ -34,7 +34,7 @@ Covers (Put k f at bs flush) = (headerSize ≤ at + length bs) × (1 ≤ length 
 Covers (SetLen k f n flush) = Unit {0}
 
 -- the next store, and the store after it
-pub record StepOk (g : List ℕ) (w : World) (b : Book) (z : List ℕ) : Type 0 where
+pub record StepOk (g : List ℕ) (w : World) (b : Model) (z : List ℕ) : Type 0 where
   pub act : Act
   pub rest : List Act
   pub next : World
@@ -45,17 +45,17 @@ pub record StepOk (g : List ℕ) (w : World) (b : Book) (z : List ℕ) : Type 0 
   pub fine : stepFine g w ≡ true
   pub disk : diskOf next ≡ stored act (diskOf w)
   pub left : todo g next ≡ rest
-  pub after : Inv next g (tell [] (kindOf act) b) (keptBy act (stored act (diskOf w)) z)
+  pub after : Inv next g (modelStore [] (kindOf act) b) (keptBy act (stored act (diskOf w)) z)
   pub cut : (k : ℕ) → k < sizeOf act → DiskOk (cutStore act k (diskOf w)) b z
 
 -- ---- the table with a frame entered
 
 pub table-entered : (t : List ℕ) (fs : List (List ℕ)) (mh : DbHeader) (f : List ℕ) (n at : ℕ) → length t ≡ pageLimit → n < pageLimit → pageOf f ≡ n → at ≡ chunkAt (length fs)
     → ((m : ℕ) → m < pageLimit → getD t m 0 ≡ entry (placeFrom m 0 fs) (hasPage mh m))
-    → (m : ℕ) → m < pageLimit → getD (commit.entered t n at) m 0 ≡ entry (placeFrom m 0 (fs ++ (f ∷ []))) (hasPage mh m)
+    → (m : ℕ) → m < pageLimit → getD (commit.withEntry t n at) m 0 ≡ entry (placeFrom m 0 (fs ++ (f ∷ []))) (hasPage mh m)
 table-entered t fs mh f n at tl hn e a k m hm = go (eq-or-not m n)
   where
-    go : (m ≡ n) ⊎ (m ≡ n → ⊥) → getD (commit.entered t n at) m 0 ≡ entry (placeFrom m 0 (fs ++ (f ∷ []))) (hasPage mh m)
+    go : (m ≡ n) ⊎ (m ≡ n → ⊥) → getD (commit.withEntry t n at) m 0 ≡ entry (placeFrom m 0 (fs ++ (f ∷ []))) (hasPage mh m)
     go (inl q) =
         let o : onMain t n ≡ hasPage mh n = entry-main t n (placeFrom n 0 fs) (hasPage mh n) (k n hn) in
         let s : getD (set t n (entry at (onMain t n))) n 0 ≡ entry at (onMain t n) = getD-set-same t n (entry at (onMain t n)) 0 (omega arith) in

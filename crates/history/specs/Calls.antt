@@ -21,7 +21,7 @@ use Rattle.pager_state.specs.declared.FileKind.the-variants as file
 use Rattle.pager_state.specs.declared.Pager.{Pager}
 use Rattle.pager_state.specs.Opened.{Opens}
 use Rattle.pager_state.specs.Opened as opened
-use Rattle.history.specs.Book.{Book, give, bookStage, bookClear, bookOpen}
+use Rattle.history.specs.Model.{Model, modelHeader, modelStage, modelClear, modelOpen}
 
 -- the areas lent to an opening, with whatever bytes they had; both files are read into them
 pub record Lent : Type 0 where
@@ -58,15 +58,15 @@ abbrev pub cleanly : AccessMode → How
 cleanly m = record { clean = true; access = m; exists = true; salt = 0 }
 
 -- "Each opening is given both files as they lie": a file read into an area that had any bytes
-abbrev pub laidIn : List ℕ → File → File
-laidIn area f = record { area = content f ++ drop (f .len) area; len = f .len }
+abbrev pub fileReadInto : List ℕ → File → File
+fileReadInto area f = record { area = content f ++ drop (f .len) area; len = f .len }
 
-abbrev pub laid : Lent → Disk → Disk
-laid lent d = record { main = laidIn (lent .main) (d .main); log = laidIn (lent .log) (d .log) }
+abbrev pub readInto : Lent → Disk → Disk
+readInto lent d = record { main = fileReadInto (lent .main) (d .main); log = fileReadInto (lent .log) (d .log) }
 
 -- what one answers
 abbrev pub opening : AccessMode → Lent → Disk → Opens
-opening m lent d = openPager (cleanly m) (lent .table) (laid lent d) (lent .staging)
+opening m lent d = openPager (cleanly m) (lent .table) (readInto lent d) (lent .staging)
 
 -- the store that it gives; a refusal leaves the one before
 abbrev pub openedOr : Opens → World → List ℕ → List ℕ → List ℕ → World
@@ -75,49 +75,49 @@ openedOr (opened.Refused r) w t l m = w
 
 unfoldable pub openedWorld : AccessMode → Lent → Disk → World → World
 openedWorld m lent d w =
-    let x = laid lent d in
+    let x = readInto lent d in
     let t = lent .table in
     let g = lent .staging in
     openedOr (opening m lent d) w (openTable (cleanly m) t x g) (openLogArea (cleanly m) t x g) (x .main .area)
 
 -- ---- the table
 
--- what a call does to a store w with staging area g and to the book
+-- what a call does to a store w with staging area g and to the model
 pub record Effect : Type 1 where
   pub refusal : World → List ℕ → ℕ  -- its number; 0: not refused
   pub stores : World → List ℕ → List Act  -- "the stores that this document gives the call"
   pub world : World → List ℕ → World  -- the store after it
   pub staging : World → List ℕ → List ℕ  -- the staging area after it
-  pub book : Book → Book  -- "Staging", "Clean opening", the header that a commit is given: the book before the stores
+  pub model : Model → Model  -- "Staging", "Clean opening", the header that a commit is given: the model before the stores
   pub body : List ℕ  -- the batch body that it is lent
   pub opens : Bool  -- whether it is an opening
   pub typed : Type 0  -- what the types of its arguments let through
 
--- "Idle, read, clock: no change"; of a batch append and a fold the book hears the stores alone
-abbrev pub untold : Book → Book
-untold b = b
+-- "Idle, read, clock: no change"; of a batch append and a checkpoint the model hears the stores alone
+abbrev pub unchanged : Model → Model
+unchanged b = b
 
 -- a call that is no opening, is lent no batch and leaves the staging area
-abbrev pub storing : (World → List ℕ → ℕ) → (World → List ℕ → List Act) → (World → List ℕ → World) → (Book → Book) → Type 0 → Effect
-storing refusal stores world book typed =
+abbrev pub storing : (World → List ℕ → ℕ) → (World → List ℕ → List Act) → (World → List ℕ → World) → (Model → Model) → Type 0 → Effect
+storing refusal stores world model typed =
     record {
       refusal = refusal;
       stores = stores;
       world = world;
       staging = λ w g. g;
-      book = book;
+      model = model;
       body = [];
       opens = false;
       typed = typed;
     }
 
 -- one that changes the open store alone
-abbrev pub unstored : (World → List ℕ → ℕ) → (World → List ℕ → Pager) → (Book → Book) → Type 0 → Effect
-unstored refusal pager book typed = storing refusal (λ w g. []) (λ w g. onStore w (pager w g)) book typed
+abbrev pub unstored : (World → List ℕ → ℕ) → (World → List ℕ → Pager) → (Model → Model) → Type 0 → Effect
+unstored refusal pager model typed = storing refusal (λ w g. []) (λ w g. onStore w (pager w g)) model typed
 
 -- one that changes nothing
 abbrev pub query : (World → List ℕ → ℕ) → Effect
-query refusal = storing refusal (λ w g. []) (λ w g. w) untold (Unit {0})
+query refusal = storing refusal (λ w g. []) (λ w g. w) unchanged (Unit {0})
 
 -- the words of a header that a commit is given
 pub record Words (h : DbHeader) : Type 0 where
@@ -138,11 +138,11 @@ effect (Ask q) = query (queryRefusal q)
 effect (Open m lent) =
     record {
       refusal = λ w g. openRefusal (opening m lent (diskOf w));
-      stores = λ w g. openStores (cleanly m) (laid lent (diskOf w));
+      stores = λ w g. openStores (cleanly m) (readInto lent (diskOf w));
       world = λ w g. openedWorld m lent (diskOf w) w;
       -- it is lent another, unless it is refused
       staging = λ w g. pick (eqb (openRefusal (opening m lent (diskOf w))) 0) (lent .staging) g;
-      book = bookOpen;
+      model = modelOpen;
       body = [];
       opens = true;
       typed = Unit {0};
@@ -153,35 +153,35 @@ effect (Stage n bytes) =
       stores = λ w g. [];
       world = λ w g. onStore w (stagePage (w .pager) g n bytes .pager);
       staging = λ w g. stageAfter (w .pager) g n bytes;
-      book = bookStage n bytes;
+      model = modelStage n bytes;
       body = [];
       opens = false;
       typed = Bytes bytes;
     }
-effect Clear = unstored (λ w g. numberOf (busyRefusal (w .pager))) (λ w g. clearStaged (w .pager) .pager) bookClear (Unit {0})
+effect Clear = unstored (λ w g. numberOf (busyRefusal (w .pager))) (λ w g. clearStaged (w .pager) .pager) modelClear (Unit {0})
 effect (Append body) =
     record {
       refusal = λ w g. numberOf (appendRefusal (w .pager) (w .log) body);
       stores = λ w g. Put Batched file.Log (w .pager .wal .len) (batchFrame (w .pager) body) false ∷ [];
       world = λ w g. world (appendBatch (w .pager) (w .log) body .pager) (w .table) (appendAfter (w .pager) (w .log) body) (w .main);
       staging = λ w g. g;
-      book = untold;
+      model = unchanged;
       body = body;
       opens = false;
       typed = Bytes body;
     }
-effect (Observe c) = unstored (λ w g. numberOf (busyRefusal (w .pager))) (λ w g. observeClock (w .pager) c .pager) untold (c < 2 ^ 64)
+effect (Observe c) = unstored (λ w g. numberOf (busyRefusal (w .pager))) (λ w g. observeClock (w .pager) c .pager) unchanged (c < 2 ^ 64)
 effect (Commit h salt) =
-    storing (λ w g. numberOf (commitRefusal g w h)) (λ w g. todo g (onStore w (beginCommit g w h salt .pager))) (λ w g. commitWorld g w h salt) (give h)
+    storing (λ w g. numberOf (commitRefusal g w h)) (λ w g. todo g (onStore w (beginCommit g w h salt .pager))) (λ w g. commitWorld g w h salt) (modelHeader h)
     (Words h × (salt < 2 ^ 32))
 effect (Checkpoint salt) =
-    storing (λ w g. numberOf (checkpointRefusal g w)) (λ w g. todo g (onStore w (beginCheckpoint g w salt .pager))) (λ w g. checkpointWorld g w salt) untold
+    storing (λ w g. numberOf (checkpointRefusal g w)) (λ w g. todo g (onStore w (beginCheckpoint g w salt .pager))) (λ w g. checkpointWorld g w salt) unchanged
     (salt < 2 ^ 32)
 effect (BeginCommit h salt) =
-    unstored (λ w g. numberOf (commitRefusal g w h)) (λ w g. beginCommit g w h salt .pager) (give h) (Words h × (salt < 2 ^ 32))
+    unstored (λ w g. numberOf (commitRefusal g w h)) (λ w g. beginCommit g w h salt .pager) (modelHeader h) (Words h × (salt < 2 ^ 32))
 effect (BeginCheckpoint salt) =
-    unstored (λ w g. numberOf (checkpointRefusal g w)) (λ w g. beginCheckpoint g w salt .pager) untold (salt < 2 ^ 32)
-effect Step = storing (λ w g. stepRefusal (stepAnswer g w)) (λ w g. take 1 (todo g w)) (λ w g. stepped g w) untold (Unit {0})
+    unstored (λ w g. numberOf (checkpointRefusal g w)) (λ w g. beginCheckpoint g w salt .pager) unchanged (salt < 2 ^ 32)
+effect Step = storing (λ w g. stepRefusal (stepAnswer g w)) (λ w g. take 1 (todo g w)) (λ w g. stepped g w) unchanged (Unit {0})
 
 -- ---- its columns
 
@@ -197,8 +197,8 @@ worldAfter c w g = effect c .world w g
 abbrev pub stagingAfter : Call → World → List ℕ → List ℕ
 stagingAfter c w g = effect c .staging w g
 
-abbrev pub bookFirst : Call → Book → Book
-bookFirst c b = effect c .book b
+abbrev pub modelFirst : Call → Model → Model
+modelFirst c b = effect c .model b
 
 abbrev pub bodyLent : Call → List ℕ
 bodyLent c = effect c .body

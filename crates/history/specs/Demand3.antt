@@ -18,7 +18,7 @@ use Rattle.pager_state.specs.declared.PageFound.{PageFound}
 use Rattle.pager_state.specs.declared.PageFound.the-variants as found
 use Rattle.pager_state.specs.declared.RecoveredFound.{RecoveredFound}
 use Rattle.pager_state.specs.declared.RecoveredFound.the-variants as batch
-use Rattle.history.specs.Book.{Batch, batchIn, bookRead}
+use Rattle.history.specs.Model.{Batch, batchIn, modelRead}
 use Rattle.history.specs.Calls.{Lent, Call, effect, refusedBy}
 use Rattle.history.specs.Run.{Run, Left, cutCall, Attempt, cutOpening, reopening, reopened, whole, Event, Whole, Cut, next, start}
 
@@ -34,9 +34,9 @@ readingAt w g (found.Refused r) = none
 
 -- "the store's header and the reading of every page from 1 up"; neither is refused
 pub record Same (r : Run) : Type 0 where
-  pub sameHeader : header (r .world .pager) ≡ head.Header (r .book .header)
+  pub sameHeader : header (r .world .pager) ≡ head.Header (r .model .header)
   pub answered : (n : ℕ) → findRefusal (findPage (r .world) (r .staging) n) ≡ 0
-  pub samePage : (n : ℕ) → 1 ≤ n → readingAt (r .world) (r .staging) (findPage (r .world) (r .staging) n) ≡ bookRead (r .book) n
+  pub samePage : (n : ℕ) → 1 ≤ n → readingAt (r .world) (r .staging) (findPage (r .world) (r .staging) n) ≡ modelRead (r .model) n
 
 -- "with nothing part done"
 abbrev pub AtRest : Run → Type 0 → Type 0
@@ -54,7 +54,7 @@ walked (suc k) w i = walkedAt (nextRecovered (w .pager) (w .log) i) (w .log) (wa
 
 -- "each opening that isn't refused or cut returns exactly the book's sealed batches .., in order"
 abbrev pub Returns : Run → Type 0
-Returns r = walked 1025 (r .world) 0 ≡ r .book .sealed
+Returns r = walked 1025 (r .world) 0 ≡ r .model .committed
 
 -- ---- "no sealed log byte alters between folds"
 
@@ -71,7 +71,7 @@ Intact c r = (j k : ℕ) → Kept (cutCall c j k r)
 abbrev pub OpenedWhole : Call → Run → Type 0
 OpenedWhole c r = effect c .opens ≡ true → refusedBy c (r .world) (r .staging) ≡ 0 → Returns (whole c r)
 
--- the openings after a cut: sealed bytes lie there before and after each, also where it is cut; the last is not refused and returns the book's batches
+-- the openings after a cut: committed bytes lie there before and after each, also where it is cut; the last is not refused and returns the model's batches
 abbrev pub Reopens : List Attempt → Lent → World → Left → Type 0
 Reopens [] lent w x = Kept x × ((openRefusal (reopening lent x) ≡ 0) × Returns (reopened lent w x))
 Reopens (a ∷ rest) lent w x = Kept x × Reopens rest lent w (cutOpening a x)

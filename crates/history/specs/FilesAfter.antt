@@ -1,4 +1,4 @@
--- Beside demand 3: the files after a call that is not cut, and the sealed bytes between folds. Proved in proofs/FilesAfter.antt.
+-- Beside demand 3: the files after a call that is not cut, and the committed bytes between checkpoints. Proved in proofs/FilesAfter.antt.
 use mathlib.Core.Path.{_≡_}
 use mathlib.Core.List.{List, [], _∷_, _++_}
 use Prim.Native.Nat.{ℕ}
@@ -28,11 +28,11 @@ FilesAfter =
 
 -- ---- "no sealed log byte alters between folds"
 
--- none of the stores is a fold's log length 32
+-- none of the stores is a checkpoint's log length 32
 abbrev pub Unemptied : List Act → Type 0
 Unemptied [] = Unit {0}
 Unemptied (a ∷ acts) = (kindOf a ≡ Emptied → ⊥) × Unemptied acts
 
--- such stores leave the bytes sealed before them in front
-unfoldable pub SealedGrow : Type 0
-SealedGrow = (acts : List Act) (d : Disk) (z : List ℕ) → Unemptied acts → (more : List ℕ) × (keptAfter acts d z ≡ z ++ more)
+-- such stores leave the bytes committed before them in front
+unfoldable pub CommittedGrow : Type 0
+CommittedGrow = (acts : List Act) (d : Disk) (z : List ℕ) → Unemptied acts → (more : List ℕ) × (keptAfter acts d z ≡ z ++ more)

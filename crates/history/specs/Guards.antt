@@ -1,4 +1,4 @@
--- Statements which show that the definitions and demand 3 are not empty: what is refused and what is not, what a commit, a fold and an
+-- Statements which show that the definitions and demand 3 are not empty: what is refused and what is not, what a commit, a checkpoint and an
 -- opening come to. Each is proved in proofs/Guards.antt. Numbers are document 01's.
 use mathlib.Core.Path.{_≡_}
 use mathlib.Core.Bool.{true, false}
@@ -18,12 +18,13 @@ use Rattle.mvcc.specs.Batch.{tombstone, encodeBody}
 use Rattle.mvcc.specs.Seen.{refusalOf, decodes}
 use Rattle.wal.specs.Header.{headerSize}
 use Rattle.wal.specs.Recovery.{walArea}
+use Rattle.pager_state.specs.Commit.{checkpointFrames}
 use Rattle.pager_state.specs.World.{World, mainArea, stagingArea, stagedLimit, pageLimit, countOf, headerOf, readOnly, withStaged}
 use Rattle.pager_state.specs.Overlay.{pageFrom, isStaged, frameOf, inLog, onMain, logBytes, findPage, readPage}
 use Rattle.pager_state.specs.Queries.{header}
 use Rattle.pager_state.specs.Batches.{appendBatch}
 use Rattle.pager_state.specs.Opening.{firstHeader, createFine}
-use Rattle.pager_state.specs.Steps.{differing, commitStart, commitAnswer, commitWorld, stepFine, checkpointStart, folding, checkpointAnswer, checkpointWorld, onStore}
+use Rattle.pager_state.specs.Steps.{differing, commitStart, commitAnswer, commitWorld, stepFine, checkpointStart, checkpointCount, checkpointAnswer, checkpointWorld, onStore}
 use Rattle.pager_state.specs.declared.AccessMode.the-variants as mode
 use Rattle.pager_state.specs.declared.Staged.{Staged}
 use Rattle.pager_state.specs.declared.Job.the-variants as job
@@ -34,7 +35,7 @@ use Rattle.pager_state.specs.declared.HeaderRead.the-variants as head
 use Rattle.pager_state.specs.declared.CheckpointStart.the-variants as checkpoint
 use Rattle.pager_state.specs.declared.CheckpointAnswer.the-variants as written
 use Rattle.pager_state.specs.declared.BatchAnswer.the-variants as append
-use Rattle.history.specs.Book.{batchIn}
+use Rattle.history.specs.Model.{batchIn}
 use Rattle.history.specs.Calls.{Lent, ReadMode, Call, Ask, Open, Stage, Append, Commit, Checkpoint, Words, refusedBy}
 use Rattle.history.specs.Run.{Run, whole, Attempt, Event, Whole, Cut, next, start}
 use Rattle.history.specs.Demand3.{readingAt, walked, Sized, AllSized, AllTyped}
@@ -82,7 +83,7 @@ pub record Unrefused (g : List ℕ) (w : World) (h : DbHeader) : Type 0 where
 abbrev pub Full : Pager → ℕ → Type 0
 Full p n = walArea < p .wal .len + frameSize * n
 
--- a commit adds its differing pages and the seal
+-- a commit adds its differing pages and the commit frame
 unfoldable pub LogFullGuard : Type 0
 LogFullGuard =
     (g : List ℕ) (w : World) (h : DbHeader)
@@ -146,8 +147,8 @@ pub record Empty (v : World) : Type 0 where
 -- "answer: number of differing pages"; "At 100 frames or more it then folds": "A commit bringing frames to 99 doesn't fold; to 100 does"
 pub record Ends (g : List ℕ) (w : World) (h : DbHeader) (salt : ℕ) : Type 0 where
   pub answer : commitAnswer g w h ≡ committed.Committed (differing g w)
-  pub below : w .pager .wal .«frame_count» + (differing g w + 1) < 100 → LongerBy w (commitWorld g w h salt) (differing g w + 1)
-  pub above : 100 ≤ w .pager .wal .«frame_count» + (differing g w + 1) → Empty (commitWorld g w h salt)
+  pub below : w .pager .wal .«frame_count» + (differing g w + 1) < checkpointFrames → LongerBy w (commitWorld g w h salt) (differing g w + 1)
+  pub above : checkpointFrames ≤ w .pager .wal .«frame_count» + (differing g w + 1) → Empty (commitWorld g w h salt)
 
 -- in any store, made up or not, whose frame count does not wrap
 unfoldable pub CommitEndsGuard : Type 0
@@ -155,7 +156,7 @@ CommitEndsGuard =
     (g : List ℕ) (w : World) (h : DbHeader) (salt : ℕ) → length (w .pager .staged .pages) ≡ stagedLimit → w .pager .wal .«frame_count» ≤ 1024
     → commitStart g w h ≡ commit.Begun → Ends g w h salt
 
--- with nothing staged in a new store: one frame, the seal
+-- with nothing staged in a new store: one frame, the commit frame
 pub record CommittedAlone (g : List ℕ) (w : World) (h : DbHeader) (salt : ℕ) : Type 0 where
   pub begun : commitStart g w h ≡ commit.Begun
   pub answer : commitAnswer g w h ≡ committed.Committed 0
@@ -168,10 +169,10 @@ EmptyCommitGuard =
     (t l m g : List ℕ) (salt : ℕ) → createFine t l m g ≡ true → (h : DbHeader) → GoodHeader h → countOf h ≤ 2 → (next : ℕ)
     → CommittedAlone g (newStore t l m g salt) h next
 
--- ---- a fold leaves log length 32 and its pages in the main file
+-- ---- a checkpoint leaves log length 32 and its pages in the main file
 
--- v is the store that a fold of w leaves: each page below the count that the log had is in the main file, and the main file's own stay
-pub record FoldedTo (w v : World) : Type 0 where
+-- v is the store that a checkpoint of w leaves: each page below the count that the log had is in the main file, and the main file's own stay
+pub record CheckpointedTo (w v : World) : Type 0 where
   pub empty : Empty v
   pub staged : v .pager .staged ≡ w .pager .staged
   pub mainFile : v .pager .storage .len ≡ pageSize * countOf (headerOf (w .pager))
@@ -185,10 +186,10 @@ abbrev pub FramesInside : World → Type 0
 FramesInside w = (n : ℕ) → n < pageLimit → inLog (w .table) n ≡ true → frameOf (w .table) n + frameSize ≤ w .pager .wal .len
 
 -- "It answers the pages written"
-unfoldable pub FoldGuard : Type 0
-FoldGuard =
+unfoldable pub CheckpointGuard : Type 0
+CheckpointGuard =
     (g : List ℕ) (w : World) (salt : ℕ) → length (w .pager .staged .pages) ≡ stagedLimit → FramesInside w → checkpointStart g w ≡ checkpoint.Begun
-    → (checkpointAnswer g w ≡ written.Written (folding w)) × FoldedTo w (checkpointWorld g w salt)
+    → (checkpointAnswer g w ≡ written.Written (checkpointCount w)) × CheckpointedTo w (checkpointWorld g w salt)
 
 -- ---- histories
 
@@ -204,7 +205,7 @@ AtFirst P = (t l m g : List ℕ) (salt : ℕ) → createFine t l m g ≡ true �
 abbrev pub Always : (Run → Type 0) → Type 0
 Always P = AtFirst (λ (r : Run). (es : List Event) → AllTyped es → P (after es r))
 
--- what the guards of commits and folds ask, and more
+-- what the guards of commits and checkpoints ask, and more
 abbrev pub Sound : Run → Type 0
 Sound r = (length (r .world .pager .staged .pages) ≡ stagedLimit) × (r .world .pager .job ≡ job.Idle → FramesInside (r .world))
 
@@ -235,14 +236,14 @@ HeaderGuard =
 abbrev pub reading : Run → ℕ → Option (List ℕ)
 reading r n = readingAt (r .world) (r .staging) (findPage (r .world) (r .staging) n)
 
--- at once, after a clean opening, after the power is lost there and in openings too, and after a fold
+-- at once, after a clean opening, after the power is lost there and in openings too, and after a checkpoint
 pub record ReadsBack (r : Run) (n : ℕ) (x : List ℕ) : Type 0 where
   pub now : reading r n ≡ some x
   pub bytes : readPage (r .world) (r .staging) n ≡ x
   pub opens : (lent : Lent) → Sized lent → Accepted (Open mode.ReadWrite lent) r
   pub opened : (lent : Lent) → Sized lent → reading (whole (Open mode.ReadWrite lent) r) n ≡ some x
   pub lost : (attempts : List Attempt) → AllSized attempts → (lent : Lent) → Sized lent → reading (next (Cut (Ask ReadMode) 0 0 attempts lent) r) n ≡ some x
-  pub folded : (salt : ℕ) → salt < 2 ^ 32 → Accepted (Checkpoint salt) r → reading (whole (Checkpoint salt) r) n ≡ some x
+  pub checkpointed : (salt : ℕ) → salt < 2 ^ 32 → Accepted (Checkpoint salt) r → reading (whole (Checkpoint salt) r) n ≡ some x
 
 -- the store with the page staged and then committed
 abbrev pub committedPage : ℕ → List ℕ → DbHeader → ℕ → Run → Run
@@ -255,13 +256,13 @@ PageGuard =
     (n : ℕ) (bytes : List ℕ) (h : DbHeader) (salt : ℕ) → Bytes bytes → Words h → salt < 2 ^ 32 → Accepted (Stage n bytes) r
     → Accepted (Commit h salt) (whole (Stage n bytes) r) → 1 ≤ n → n < countOf h → ReadsBack (committedPage n bytes h salt r) n bytes)
 
--- in a new store neither is refused, nor is a fold behind them, which leaves the page in the main file
+-- in a new store neither is refused, nor is a checkpoint behind them, which leaves the page in the main file
 pub record Keeps (r : Run) (bytes : List ℕ) (h : DbHeader) (salt : ℕ) : Type 0 where
   pub staged : Accepted (Stage 1 bytes) r
   pub committed : Accepted (Commit h salt) (whole (Stage 1 bytes) r)
   pub reads : ReadsBack (committedPage 1 bytes h salt r) 1 bytes
-  pub folds : checkpointStart (committedPage 1 bytes h salt r .staging) (committedPage 1 bytes h salt r .world) ≡ checkpoint.Begun
-  pub folded : (next : ℕ) → next < 2 ^ 32 → pageFrom pageSize (whole (Checkpoint next) (committedPage 1 bytes h salt r) .world .main) ≡ bytes
+  pub begins : checkpointStart (committedPage 1 bytes h salt r .staging) (committedPage 1 bytes h salt r .world) ≡ checkpoint.Begun
+  pub checkpointed : (next : ℕ) → next < 2 ^ 32 → pageFrom pageSize (whole (Checkpoint next) (committedPage 1 bytes h salt r) .world .main) ≡ bytes
 
 unfoldable pub NewPageGuard : Type 0
 NewPageGuard =
@@ -269,17 +270,17 @@ NewPageGuard =
     (bytes : List ℕ) (h : DbHeader) (salt : ℕ) → length bytes ≡ pageSize → Bytes bytes → Words h → GoodHeader h → countOf h ≡ 2 → salt < 2 ^ 32
     → Keeps r bytes h salt)
 
--- ---- a batch that is appended and sealed is returned
+-- ---- a batch that is appended and committed is returned
 
 -- the store with the batch appended and then a commit
-abbrev pub sealedBatch : List ℕ → DbHeader → ℕ → Run → Run
-sealedBatch body h salt r = whole (Commit h salt) (whole (Append body) r)
+abbrev pub committedBatch : List ℕ → DbHeader → ℕ → Run → Run
+committedBatch body h salt r = whole (Commit h salt) (whole (Append body) r)
 
--- by the book, and by a clean opening; unless the commit brings on a fold
+-- by the model, and by a clean opening; unless the commit brings on a checkpoint
 pub record Returned (r : Run) (body : List ℕ) (h : DbHeader) (salt : ℕ) : Type 0 where
-  pub sealed : sealedBatch body h salt r .book .sealed ≡ r .book .sealed ++ (r .book .waiting ++ (batchIn body ∷ []))
+  pub batches : committedBatch body h salt r .model .committed ≡ r .model .committed ++ (r .model .waiting ++ (batchIn body ∷ []))
   pub opened : (lent : Lent) → Sized lent
-      → walked 1025 (whole (Open mode.ReadWrite lent) (sealedBatch body h salt r) .world) 0 ≡ r .book .sealed ++ (r .book .waiting ++ (batchIn body ∷ []))
+      → walked 1025 (whole (Open mode.ReadWrite lent) (committedBatch body h salt r) .world) 0 ≡ r .model .committed ++ (r .model .waiting ++ (batchIn body ∷ []))
 
 -- to so many frames a commit brings the log
 abbrev pub framesAfter : Run → ℕ
@@ -290,14 +291,14 @@ unfoldable pub BatchGuard : Type 0
 BatchGuard =
     Always (λ (r : Run).
     (body : List ℕ) (h : DbHeader) (salt : ℕ) → Bytes body → Words h → salt < 2 ^ 32 → Accepted (Append body) r
-    → Accepted (Commit h salt) (whole (Append body) r) → framesAfter (whole (Append body) r) < 100 → Returned r body h salt)
+    → Accepted (Commit h salt) (whole (Append body) r) → framesAfter (whole (Append body) r) < checkpointFrames → Returned r body h salt)
 
 -- in a new store neither is refused, and this batch is all
 pub record Recovers (r : Run) (body : List ℕ) (h : DbHeader) (salt : ℕ) : Type 0 where
   pub appended : Accepted (Append body) r
   pub committed : Accepted (Commit h salt) (whole (Append body) r)
-  pub sealed : sealedBatch body h salt r .book .sealed ≡ batchIn body ∷ []
-  pub opened : (lent : Lent) → Sized lent → walked 1025 (whole (Open mode.ReadWrite lent) (sealedBatch body h salt r) .world) 0 ≡ batchIn body ∷ []
+  pub batches : committedBatch body h salt r .model .committed ≡ batchIn body ∷ []
+  pub opened : (lent : Lent) → Sized lent → walked 1025 (whole (Open mode.ReadWrite lent) (committedBatch body h salt r) .world) 0 ≡ batchIn body ∷ []
 
 unfoldable pub NewBatchGuard : Type 0
 NewBatchGuard =
@@ -305,11 +306,11 @@ NewBatchGuard =
     (body : List ℕ) (h : DbHeader) (salt : ℕ) → length body ≤ pageSize → Bytes body → decodes body ≡ true → Words h → GoodHeader h → countOf h ≤ 2
     → salt < 2 ^ 32 → Recovers r body h salt)
 
--- 1,024 batches fill a log: up to 1,023 of them leave room for a commit with nothing staged, which from 99 of them on brings on a fold
+-- 1,024 batches fill a log: up to 1,023 of them leave room for a commit with nothing staged, which from 99 of them on brings on a checkpoint
 pub record Filled (r : Run) (body : List ℕ) (h : DbHeader) (k : ℕ) : Type 0 where
   pub logFile : r .world .pager .wal .len ≡ headerSize + frameSize * k
   pub longer : k < 99 → (salt : ℕ) → LongerBy (r .world) (commitWorld (r .staging) (r .world) h salt) 1
-  pub folded : 99 ≤ k → k < 1024 → (salt : ℕ) → Empty (commitWorld (r .staging) (r .world) h salt)
+  pub checkpointed : 99 ≤ k → k < 1024 → (salt : ℕ) → Empty (commitWorld (r .staging) (r .world) h salt)
   pub room : k < 1024 → commitStart (r .staging) (r .world) h ≡ commit.Begun
   pub full : k ≡ 1024 → commitStart (r .staging) (r .world) h ≡ commit.Refused refusal.LogFull
   pub fullBatch : k ≡ 1024 → appendBatch (r .world .pager) (r .world .log) body .answer ≡ append.Refused refusal.LogFull

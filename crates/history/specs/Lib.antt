@@ -1,5 +1,5 @@
 -- The root of the definitions of `history`, in the order in which they are best read.
-pub mod Book
+pub mod Model
 pub mod Calls
 pub mod Run
 pub mod Demand3

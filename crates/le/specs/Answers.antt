@@ -12,6 +12,6 @@ abbrev pub storedOf : List ℕ → ℕ → ℕ → Stored
 storedOf l at n = pick (leb (at + n) (length l)) Done Area
 
 -- refusal 1, "a wrong area length"; 0 is none
-abbrev pub refusal : Stored → ℕ
-refusal Done = 0
-refusal Area = 1
+abbrev pub storedRefusal : Stored → ℕ
+storedRefusal Done = 0
+storedRefusal Area = 1

@@ -172,7 +172,11 @@ fn same_words(a: &[u8], b: &[u8], start: usize) -> bool
 // Whether 64 bytes from `i` on are the same. Every byte is looked at: with no way out in between the compiler compares sixteen at once.
 fn same_block(a: &[u8], b: &[u8], i: usize) -> bool
     requires { ⌜ (i + 64 ≤ length (now a)) × (i + 64 ≤ length (now b)) ⌝ }
-    ensures { λ r. ⌜ both r (sameBytes (drop (i + 64) (now (a .entry))) (drop (i + 64) (now (b .entry)))) ≡ sameBytes (drop i (now (a .entry))) (drop i (now (b .entry))) ⌝ }
+    ensures { λ r. ⌜
+        (let s = now (a .entry) in
+        let t = now (b .entry) in
+        both r (sameBytes (drop (i + 64) s) (drop (i + 64) t)) ≡ sameBytes (drop i s) (drop i t))
+        ⌝ }
 {
     let mut yes = true;
     let mut k: usize = 0;

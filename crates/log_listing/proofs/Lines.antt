@@ -15,7 +15,7 @@ use Rattle.le.proofs.Compare.{no-test}
 use Rattle.le.proofs.Tests.{le-or-lt}
 use Rattle.le.proofs.Stores.{get-put}
 use Rattle.refusal.specs.declared.Refusal.the-variants as refusal
-use Rattle.frame.specs.Frame.{frameAt, headerOf, bodyOf}
+use Rattle.frame.specs.Frame.{frameAt, frameHeader, bodyOf}
 use Rattle.wal.specs.Recovery.{chunks, chunkAt, readable, Recovered, recovered, frameCount, walOf, openLog}
 use Rattle.frame.specs.declared.FrameHeader.{FrameHeader}
 use Rattle.wal.specs.declared.Wal.{Wal}
@@ -25,7 +25,7 @@ use Rattle.wal.specs.declared.WalOpened.{WalOpened}
 use Rattle.wal.proofs.Places.{get-chunk}
 use Rattle.wal.proofs.Recovered.{frames-front, frame-readable, stopped-unreadable}
 use Rattle.wal.proofs.Opening.{frameCount-most}
-use Rattle.log_listing.specs.Listing.{decimal, number, wordPage, wordBatch, newline, kindText, frameLine, frameLines, lastText, endLine, logLine, refusedLine, openedText, textOf, listing}
+use Rattle.log_listing.specs.Listing.{decimal, numberText, wordPage, wordBatch, newline, kindText, frameLine, frameLines, lastText, endLine, logLine, refusedLine, openedText, listingOf, listing}
 use Rattle.log_listing.specs.Answer.{Added, listedAfter}
 use Rattle.log_listing.proofs.Pieces.{added-none, added-most, added-length, added-next}
 
@@ -89,22 +89,22 @@ module _ (l : List ℕ) (i : ℕ) (h : i < frameCount (recovered l)) where
 -- ---- what is added is what the definitions say
 
 module _ {n at : ℕ} {l after : List ℕ} {end : ℕ} where
-  pub batch-added : (page k : ℕ) (f : List ℕ) → page ≡ 4294967295 → k ≡ field 2 16 (bodyOf f) → Added n l at (wordBatch ++ number k) after end
+  pub batch-added : (page k : ℕ) (f : List ℕ) → page ≡ 4294967295 → k ≡ field 2 16 (bodyOf f) → Added n l at (wordBatch ++ numberText k) after end
       → Added n l at (kindText page f) after end
   unfolding kindText
   batch-added page k f e r a = rw (eq-eqb _ _ e) (rw r at a)
 
-  pub page-added : (page : ℕ) (f : List ℕ) → (page ≡ 4294967295 → ⊥) → Added n l at (wordPage ++ number page) after end
+  pub page-added : (page : ℕ) (f : List ℕ) → (page ≡ 4294967295 → ⊥) → Added n l at (wordPage ++ numberText page) after end
       → Added n l at (kindText page f) after end
   unfolding kindText
   page-added page f e a = rw (ne-eqb _ _ e) a
 
-  pub frame-added : (i : ℕ) (h : FrameHeader) (f : List ℕ) → h ≡ headerOf f
-      → Added n l at (decimal i ++ kindText (h .«page_num») f ++ number (h .«commit_page_count») ++ newline) after end → Added n l at (frameLine i f) after end
+  pub frame-added : (i : ℕ) (h : FrameHeader) (f : List ℕ) → h ≡ frameHeader f
+      → Added n l at (decimal i ++ kindText (h .«page_num») f ++ numberText (h .«commit_page_count») ++ newline) after end → Added n l at (frameLine i f) after end
   unfolding frameLine
   frame-added i h f e a = rw e at a
 
-  pub count-added : (k : ℕ) (last : LastCommit) → last ≡ commit.Count k → Added n l at (number k) after end → Added n l at (lastText last) after end
+  pub count-added : (k : ℕ) (last : LastCommit) → last ≡ commit.Count k → Added n l at (numberText k) after end → Added n l at (lastText last) after end
   unfolding lastText
   count-added k last e a = rw e a
 
@@ -122,7 +122,7 @@ module _ {n at : ℕ} {l after : List ℕ} {end : ℕ} where
   unfolding listing
   long-added file h a = rw (lt-leb _ _ h) a
 
-  pub listing-added : (file : List ℕ) (o : WalOpened) → length file ≤ 61712 → openLog file ≡ o → Added n l at (textOf file o) after end
+  pub listing-added : (file : List ℕ) (o : WalOpened) → length file ≤ 61712 → openLog file ≡ o → Added n l at (listingOf file o) after end
       → Added n l at (listing file) after end
   unfolding listing
   listing-added file o h e a = rw (le-leb _ _ h, e) a

@@ -10,7 +10,7 @@ use Rattle.refusal.specs.Refusal.{number as rowNumber}
 use Rattle.refusal.specs.declared.Refusal.{Refusal}
 use Rattle.refusal.specs.declared.Refusal.the-variants as refusal
 use Rattle.frame.specs.Frame.{bodyOf}
-use Rattle.wal.specs.Recovery.{batchPage, pageOf, countOf, Recovered, recovered, frameCount, commitPoint, lastCommit, openLog}
+use Rattle.wal.specs.Recovery.{batchPage, pageOf, commitCount, Recovered, recovered, frameCount, commitPoint, lastCommit, openLog}
 use Rattle.wal.specs.declared.WalHeader.{WalHeader}
 use Rattle.wal.specs.declared.LastCommit.{LastCommit}
 use Rattle.wal.specs.declared.LastCommit.the-variants as commit
@@ -29,8 +29,8 @@ unfoldable pub decimal : ℕ → List ℕ
 decimal n = decimals 20 n
 
 -- a space, and a number
-unfoldable pub number : ℕ → List ℕ
-number n = (32 ∷ []) ++ decimal n
+unfoldable pub numberText : ℕ → List ℕ
+numberText n = (32 ∷ []) ++ decimal n
 
 -- a space, and "salt (8 hexadecimal digits)", in lower case
 unfoldable pub saltText : ℕ → List ℕ
@@ -63,15 +63,15 @@ newline = 10 ∷ []
 -- "First line: version, salt (8 hexadecimal digits), sequence, clock"
 unfoldable pub logLine : WalHeader → List ℕ
 logLine h =
-    wordLog ++ number (h .version) ++ saltText (h .salt) ++ number (h .«checkpoint_seq») ++ number (h .«clock_high_water») ++ newline
+    wordLog ++ numberText (h .version) ++ saltText (h .salt) ++ numberText (h .«checkpoint_seq») ++ numberText (h .«clock_high_water») ++ newline
 
 -- "`page` and number or `batch` and record count": of a page number and the frame's bytes
 unfoldable pub kindText : ℕ → List ℕ → List ℕ
-kindText page f = pick (eqb page batchPage) (wordBatch ++ number (field 2 16 (bodyOf f))) (wordPage ++ number page)
+kindText page f = pick (eqb page batchPage) (wordBatch ++ numberText (field 2 16 (bodyOf f))) (wordPage ++ numberText page)
 
 -- "Good frames: index, `page` and number or `batch` and record count, commit count"
 unfoldable pub frameLine : ℕ → List ℕ → List ℕ
-frameLine i f = decimal i ++ kindText (pageOf f) f ++ number (countOf f) ++ newline
+frameLine i f = decimal i ++ kindText (pageOf f) f ++ numberText (commitCount f) ++ newline
 
 -- the lines of frames of which the first has index i
 unfoldable pub frameLines : ℕ → List (List ℕ) → List ℕ
@@ -81,15 +81,15 @@ frameLines i (f ∷ fs) = frameLine i f ++ frameLines (i + 1) fs
 -- "last commit count or `-`"
 unfoldable pub lastText : LastCommit → List ℕ
 lastText commit.Nothing = wordNone
-lastText (commit.Count n) = number n
+lastText (commit.Count n) = numberText n
 
 -- "End: frame count, commit point, last commit count or `-`"
 unfoldable pub endLine : ℕ → ℕ → LastCommit → List ℕ
-endLine frames point last = wordEnd ++ number frames ++ number point ++ lastText last ++ newline
+endLine frames point last = wordEnd ++ numberText frames ++ numberText point ++ lastText last ++ newline
 
 -- "A refused header: `refused` and the number"
 unfoldable pub refusedLine : Refusal → List ℕ
-refusedLine r = wordRefused ++ number (rowNumber r) ++ newline
+refusedLine r = wordRefused ++ numberText (rowNumber r) ++ newline
 
 -- ---- the whole listing
 
@@ -98,10 +98,10 @@ unfoldable pub openedText : Recovered → List ℕ
 openedText r = logLine (r .header) ++ frameLines 0 (r .frames) ++ endLine (frameCount r) (commitPoint r) (lastCommit r)
 
 -- of what opening says
-abbrev pub textOf : List ℕ → WalOpened → List ℕ
-textOf l (opened.Opened w) = openedText (recovered l)
-textOf l (opened.Refused r) = refusedLine r
+abbrev pub listingOf : List ℕ → WalOpened → List ℕ
+listingOf l (opened.Opened w) = openedText (recovered l)
+listingOf l (opened.Refused r) = refusedLine r
 
 -- "reads a log of at most 61,712 bytes (15 frames) ..; a longer one prints `refused 1`"
 unfoldable pub listing : List ℕ → List ℕ
-listing l = pick (leb (length l) 61712) (textOf l (openLog l)) (refusedLine refusal.Area)
+listing l = pick (leb (length l) 61712) (listingOf l (openLog l)) (refusedLine refusal.Area)

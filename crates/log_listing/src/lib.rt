@@ -5,7 +5,7 @@ ghost use Prim.Native.Nat.{_+_, _≤_};
 ghost use lib.ListN.{length};
 ghost use Rattle.frame.specs.Frame.{frameAt};
 ghost use Rattle.wal.specs.Recovery.{recovered, frameCount, walOf};
-ghost use Rattle.log_listing.specs.Listing.{decimal, number, saltText, logLine, kindText, frameLine, frameLines, lastText, endLine, refusedLine, openedText, listing};
+ghost use Rattle.log_listing.specs.Listing.{decimal, numberText, saltText, logLine, kindText, frameLine, frameLines, lastText, endLine, refusedLine, openedText, listing};
 ghost use Rattle.log_listing.specs.Answer.{Added, listedAnswer, listedAfter};
 use frame::FRAME_SIZE;
 use mvcc::MVCC_FRAME_MARKER;
@@ -44,7 +44,7 @@ fn add_decimal(out: &mut [u8], at: usize, n: u64) -> usize
 // Adds a space and a number in decimal digits.
 fn add_number(out: &mut [u8], at: usize, n: u64) -> usize
     requires { ⌜ at + 21 ≤ length (now out) ⌝ }
-    ensures { λ r. ⌜ Added 21 (now (out .entry)) at (number n) (now (out .exit)) r ⌝ }
+    ensures { λ r. ⌜ Added 21 (now (out .entry)) at (numberText n) (now (out .exit)) r ⌝ }
 {
     let end = add_text(out, at, b" ");
     add_decimal(out, end, n)
@@ -132,7 +132,10 @@ fn add_last(out: &mut [u8], at: usize, last: LastCommit) -> usize
 // Adds the last line.
 fn add_end(out: &mut [u8], at: usize, wal: Wal) -> usize
     requires { ⌜ at + 67 ≤ length (now out) ⌝ }
-    ensures { λ r. ⌜ Added 67 (now (out .entry)) at (endLine (wal .«frame_count») (wal .«last_commit_offset») (wal .«last_commit_page_count»)) (now (out .exit)) r ⌝ }
+    ensures { λ r. ⌜
+        (let line = endLine (wal .«frame_count») (wal .«last_commit_offset») (wal .«last_commit_page_count») in
+        Added 67 (now (out .entry)) at line (now (out .exit)) r)
+        ⌝ }
 {
     let last_commit = wal.last_commit_page_count;
     let word = add_text(out, at, b"end");

@@ -15,7 +15,7 @@ use Rattle.refusal.specs.Refusal.{unless, first, accepts, numberOf, answered}
 use Rattle.refusal.proofs.Judged.{row-back}
 use Rattle.refusal.specs.declared.Refusal.{Refusal}
 use Rattle.refusal.specs.declared.Refusal.the-variants.{Short, Magic}
-use Rattle.mvcc.specs.Decode.{magic, batchOf}
+use Rattle.mvcc.specs.Decode.{batchMagic, batchOf}
 use Rattle.mvcc.specs.Seen.{headingRefusal, headingJudged, refusalIn, decodeRefusal, refusalOf, decodes}
 use Rattle.mvcc.specs.declared.BatchDecoded.{BatchDecoded}
 use Rattle.mvcc.specs.declared.BatchDecoded.the-variants as batch
@@ -29,13 +29,13 @@ module _ (s : List ℕ) where
   unfolding headingRefusal
   heading-short h = rw (lt-leb 18 (length s) h)
 
-  pub heading-alien : 18 ≤ length s → (wholeField 8 0 s ≡ magic → ⊥) → heading.Refused Magic ≡ headingJudged s
+  pub heading-alien : 18 ≤ length s → (wholeField 8 0 s ≡ batchMagic → ⊥) → heading.Refused Magic ≡ headingJudged s
   unfolding headingRefusal
-  heading-alien h m = rw (le-leb 18 (length s) h, ne-eqb (field 8 0 s) magic (λ e. m (field-whole 8 0 s (omega arith) ∙ e)))
+  heading-alien h m = rw (le-leb 18 (length s) h, ne-eqb (field 8 0 s) batchMagic (λ e. m (field-whole 8 0 s (omega arith) ∙ e)))
 
-  pub heading-fine : 18 ≤ length s → wholeField 8 0 s ≡ magic → heading.Fine ≡ headingJudged s
+  pub heading-fine : 18 ≤ length s → wholeField 8 0 s ≡ batchMagic → heading.Fine ≡ headingJudged s
   unfolding headingRefusal
-  heading-fine h m = rw (le-leb 18 (length s) h, eq-eqb (field 8 0 s) magic (sym (field-whole 8 0 s (omega arith)) ∙ m))
+  heading-fine h m = rw (le-leb 18 (length s) h, eq-eqb (field 8 0 s) batchMagic (sym (field-whole 8 0 s (omega arith)) ∙ m))
 
 -- the judgement that an answer tells
 abbrev pub headingRow : HeadingJudged → Option Refusal
@@ -75,4 +75,4 @@ module _ (s : List ℕ) where
   -- and so is that of one whose number is neither 2 nor 3
   pub heading-none : (refusalOf s ≡ 2 → ⊥) → (refusalOf s ≡ 3 → ⊥) → headingRefusal s ≡ none
   unfolding refusalOf headingRefusal
-  heading-none l m = unnumbered (leb 18 (length s)) (eqb (field 8 0 s) magic) (decodeRefusal s) decode-first l m
+  heading-none l m = unnumbered (leb 18 (length s)) (eqb (field 8 0 s) batchMagic) (decodeRefusal s) decode-first l m

@@ -24,7 +24,7 @@ use Rattle.text.specs.declared.Utf8.the-variants.{WellFormed, IllFormed}
 use Rattle.refusal.specs.declared.Refusal.{Refusal}
 use Rattle.refusal.specs.declared.Refusal.the-variants.{Short, Magic, Truncated, Text}
 use Rattle.mvcc.specs.Answer.{Answer, taken, refused, then, many, why}
-use Rattle.mvcc.specs.Decode.{fitsIn, numAt, textOf, textAt, signed, columnAt, presentAt, judgedAt, recordAt, magic, recordsAt, batchEnd, headingRefusal, batchOf}
+use Rattle.mvcc.specs.Decode.{fitsIn, numAt, textOf, textAt, signed, columnAt, presentAt, judgedAt, recordAt, batchMagic, recordsAt, batchEnd, headingRefusal, batchOf}
 use Rattle.mvcc.specs.declared.TextPlace.{TextPlace}
 use Rattle.mvcc.specs.declared.RowID.{RowID}
 use Rattle.mvcc.specs.declared.VersionPayload.the-variants as payload
@@ -202,13 +202,13 @@ module _ (s : List ℕ) where
   unfolding batchOf headingRefusal
   batch-short h = rw (lt-leb 18 (length s) h)
 
-  pub batch-alien : 18 ≤ length s → (wholeField 8 0 s ≡ magic → ⊥) → batch.Refused Magic ≡ batchOf s
+  pub batch-alien : 18 ≤ length s → (wholeField 8 0 s ≡ batchMagic → ⊥) → batch.Refused Magic ≡ batchOf s
   unfolding batchOf headingRefusal
-  batch-alien h m = rw (le-leb 18 (length s) h, ne-eqb (field 8 0 s) magic (λ e. m (field-whole 8 0 s (omega arith) ∙ e)))
+  batch-alien h m = rw (le-leb 18 (length s) h, ne-eqb (field 8 0 s) batchMagic (λ e. m (field-whole 8 0 s (omega arith) ∙ e)))
 
   -- a body with a good heading, by where its records end
-  module _ {t n : ℕ} (h : 18 ≤ length s) (m : wholeField 8 0 s ≡ magic) (e : t ≡ wholeField 8 8 s) (f : n ≡ wholeField 2 16 s) where
-    leading : field 8 0 s ≡ magic
+  module _ {t n : ℕ} (h : 18 ≤ length s) (m : wholeField 8 0 s ≡ batchMagic) (e : t ≡ wholeField 8 8 s) (f : n ≡ wholeField 2 16 s) where
+    leading : field 8 0 s ≡ batchMagic
     leading = sym (field-whole 8 0 s (omega arith)) ∙ m
 
     time : t ≡ field 8 8 s

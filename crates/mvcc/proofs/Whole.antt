@@ -14,7 +14,7 @@ use Rattle.le.proofs.Fields.{length-leBytes}
 use Rattle.refusal.specs.Refusal.{unless, accepts, answered}
 use Rattle.refusal.specs.declared.Refusal.the-variants.{Short, Magic}
 use Rattle.mvcc.specs.Answer.{Answer, taken, refused}
-use Rattle.mvcc.specs.Decode.{recordAt, magic, recordsAt, batchEnd, headingRefusal, batchOf}
+use Rattle.mvcc.specs.Decode.{recordAt, batchMagic, recordsAt, batchEnd, headingRefusal, batchOf}
 use Rattle.mvcc.specs.Batch.{Rec, all, encodeRecord, encodeBatch, GoodRecord, GoodBatch}
 use Rattle.mvcc.specs.Seen.{seenRecord, refusalIn, decodeRefusal, decodes, commitTs, records}
 use Rattle.mvcc.specs.declared.MvccLogRecord.{MvccLogRecord}
@@ -28,12 +28,12 @@ use Rattle.mvcc.proofs.Sound.{Ok, Run, many-ok, record-ok}
 
 pub record Found (s : List ℕ) : Type 0 where
   pub long : 18 ≤ length s
-  pub marked : field 8 0 s ≡ magic
+  pub marked : field 8 0 s ≡ batchMagic
   pub list : List MvccLogRecord
   pub end : ℕ
   pub is : recordsAt s ≡ taken list end
 
-found-cases : (s : List ℕ) (a b : Bool) (x : Answer (List MvccLogRecord)) → leb 18 (length s) ≡ a → eqb (field 8 0 s) magic ≡ b → recordsAt s ≡ x
+found-cases : (s : List ℕ) (a b : Bool) (x : Answer (List MvccLogRecord)) → leb 18 (length s) ≡ a → eqb (field 8 0 s) batchMagic ≡ b → recordsAt s ≡ x
     → accepts (refusalIn (answered batch.Refused (batchEnd (field 8 8 s) (field 2 16 s) x) (unless a Short (unless b Magic none)))) ≡ true → Found s
 found-cases s true true (taken l e) p q r t = record { long = leb-true _ _ p; marked = eqb-true _ _ q; list = l; end = e; is = r }
 found-cases s true true (refused k) p q r t = no-test t
@@ -42,7 +42,7 @@ found-cases s false b x p q r t = no-test t
 
 pub found : (s : List ℕ) → decodes s ≡ true → Found s
 unfolding decodes decodeRefusal batchOf headingRefusal
-found s t = found-cases s (leb 18 (length s)) (eqb (field 8 0 s) magic) (recordsAt s) refl refl refl t
+found s t = found-cases s (leb 18 (length s)) (eqb (field 8 0 s) batchMagic) (recordsAt s) refl refl refl t
 
 -- its answer
 pub found-batch : (s : List ℕ) (f : Found s) → batchOf s ≡ batch.Batch (record { «commit_ts» = field 8 8 s; records = field 2 16 s; end = f .end })
@@ -100,8 +100,8 @@ module _ (t : ℕ) (rs : List Rec) (pad : List ℕ) (g : GoodBatch t rs) where
   records-here : Has body 18 (all encodeRecord rs)
   records-here = has-after 2 (leBytes 2 (length rs)) (all encodeRecord rs) (length-leBytes 2 (length rs)) count-here
 
-  marked-here : field 8 0 body ≡ magic
-  unfolding encodeBatch leOf magic
+  marked-here : field 8 0 body ≡ batchMagic
+  unfolding encodeBatch leOf batchMagic
   marked-here = refl
 
   pub time-read : field 8 8 body ≡ t

@@ -116,8 +116,8 @@ recordAt s at =
     judgedAt s op (record { table = t; rowid = signed n }) rest)))
 
 -- "`MVCC0001`" as a number of 8 bytes
-unfoldable pub magic : ℕ
-magic = leOf (0x4d ∷ 0x56 ∷ 0x43 ∷ 0x43 ∷ 0x30 ∷ 0x30 ∷ 0x30 ∷ 0x31 ∷ [])
+unfoldable pub batchMagic : ℕ
+batchMagic = leOf (0x4d ∷ 0x56 ∷ 0x43 ∷ 0x43 ∷ 0x30 ∷ 0x30 ∷ 0x30 ∷ 0x31 ∷ [])
 
 -- the records of a body: "record count (2), records"
 unfoldable pub recordsAt : List ℕ → Answer (List MvccLogRecord)
@@ -129,7 +129,7 @@ batchEnd t n (refused k) = batch.Refused k
 
 -- what the heading alone is refused for: "batch body under 18", "wrong leading bytes"
 unfoldable pub headingRefusal : List ℕ → Option Refusal
-headingRefusal s = unless (leb 18 (length s)) Short (unless (eqb (field 8 0 s) magic) Magic none)
+headingRefusal s = unless (leb 18 (length s)) Short (unless (eqb (field 8 0 s) batchMagic) Magic none)
 
 -- "Body: `MVCC0001`, commit time (8), record count (2), records"; "Bytes after the last record are ignored on reading"
 unfoldable pub batchOf : List ℕ → BatchDecoded

@@ -19,7 +19,7 @@ use Rattle.mvcc.specs.Batch.{Val, null, integer, real, text, bool, vector, Col,
 use Rattle.mvcc.specs.Seen.{decodes, commitTs, records}
 use Rattle.mvcc.proofs.Trip.{length-encodeText, length-words}
 use Rattle.mvcc.proofs.Canonical.{body-length, body-decodes, body-commitTs, body-records}
-use Rattle.mvcc_build.specs.Build.{started, startedBytes, judged, laid, recordIn, recordCount, tableOf, recordAdded, recordBytes, columnIn, columnTold, recounted, columnCount, texted, columnAdded, columnBytes}
+use Rattle.mvcc_build.specs.Build.{started, startedBytes, additionJudged, bodyAfter, recordIn, recordCount, recordTable, recordAdded, recordBytes, columnIn, columnResult, columnsRecounted, columnCount, texted, columnAdded, columnBytes}
 use Rattle.mvcc_build.specs.Built.{lastFrom, builderOf, Built, endsPresent, withIn, withColumn, Held, HeldValue}
 use Rattle.mvcc_build.specs.declared.Last.{Last}
 use Rattle.mvcc_build.specs.declared.Last.the-variants.{Closed, Open}
@@ -81,7 +81,7 @@ each-snoc P (y ∷ xs) x g p = (g .0, each-snoc P xs x (g .1) p)
 good-text : (t : List ℕ) → length t ≤ 4096 → wellFormed t ≡ true → GoodText 2 t
 good-text t h w = record { small = omega arith; utf8 = w }
 
-good-record : (r : Rec) → Held r → wellFormed (tableOf r) ≡ true → length (encodeRecord r) ≤ 4096 → GoodRecord r
+good-record : (r : Rec) → Held r → wellFormed (recordTable r) ≡ true → length (encodeRecord r) ≤ 4096 → GoodRecord r
 unfolding Held GoodRecord encodeRecord Each
 good-record (tombstone t row) f w h =
     record { table = good-text t (omega (arith, simp (length-append, length-encodeText, length-leBytes) at h)) w; rowid = f }
@@ -153,16 +153,16 @@ module _ {t : ℕ} {rs : List Rec} {b : BatchBuilder} {body : List ℕ} (h : Bui
 
   -- a record is refused where its table is not UTF-8 (19), or where the batch with it would pass 4,096 bytes (20)
   pub record-answer : (r : Rec) → recordAdded b body r
-      ≡ pick (wellFormed (tableOf r)) (pick (leb (length (encodeBatch t (rs ++ (r ∷ [])))) 4096) (Done (builderOf t (rs ++ (r ∷ [])))) (Refused Fit)) (Refused Text)
-  unfolding recordAdded judged recordIn builderOf
+      ≡ pick (wellFormed (recordTable r)) (pick (leb (length (encodeBatch t (rs ++ (r ∷ [])))) 4096) (Done (builderOf t (rs ++ (r ∷ [])))) (Refused Fit)) (Refused Text)
+  unfolding recordAdded additionJudged recordIn builderOf
   record-answer r =
       let n : length rs ≡ 0xffff → ⊥ = λ e. omega (arith, records-few t rs (h .fits)) in
       rw (eq-eqb _ _ full, h .state, ne-eqb (length rs) 0xffff n, record-size t rs r, length-snoc rs r, last-snoc 18 rs r, batch-size t rs)
 
   pub record-built : (r : Rec) {b' : BatchBuilder} → Held r → recordAdded b body r ≡ Done b' → Built t (rs ++ (r ∷ [])) b' (recordBytes b body r)
-  unfolding recordBytes laid recordCount builderOf encodeBody
+  unfolding recordBytes bodyAfter recordCount builderOf encodeBody
   record-built r {b'} f e =
-      let p = done-is (wellFormed (tableOf r)) (leb (length (encodeBatch t (rs ++ (r ∷ [])))) 4096) (sym (record-answer r) ∙ e) in
+      let p = done-is (wellFormed (recordTable r)) (leb (length (encodeBatch t (rs ++ (r ∷ [])))) 4096) (sym (record-answer r) ∙ e) in
       let k : length (encodeBatch t (rs ++ (r ∷ []))) ≤ 4096 = leb-true _ _ (p .0 .1) in
       let j : length (encodeBatch t rs) + length (encodeRecord r) ≤ 4096 = rw record-size at k in
       let n : b' .records ≡ length rs + 1 = ap (λ (x : BatchBuilder). x .records) (sym (p .1)) ∙ length-snoc rs r in
@@ -186,7 +186,7 @@ module _ {t : ℕ} {rs : List Rec} {b : BatchBuilder} {body : List ℕ} (h : Bui
       (pick (endsPresent rs) (Done (builderOf t (withColumn rs c))) (Refused NoRecord)) (Refused Fit)) (Refused Text)
 
   column-cases : (c : Col) (l : Last) → lastFrom 18 rs ≡ l → columnAdded b body c ≡ columnSays c
-  unfolding columnAdded columnTold judged columnIn builderOf
+  unfolding columnAdded columnResult additionJudged columnIn builderOf
   column-cases c Closed e = rw (eq-eqb _ _ full, h .state, e, ends-closed 18 rs e)
   column-cases c (Open counted columns) e =
       let n : columns ≡ 0xffff → ⊥ = λ i. omega (arith, columns-few t rs (h .fits) e) in
@@ -200,7 +200,7 @@ module _ {t : ℕ} {rs : List Rec} {b : BatchBuilder} {body : List ℕ} (h : Bui
 
   column-built-in : (c : Col) {b' : BatchBuilder} (l : Last) → lastFrom 18 rs ≡ l → HeldValue (c .val) → columnAdded b body c ≡ Done b'
       → Built t (withColumn rs c) b' (columnBytes b body c)
-  unfolding columnBytes laid columnCount recounted builderOf encodeBody
+  unfolding columnBytes bodyAfter columnCount columnsRecounted builderOf encodeBody
   column-built-in c Closed i f e = never-done (both (texted (c .val)) (wellFormed (c .name))) (leb (length (encodeBatch t rs) + length (encodeColumn c)) 4096)
       (rw (ends-closed 18 rs i) at (sym (column-answer c) ∙ e))
   column-built-in c {b'} (Open counted columns) i f e =

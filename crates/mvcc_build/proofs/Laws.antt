@@ -25,7 +25,7 @@ use Rattle.text.proofs.Answers.{well-is, ill-is}
 use Rattle.mvcc.proofs.Trip.{length-encodeText}
 use Rattle.mvcc.proofs.Sound.{words-length}
 use Rattle.mvcc.specs.Seen.{words}
-use Rattle.mvcc_build.specs.Build.{judged, laid, recordIn, recordCount, headBytes, lastOf, headTold, recordAdded, recordBytes, columnIn, columnTold, columnCount, recounted, column, texted, columnAdded, columnBytes, elements, vectorAdded, vectorBytes, tagged, started, startedBytes}
+use Rattle.mvcc_build.specs.Build.{additionJudged, bodyAfter, recordIn, recordCount, headBytes, lastOf, headResult, recordAdded, recordBytes, columnIn, columnResult, columnCount, columnsRecounted, column, texted, columnAdded, columnBytes, elements, vectorAdded, vectorBytes, tagged, started, startedBytes}
 use Rattle.mvcc_build.specs.declared.Last.{Last}
 use Rattle.mvcc_build.specs.declared.Last.the-variants.{Closed, Open}
 use Rattle.mvcc_build.specs.declared.BatchBuilder.{BatchBuilder}
@@ -175,45 +175,45 @@ module _ (l : List ℕ) (at : ℕ) (full : length l ≡ 4096) where
 -- ---- what an addition answers
 
 module _ (b : BatchBuilder) (body : List ℕ) (texts : Bool) (bs : List ℕ) (more : Added) where
-  pub judged-area : (length body ≡ 4096 → ⊥) → Refused Area ≡ judged b body texts bs more
-  unfolding judged
+  pub judged-area : (length body ≡ 4096 → ⊥) → Refused Area ≡ additionJudged b body texts bs more
+  unfolding additionJudged
   judged-area h = rw (ne-eqb _ _ h)
 
-  pub judged-fit : length body ≡ 4096 → texts ≡ true → leb (b .at + length bs) 4096 ≡ false → Refused Fit ≡ judged b body texts bs more
-  unfolding judged
+  pub judged-fit : length body ≡ 4096 → texts ≡ true → leb (b .at + length bs) 4096 ≡ false → Refused Fit ≡ additionJudged b body texts bs more
+  unfolding additionJudged
   judged-fit h t f = rw (eq-eqb _ _ h, t, f)
 
-  pub judged-in : length body ≡ 4096 → texts ≡ true → leb (b .at + length bs) 4096 ≡ true → judged b body texts bs more ≡ more
-  unfolding judged
+  pub judged-in : length body ≡ 4096 → texts ≡ true → leb (b .at + length bs) 4096 ≡ true → additionJudged b body texts bs more ≡ more
+  unfolding additionJudged
   judged-in h t f = rw (eq-eqb _ _ h, t, f)
 
 -- ---- the ways of an addition with the bytes bs: what it answers and leaves
 
 module _ (count : BatchBuilder → List ℕ → List ℕ) (b : BatchBuilder) (body : List ℕ) (texts : Bool) (bs : List ℕ) (more : Added) where
   abbrev Says : Added → List ℕ → Type 0
-  Says r l = (r ≡ judged b body texts bs more) × (l ≡ laid count b body bs r)
+  Says r l = (r ≡ additionJudged b body texts bs more) × (l ≡ bodyAfter count b body bs r)
 
   pub way-area : (length body ≡ 4096 → ⊥) → Says (Refused Area) body
-  unfolding laid
+  unfolding bodyAfter
   way-area h = (judged-area b body texts bs more h, refl)
 
-  kept-so : (t : Bool) → body ≡ laid count b body bs (pick t (Refused Text) (Refused Area))
-  unfolding laid
+  kept-so : (t : Bool) → body ≡ bodyAfter count b body bs (pick t (Refused Text) (Refused Area))
+  unfolding bodyAfter
   kept-so true = refl
   kept-so false = refl
 
   -- a text is not UTF-8; the body's length comes first
   pub way-text : {r : Added} → texts ≡ false → r ≡ pick (eqb (length body) 4096) (Refused Text) (Refused Area) → Says r body
-  unfolding judged
+  unfolding additionJudged
   way-text f e = (rw (e, f), rw e (kept-so (eqb (length body) 4096)))
 
   module _ (full : length body ≡ 4096) where
     module _ (f : texts ≡ true) {n : ℕ} (m : length bs ≡ n) {r : Bool} (g : r ≡ leb (b .at + n) 4096) where
       pub way-fit : r ≡ false → Says (Refused Fit) body
-      unfolding laid
+      unfolding bodyAfter
       way-fit h = (judged-fit b body texts bs more full f (rw m (sym g ∙ h)), refl)
 
-      pub way-more : r ≡ true → {x : Added} {l : List ℕ} → x ≡ more → l ≡ laid count b body bs x → Says x l
+      pub way-more : r ≡ true → {x : Added} {l : List ℕ} → x ≡ more → l ≡ bodyAfter count b body bs x → Says x l
       way-more h p q = (p ∙ sym (judged-in b body texts bs more full f (rw m (sym g ∙ h))), q)
 
 module _ (b : BatchBuilder) (body : List ℕ) (texts : Bool) (op : ℕ) (t : List ℕ) (row : ℤ) (z : ℕ) where
@@ -224,33 +224,33 @@ module _ (b : BatchBuilder) (body : List ℕ) (texts : Bool) (op : ℕ) (t : Lis
   end = lastOf op (b .at + (11 + length t))
 
   abbrev Heads : Added → List ℕ → Type 0
-  Heads r l = (r ≡ headTold b body texts op t row z) × (l ≡ laid recordCount b body H r)
+  Heads r l = (r ≡ headResult b body texts op t row z) × (l ≡ bodyAfter recordCount b body H r)
 
   size : length H ≡ 11 + z + length t + 0
   size = rw length-head (omega arith)
 
   pub head-area : (length body ≡ 4096 → ⊥) → Heads (Refused Area) body
-  unfolding headTold
+  unfolding headResult
   head-area h = way-area recordCount b body texts H (recordIn b (length H) end) h
 
   pub head-text : {r : Added} → texts ≡ false → r ≡ pick (eqb (length body) 4096) (Refused Text) (Refused Area) → Heads r body
-  unfolding headTold
+  unfolding headResult
   head-text f e = way-text recordCount b body texts H (recordIn b (length H) end) f e
 
   module _ (full : length body ≡ 4096) where
     module _ (f : texts ≡ true) {r : Bool} (g : r ≡ leb (b .at + (11 + z + length t + 0)) 4096) where
       pub head-fit : r ≡ false → Heads (Refused Fit) body
-      unfolding headTold
+      unfolding headResult
       head-fit h = way-fit recordCount b body texts H (recordIn b (length H) end) full f size g h
 
       pub head-many : r ≡ true → b .records ≡ 0xffff → Heads (Refused Fit) body
-      unfolding headTold recordIn laid
+      unfolding headResult recordIn bodyAfter
       head-many h k = way-more recordCount b body texts H (recordIn b (length H) end) full f size g h (rw (eq-eqb _ _ k)) refl
 
       pub head-done : r ≡ true → (b .records ≡ 0xffff → ⊥) → {l m : List ℕ} {w : Last} → w ≡ end
           → l ≡ put body (b .at) H → m ≡ store l 16 (leBytes 2 (b .records + 1))
           → Heads (Done (record { at = b .at + (11 + length t) + z; records = b .records + 1; last = w })) m
-      unfolding headTold recordIn laid recordCount
+      unfolding headResult recordIn bodyAfter recordCount
       head-done h k {l} {m} {w} o p q =
           let i : b .at + (11 + length t) + z ≡ b .at + length H = rw length-head (omega arith) in
           way-more recordCount b body texts H (recordIn b (length H) end) full f size g h
@@ -261,14 +261,14 @@ module _ (b : BatchBuilder) (body : List ℕ) (texts : Bool) (t : List ℕ) (tag
   C = tagged t tag k v bs
 
   abbrev Cols : Added → List ℕ → Type 0
-  Cols r l = (r ≡ columnTold b body texts C) × (l ≡ laid columnCount b body C r)
+  Cols r l = (r ≡ columnResult b body texts C) × (l ≡ bodyAfter columnCount b body C r)
 
   pub col-area : (length body ≡ 4096 → ⊥) → Cols (Refused Area) body
-  unfolding columnTold
+  unfolding columnResult
   col-area h = way-area columnCount b body texts C (columnIn b (length C) (b .last)) h
 
   pub col-text : {r : Added} → texts ≡ false → r ≡ pick (eqb (length body) 4096) (Refused Text) (Refused Area) → Cols r body
-  unfolding columnTold
+  unfolding columnResult
   col-text f e = way-text columnCount b body texts C (columnIn b (length C) (b .last)) f e
 
   module _ (full : length body ≡ 4096) where
@@ -277,21 +277,21 @@ module _ (b : BatchBuilder) (body : List ℕ) (texts : Bool) (t : List ℕ) (tag
       sized = length-tagged t tag k v bs
 
       pub col-fit : r ≡ false → Cols (Refused Fit) body
-      unfolding columnTold
+      unfolding columnResult
       col-fit h = way-fit columnCount b body texts C (columnIn b (length C) (b .last)) full f sized g h
 
       pub col-none : r ≡ true → b .last ≡ Closed → Cols (Refused NoRecord) body
-      unfolding columnTold columnIn laid
+      unfolding columnResult columnIn bodyAfter
       col-none h o = way-more columnCount b body texts C (columnIn b (length C) (b .last)) full f sized g h (rw o) refl
 
       module _ (h : r ≡ true) {counted columns : ℕ} (o : b .last ≡ Open counted columns) where
         pub col-many : columns ≡ 0xffff → Cols (Refused Fit) body
-        unfolding columnTold columnIn laid
+        unfolding columnResult columnIn bodyAfter
         col-many i = way-more columnCount b body texts C (columnIn b (length C) (b .last)) full f sized g h (rw (o, eq-eqb _ _ i)) refl
 
         pub col-done : (columns ≡ 0xffff → ⊥) → {l m : List ℕ} → l ≡ put body (b .at) C → m ≡ store l counted (leBytes 2 (columns + 1))
             → Cols (Done (record { at = b .at + (3 + k + length t + length bs); records = b .records; last = Open counted (columns + 1) })) m
-        unfolding columnTold columnIn laid columnCount recounted
+        unfolding columnResult columnIn bodyAfter columnCount columnsRecounted
         col-done i p q =
             way-more columnCount b body texts C (columnIn b (length C) (b .last)) full f sized g h
             (rw (o, ne-eqb _ _ i, sized)) (rw p at q)
@@ -307,16 +307,16 @@ unfolding headBytes encodeRecord leBytes all
 present-head t row = refl
 
 module _ (b : BatchBuilder) (body t : List ℕ) (row : ℤ) {texts : Bool} {r : Added} {l : List ℕ} (u : texts ≡ wellFormed t) where
-  pub tombstone-way : r ≡ headTold b body texts 0 t row 0 → l ≡ laid recordCount b body (headBytes 0 t row 0) r
+  pub tombstone-way : r ≡ headResult b body texts 0 t row 0 → l ≡ bodyAfter recordCount b body (headBytes 0 t row 0) r
       → (r ≡ recordAdded b body (tombstone t row)) × (l ≡ recordBytes b body (tombstone t row))
-  unfolding headTold recordAdded recordBytes
+  unfolding headResult recordAdded recordBytes
   tombstone-way p q =
       let e : r ≡ recordAdded b body (tombstone t row) = rw (u, tombstone-head) at p in
       (e, rw (tombstone-head, e) at q)
 
-  pub present-way : r ≡ headTold b body texts 1 t row 2 → l ≡ laid recordCount b body (headBytes 1 t row 2) r
+  pub present-way : r ≡ headResult b body texts 1 t row 2 → l ≡ bodyAfter recordCount b body (headBytes 1 t row 2) r
       → (r ≡ recordAdded b body (present t row [])) × (l ≡ recordBytes b body (present t row []))
-  unfolding headTold recordAdded recordBytes
+  unfolding headResult recordAdded recordBytes
   present-way p q =
       let e : r ≡ recordAdded b body (present t row []) = rw (u, present-head) at p in
       (e, rw (present-head, e) at q)
@@ -327,12 +327,12 @@ module _ (b : BatchBuilder) (body n : List ℕ) (tag k v : ℕ) (bs : List ℕ) 
   unfolding tagged encodeColumn
   same-column = rw e
 
-  pub column-way : {texts : Bool} {r : Added} {l : List ℕ} → texts ≡ both (texted x) (wellFormed n) → r ≡ columnTold b body texts (tagged n tag k v bs)
-      → l ≡ laid columnCount b body (tagged n tag k v bs) r
+  pub column-way : {texts : Bool} {r : Added} {l : List ℕ} → texts ≡ both (texted x) (wellFormed n) → r ≡ columnResult b body texts (tagged n tag k v bs)
+      → l ≡ bodyAfter columnCount b body (tagged n tag k v bs) r
       → (r ≡ columnAdded b body (column n x)) × (l ≡ columnBytes b body (column n x))
   unfolding columnAdded columnBytes
   column-way {texts} {r} t p q =
-      let f : r ≡ columnTold b body (both (texted x) (wellFormed n)) (encodeColumn (column n x)) = rw (← t, ← same-column) p in
+      let f : r ≡ columnResult b body (both (texted x) (wellFormed n)) (encodeColumn (column n x)) = rw (← t, ← same-column) p in
       (f, rw (same-column, f) at q)
 
 -- ---- the bytes of each kind of value
@@ -376,11 +376,11 @@ vector-bytes bs b h =
 
 module _ (b : BatchBuilder) (body n bs : List ℕ) where
   pub vector-area : (length body ≡ 4096 → ⊥) → (Refused Area ≡ vectorAdded b body n bs) × (body ≡ vectorBytes b body n bs)
-  unfolding vectorAdded vectorBytes laid
+  unfolding vectorAdded vectorBytes bodyAfter
   vector-area h = (rw (ne-eqb _ _ h), rw (ne-eqb _ _ h))
 
   pub vector-cut : length body ≡ 4096 → (length bs % 4 ≡ 0 → ⊥) → (Refused Truncated ≡ vectorAdded b body n bs) × (body ≡ vectorBytes b body n bs)
-  unfolding vectorAdded vectorBytes laid
+  unfolding vectorAdded vectorBytes bodyAfter
   vector-cut h k = (rw (eq-eqb _ _ h, ne-eqb _ _ k), rw (eq-eqb _ _ h, ne-eqb _ _ k))
 
   pub vector-way : {r : Added} {l : List ℕ} → length body ≡ 4096 → length bs % 4 ≡ 0

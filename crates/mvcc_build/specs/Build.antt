@@ -30,14 +30,14 @@ startedBytes t body = pick (eqb (length body) 4096) (encodeBody t []) body
 -- ---- what every addition has in common
 
 -- the refusals 1, 19 and 20 of an addition with the bytes bs, in order, then what is behind them; `texts`: its texts are UTF-8
-unfoldable pub judged : BatchBuilder → List ℕ → Bool → List ℕ → Added → Added
-judged b body texts bs more =
+unfoldable pub additionJudged : BatchBuilder → List ℕ → Bool → List ℕ → Added → Added
+additionJudged b body texts bs more =
     pick (eqb (length body) 4096) (pick texts (pick (leb (b .at + length bs) 4096) more (Refused Fit)) (Refused Text)) (Refused Area)
 
 -- the later bytes: those added, with the count that goes with them; after a refusal the body is as it was
-unfoldable pub laid : (BatchBuilder → List ℕ → List ℕ) → BatchBuilder → List ℕ → List ℕ → Added → List ℕ
-laid count b body bs (Done next) = count next (put body (b .at) bs)
-laid count b body bs (Refused r) = body
+unfoldable pub bodyAfter : (BatchBuilder → List ℕ → List ℕ) → BatchBuilder → List ℕ → List ℕ → Added → List ℕ
+bodyAfter count b body bs (Done next) = count next (put body (b .at) bs)
+bodyAfter count b body bs (Refused r) = body
 
 -- ---- records
 
@@ -49,9 +49,9 @@ recordIn b n end = pick (eqb (b .records) 0xffff) (Refused Fit) (Done (record { 
 unfoldable pub recordCount : BatchBuilder → List ℕ → List ℕ
 recordCount next l = store l 16 (leBytes 2 (next .records))
 
-abbrev pub tableOf : Rec → List ℕ
-tableOf (tombstone t row) = t
-tableOf (present t row cs) = t
+abbrev pub recordTable : Rec → List ℕ
+recordTable (tombstone t row) = t
+recordTable (present t row cs) = t
 
 -- the last record, written at `at`: a present one has its column count behind op, table and row id
 abbrev pub lastAt : ℕ → Rec → Last
@@ -60,10 +60,10 @@ lastAt at (present t row cs) = Open (at + (11 + length t)) (length cs)
 
 -- a record added: refused where the body's length is wrong (1), its table is not UTF-8 (19) or it does not fit (20)
 unfoldable pub recordAdded : BatchBuilder → List ℕ → Rec → Added
-recordAdded b body r = judged b body (wellFormed (tableOf r)) (encodeRecord r) (recordIn b (length (encodeRecord r)) (lastAt (b .at) r))
+recordAdded b body r = additionJudged b body (wellFormed (recordTable r)) (encodeRecord r) (recordIn b (length (encodeRecord r)) (lastAt (b .at) r))
 
 unfoldable pub recordBytes : BatchBuilder → List ℕ → Rec → List ℕ
-recordBytes b body r = laid recordCount b body (encodeRecord r) (recordAdded b body r)
+recordBytes b body r = bodyAfter recordCount b body (encodeRecord r) (recordAdded b body r)
 
 -- op, table, row id and z zeros: a tombstone, or a present record that has no columns yet
 unfoldable pub headBytes : ℕ → List ℕ → ℤ → ℕ → List ℕ
@@ -73,9 +73,9 @@ abbrev pub lastOf : ℕ → ℕ → Last
 lastOf op counted = pick (eqb op 0) Closed (Open counted 0)
 
 -- what such a record answers; `texts`: its table is UTF-8
-unfoldable pub headTold : BatchBuilder → List ℕ → Bool → ℕ → List ℕ → ℤ → ℕ → Added
-headTold b body texts op t row z =
-    judged b body texts (headBytes op t row z) (recordIn b (length (headBytes op t row z)) (lastOf op (b .at + (11 + length t))))
+unfoldable pub headResult : BatchBuilder → List ℕ → Bool → ℕ → List ℕ → ℤ → ℕ → Added
+headResult b body texts op t row z =
+    additionJudged b body texts (headBytes op t row z) (recordIn b (length (headBytes op t row z)) (lastOf op (b .at + (11 + length t))))
 
 -- ---- columns
 
@@ -86,16 +86,16 @@ columnIn b n (Open counted columns) =
     pick (eqb columns 0xffff) (Refused Fit) (Done (record { at = b .at + n; records = b .records; last = Open counted (columns + 1) }))
 
 -- what a column with the bytes bs answers; `texts`: its texts are UTF-8
-unfoldable pub columnTold : BatchBuilder → List ℕ → Bool → List ℕ → Added
-columnTold b body texts bs = judged b body texts bs (columnIn b (length bs) (b .last))
+unfoldable pub columnResult : BatchBuilder → List ℕ → Bool → List ℕ → Added
+columnResult b body texts bs = additionJudged b body texts bs (columnIn b (length bs) (b .last))
 
 -- the column count of a present record, stored anew
-unfoldable pub recounted : Last → List ℕ → List ℕ
-recounted Closed l = l
-recounted (Open counted columns) l = store l counted (leBytes 2 columns)
+unfoldable pub columnsRecounted : Last → List ℕ → List ℕ
+columnsRecounted Closed l = l
+columnsRecounted (Open counted columns) l = store l counted (leBytes 2 columns)
 
 unfoldable pub columnCount : BatchBuilder → List ℕ → List ℕ
-columnCount next l = recounted (next .last) l
+columnCount next l = columnsRecounted (next .last) l
 
 abbrev pub column : List ℕ → Val → Col
 column n v = record { name = n; val = v }
@@ -112,10 +112,10 @@ texted (vector ws) = true
 -- a column added: refused where the body's length is wrong (1), its name or text is not UTF-8 (19), it does not fit (20)
 -- or no present record is last (21)
 unfoldable pub columnAdded : BatchBuilder → List ℕ → Col → Added
-columnAdded b body c = columnTold b body (both (texted (c .val)) (wellFormed (c .name))) (encodeColumn c)
+columnAdded b body c = columnResult b body (both (texted (c .val)) (wellFormed (c .name))) (encodeColumn c)
 
 unfoldable pub columnBytes : BatchBuilder → List ℕ → Col → List ℕ
-columnBytes b body c = laid columnCount b body (encodeColumn c) (columnAdded b body c)
+columnBytes b body c = bodyAfter columnCount b body (encodeColumn c) (columnAdded b body c)
 
 -- a vector's elements, from their little-endian bytes
 unfoldable pub elements : List ℕ → List ℕ
@@ -129,7 +129,7 @@ vectorAdded b body n bs =
     (Refused Area)
 
 unfoldable pub vectorBytes : BatchBuilder → List ℕ → List ℕ → List ℕ → List ℕ
-vectorBytes b body n bs = laid columnCount b body (encodeColumn (column n (vector (elements bs)))) (vectorAdded b body n bs)
+vectorBytes b body n bs = bodyAfter columnCount b body (encodeColumn (column n (vector (elements bs)))) (vectorAdded b body n bs)
 
 -- a column by its name and its value's tag, number of k bytes, and bytes
 unfoldable pub tagged : List ℕ → ℕ → ℕ → ℕ → List ℕ → List ℕ

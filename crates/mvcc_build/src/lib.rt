@@ -19,7 +19,7 @@ ghost use Rattle.mvcc.specs.Batch.{null, integer, real, text, bool, tombstone, 
 ghost use Rattle.mvcc_build.specs.Words.{Wide};
 ghost use Rattle.refusal.specs.declared.Refusal.the-variants.{Area, Text};
 ghost use Rattle.mvcc_build.specs.declared.Added.the-variants.{Refused};
-ghost use Rattle.mvcc_build.specs.Build.{headBytes, lastOf, tagged, started, startedBytes, laid, recordCount, headTold, recordAdded, recordBytes, columnCount, columnTold, column, columnAdded, columnBytes, vectorAdded, vectorBytes};
+ghost use Rattle.mvcc_build.specs.Build.{headBytes, lastOf, tagged, started, startedBytes, bodyAfter, recordCount, headResult, recordAdded, recordBytes, columnCount, columnResult, column, columnAdded, columnBytes, vectorAdded, vectorBytes};
 use refusal::Refusal;
 
 // The record that was added last.
@@ -276,8 +276,8 @@ fn add_record(
     zeros: usize,
 ) -> Added
     requires { ⌜ zeros ≤ 2 ⌝ }
-    ensures { λ r. ⌜ r ≡ headTold b (now (body .entry)) texts op (now (table .entry)) rowid zeros ⌝ }
-    ensures { λ r. ⌜ now (body .exit) ≡ laid recordCount b (now (body .entry)) (headBytes op (now (table .entry)) rowid zeros) r ⌝ }
+    ensures { λ r. ⌜ r ≡ headResult b (now (body .entry)) texts op (now (table .entry)) rowid zeros ⌝ }
+    ensures { λ r. ⌜ now (body .exit) ≡ bodyAfter recordCount b (now (body .entry)) (headBytes op (now (table .entry)) rowid zeros) r ⌝ }
 {
     let at = b.at;
     let records = b.records;
@@ -345,8 +345,8 @@ fn add_column(
     bytes: &[u8],
 ) -> Added
     requires { ⌜ k ≤ 8 ⌝ }
-    ensures { λ r. ⌜ r ≡ columnTold b (now (body .entry)) texts (tagged (now (name .entry)) tag k v (now (bytes .entry))) ⌝ }
-    ensures { λ r. ⌜ now (body .exit) ≡ laid columnCount b (now (body .entry)) (tagged (now (name .entry)) tag k v (now (bytes .entry))) r ⌝ }
+    ensures { λ r. ⌜ r ≡ columnResult b (now (body .entry)) texts (tagged (now (name .entry)) tag k v (now (bytes .entry))) ⌝ }
+    ensures { λ r. ⌜ now (body .exit) ≡ bodyAfter columnCount b (now (body .entry)) (tagged (now (name .entry)) tag k v (now (bytes .entry))) r ⌝ }
 {
     let at = b.at;
     let last = b.last;

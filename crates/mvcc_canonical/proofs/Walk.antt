@@ -27,7 +27,7 @@ use Rattle.mvcc.specs.declared.VersionPayload.{VersionPayload}
 use Rattle.mvcc.specs.declared.VersionPayload.the-variants as payload
 use Rattle.mvcc.specs.declared.MvccLogRecord.{MvccLogRecord}
 use Rattle.refusal.specs.declared.Refusal.{Refusal}
-use Rattle.mvcc_canonical.specs.Canonical.{endOf, fixAll, fixValue, columnStep, fixPayload, recordStep, fixRecord, Stands, Walk}
+use Rattle.mvcc_canonical.specs.Canonical.{answerEnd, fixAll, fixValue, columnStep, fixPayload, recordStep, fixRecord, Stands, Walk}
 use Rattle.mvcc_canonical.proofs.Same.{At, at-left, patch, PayloadIs, ColumnSame, RecordSame, column-same, record-same}
 
 -- ---- turns of a loop that counts down
@@ -58,22 +58,22 @@ pub first : {A : Type 0} (f : ℕ → Answer A) (k at : ℕ) {xs : List A} {next
 unfolding many
 first f k at e = first-of f k at (f at) refl e
 
-end-then : {A : Type 0} (a : A) (x : Answer (List A)) → endOf (then x (λ rest end. taken (a ∷ rest) end)) ≡ endOf x
+end-then : {A : Type 0} (a : A) (x : Answer (List A)) → answerEnd (then x (λ rest end. taken (a ∷ rest) end)) ≡ answerEnd x
 end-then a (taken l end) = refl
 end-then a (refused k) = refl
 
 module _ {A : Type 0} (f : ℕ → Answer A) (step : A → ℕ → List ℕ → List ℕ) where
-  pub end-on : (left at : ℕ) {next : ℕ} {a : A} → 0 < left → f at ≡ taken a next → endOf (many f left at) ≡ endOf (many f (left - 1) next)
+  pub end-on : (left at : ℕ) {next : ℕ} {a : A} → 0 < left → f at ≡ taken a next → answerEnd (many f left at) ≡ answerEnd (many f (left - 1) next)
   unfolding many
   end-on zero at h e = absurd (omega (arith, h))
   end-on (suc k) at {next} {a} h e = rw (e, sub-one) (end-then a (many f k next))
 
-  pub end-off : (left at : ℕ) {r : Refusal} → 0 < left → f at ≡ refused r → endOf (many f left at) ≡ 0
+  pub end-off : (left at : ℕ) {r : Refusal} → 0 < left → f at ≡ refused r → answerEnd (many f left at) ≡ 0
   unfolding many
   end-off zero at h e = absurd (omega (arith, h))
   end-off (suc k) at h e = rw e
 
-  pub end-done : (left at : ℕ) → left ≤ 0 → endOf (many f left at) ≡ at
+  pub end-done : (left at : ℕ) → left ≤ 0 → answerEnd (many f left at) ≡ at
   unfolding many
   end-done zero at h = refl
   end-done (suc k) at h = absurd (omega (arith, h))
@@ -301,9 +301,9 @@ module _ (s : List ℕ) (sb : Bytes s) (at : ℕ) (h : Stands s at) where
     pub here : at < length s
     pub table : at + 1 + 2 ≤ length s
     pub counted : (getD s at 0 ≡ 0 → ⊥) → at + (11 + n) + 2 ≤ length s
-    pub none : getD s at 0 ≡ 0 → (at + (11 + n) ≡ endOf (recordAt s at)) × ((out : List ℕ) → out ≡ fixRecord s at out)
+    pub none : getD s at 0 ≡ 0 → (at + (11 + n) ≡ answerEnd (recordAt s at)) × ((out : List ℕ) → out ≡ fixRecord s at out)
     pub some : (getD s at 0 ≡ 0 → ⊥)
-        → (endOf (many (columnAt s) (field 2 (at + (11 + n)) s) (at + (11 + n) + 2)) ≡ endOf (recordAt s at))
+        → (answerEnd (many (columnAt s) (field 2 (at + (11 + n)) s) (at + (11 + n) + 2)) ≡ answerEnd (recordAt s at))
         × ((out : List ℕ) → fixAll (columnAt s) columnStep (field 2 (at + (11 + n)) s) (at + (11 + n) + 2) out ≡ fixRecord s at out)
 
   found-in : (r : MvccLogRecord) (next : ℕ) (p : VersionPayload) (e : List ℕ) → recordAt s at ≡ taken r next → r .payload ≡ p → PayloadIs s sb at p e next → Found
@@ -343,8 +343,8 @@ module _ (s : List ℕ) (sb : Bytes s) (at : ℕ) (h : Stands s at) where
 -- a turn of the walk over the records
 pub record Turn (s : List ℕ) (left at : ℕ) : Type 0 where
   pub here : Stands s at
-  pub on : Walk s (left - 1) (endOf (recordAt s at))
-  pub did : (out : List ℕ) → fixAll (recordAt s) (recordStep s) left at out ≡ fixAll (recordAt s) (recordStep s) (left - 1) (endOf (recordAt s at)) (fixRecord s at out)
+  pub on : Walk s (left - 1) (answerEnd (recordAt s at))
+  pub did : (out : List ℕ) → fixAll (recordAt s) (recordStep s) left at out ≡ fixAll (recordAt s) (recordStep s) (left - 1) (answerEnd (recordAt s at)) (fixRecord s at out)
 
 pub turn : (s : List ℕ) (left at : ℕ) → 0 < left → Walk s left at → Turn s left at
 unfolding fixAll fixRecord

@@ -13,7 +13,7 @@ use Rattle.le.proofs.Stores.{put-all, store-put, store-next}
 use Rattle.refusal.specs.declared.Refusal.{Refusal}
 use Rattle.refusal.specs.declared.Refusal.the-variants as refusal
 use Rattle.mvcc.specs.Answer.{taken, many}
-use Rattle.mvcc.specs.Decode.{recordAt, magic, recordsAt, batchOf}
+use Rattle.mvcc.specs.Decode.{recordAt, batchMagic, recordsAt, batchOf}
 use Rattle.mvcc.specs.Batch.{Rec, all, encodeRecord, encodeBatch, encodeBody, padded}
 use Rattle.mvcc.specs.Seen.{seenRecord, decodeRefusal, decodes, commitTs, records, canonical}
 use Rattle.mvcc.specs.declared.MvccCommitBatch.{MvccCommitBatch}
@@ -21,7 +21,7 @@ use Rattle.mvcc.specs.declared.BatchDecoded.{BatchDecoded}
 use Rattle.mvcc.specs.declared.BatchDecoded.the-variants as batch
 use Rattle.mvcc.proofs.Whole.{Found, found, found-batch, found-records, batch-length}
 use Rattle.mvcc.proofs.Canonical.{batchOf-is, encode-length}
-use Rattle.mvcc_canonical.specs.Canonical.{toldOf, canonicalRefusal, canonicalized, canonicalBytes, fixAll, recordStep, Walk, BoolsTo}
+use Rattle.mvcc_canonical.specs.Canonical.{canonicalAnswer, canonicalRefusal, canonicalized, canonicalBytes, fixAll, recordStep, Walk, BoolsTo}
 use Rattle.mvcc_canonical.specs.declared.Canonical.{Canonical}
 use Rattle.mvcc_canonical.specs.declared.Canonical.the-variants.{Done, Refused}
 use Rattle.mvcc_canonical.proofs.Same.{At, at-append, field-at}
@@ -36,8 +36,8 @@ abbrev endIn : BatchDecoded → ℕ
 endIn (batch.Batch b) = b .end
 endIn (batch.Refused k) = 0
 
-magic-bytes : leBytes 8 magic ≡ 0x4d ∷ 0x56 ∷ 0x43 ∷ 0x43 ∷ 0x30 ∷ 0x30 ∷ 0x30 ∷ 0x31 ∷ []
-unfolding magic leOf leBytes
+magic-bytes : leBytes 8 batchMagic ≡ 0x4d ∷ 0x56 ∷ 0x43 ∷ 0x43 ∷ 0x30 ∷ 0x30 ∷ 0x30 ∷ 0x31 ∷ []
+unfolding batchMagic leOf leBytes
 magic-bytes = refl
 
 decodes-batch : (s : List ℕ) {b : MvccCommitBatch} → batchOf s ≡ batch.Batch b → decodes s ≡ true
@@ -113,13 +113,13 @@ module _ (s : List ℕ) {b : MvccCommitBatch} (w : Decoded s b) where
 
   -- heading
   abbrev H : List ℕ
-  H = leBytes 8 magic ++ (leBytes 8 (field 8 8 s) ++ leBytes 2 (field 2 16 s))
+  H = leBytes 8 batchMagic ++ (leBytes 8 (field 8 8 s) ++ leBytes 2 (field 2 16 s))
 
   heading : At s 0 H 18
   heading =
       let l = F .long in
-      let a : At s 0 (leBytes 8 magic) 8 = rw (F .marked) at (field-at s sb 8 0 (omega arith)) in
-      at-append (leBytes 8 magic) (leBytes 8 (field 8 8 s) ++ leBytes 2 (field 2 16 s)) a
+      let a : At s 0 (leBytes 8 batchMagic) 8 = rw (F .marked) at (field-at s sb 8 0 (omega arith)) in
+      at-append (leBytes 8 batchMagic) (leBytes 8 (field 8 8 s) ++ leBytes 2 (field 2 16 s)) a
       (at-append (leBytes 8 (field 8 8 s)) (leBytes 2 (field 2 16 s)) (field-at s sb 8 8 (omega arith)) (field-at s sb 2 16 (omega arith)))
 
   -- the records
@@ -176,7 +176,7 @@ module _ (s out : List ℕ) where
   unfolding canonicalRefusal
   way-long h k = (rw (eq-eqb _ _ h, lt-leb _ _ k), rw (eq-eqb _ _ h, lt-leb _ _ k))
 
-  pub way-refused : {x : BatchDecoded} {r : Canonical} {k : Refusal} → length out ≡ 4096 → length s ≤ 4096 → x ≡ batchOf s → x ≡ batch.Refused k → r ≡ toldOf x → Says r out
+  pub way-refused : {x : BatchDecoded} {r : Canonical} {k : Refusal} → length out ≡ 4096 → length s ≤ 4096 → x ≡ batchOf s → x ≡ batch.Refused k → r ≡ canonicalAnswer x → Says r out
   unfolding canonicalRefusal decodeRefusal
   way-refused h k e g f = (rw (eq-eqb _ _ h, le-leb _ _ k, ← e) f, rw (eq-eqb _ _ h, le-leb _ _ k, ← e, g))
 

@@ -25,8 +25,8 @@ use Rattle.mvcc_canonical.specs.declared.Canonical.{Canonical}
 use Rattle.mvcc_canonical.specs.declared.Canonical.the-variants.{Done, Refused}
 
 -- what an answer of decoding comes to
-abbrev pub toldOf : BatchDecoded → Canonical
-toldOf d = answered Refused Done (refusalIn d)
+abbrev pub canonicalAnswer : BatchDecoded → Canonical
+canonicalAnswer d = answered Refused Done (refusalIn d)
 
 -- the body s, into out: a wrong length, then decoding's refusals
 unfoldable pub canonicalRefusal : List ℕ → List ℕ → Option Refusal
@@ -44,9 +44,9 @@ canonicalBytes s out = pick (accepts (canonicalRefusal s out)) (canonical s) out
 -- ---- the walk
 
 -- where reading ended; 0 where it was refused
-abbrev pub endOf : {A : Type 0} → Answer A → ℕ
-endOf (taken a end) = end
-endOf (refused k) = 0
+abbrev pub answerEnd : {A : Type 0} → Answer A → ℕ
+answerEnd (taken a end) = end
+answerEnd (refused k) = 0
 
 abbrev pub fixNext : {A : Type 0} → Answer A → (A → ℕ → List ℕ → List ℕ) → (ℕ → List ℕ → List ℕ) → List ℕ → List ℕ
 fixNext (taken a next) step rest out = rest next (step a next out)

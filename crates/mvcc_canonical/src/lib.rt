@@ -6,7 +6,7 @@ ghost use lib.ListN.{length};
 ghost use Rattle.le.specs.Choice.{pick};
 ghost use Rattle.mvcc.specs.Answer.{many};
 ghost use Rattle.mvcc.specs.Decode.{columnAt, recordAt};
-ghost use Rattle.mvcc_canonical.specs.Canonical.{endOf, fixAll, fixValue, columnStep, recordStep, fixRecord, Stands, Walk, BoolsTo, toldOf, canonicalized, canonicalBytes};
+ghost use Rattle.mvcc_canonical.specs.Canonical.{answerEnd, fixAll, fixValue, columnStep, recordStep, fixRecord, Stands, Walk, BoolsTo, canonicalAnswer, canonicalized, canonicalBytes};
 use refusal::Refusal;
 
 pub enum Canonical {
@@ -37,7 +37,7 @@ fn fix_value(out: &mut [u8], value: mvcc::Value, end: usize)
 
 // The bools of n columns from `first` on; answers the cursor past them.
 fn fix_columns(body: &[u8], out: &mut [u8], n: usize, first: usize) -> usize
-    ensures { λ r. ⌜ r ≡ endOf (many (columnAt (now (body .entry))) n first) ⌝ }
+    ensures { λ r. ⌜ r ≡ answerEnd (many (columnAt (now (body .entry))) n first) ⌝ }
     ensures { λ _. ⌜ now (out .exit) ≡ fixAll (columnAt (now (body .entry))) columnStep n first (now (out .entry)) ⌝ }
 {
     let mut at = first;
@@ -57,7 +57,7 @@ fn fix_columns(body: &[u8], out: &mut [u8], n: usize, first: usize) -> usize
 // The bools of the record at `at`; answers the cursor past it.
 fn fix_record(body: &[u8], out: &mut [u8], at: usize) -> usize
     requires { ⌜ Stands (now body) at ⌝ }
-    ensures { λ r. ⌜ r ≡ endOf (recordAt (now (body .entry)) at) ⌝ }
+    ensures { λ r. ⌜ r ≡ answerEnd (recordAt (now (body .entry)) at) ⌝ }
     ensures { λ _. ⌜ now (out .exit) ≡ fixRecord (now (body .entry)) at (now (out .entry)) ⌝ }
 {
     let rest = at + (11 + (le::read_u16(body, at + 1) as usize));
@@ -109,8 +109,8 @@ fn top_bool(body: &[u8], end: usize) -> u8
 }
 
 // What a body that was decoded comes to.
-fn told_of(d: mvcc::BatchDecoded) -> Canonical
-    ensures { λ r. ⌜ r ≡ toldOf d ⌝ }
+fn canonical_answer(d: mvcc::BatchDecoded) -> Canonical
+    ensures { λ r. ⌜ r ≡ canonicalAnswer d ⌝ }
 {
     match d {
         mvcc::BatchDecoded::Batch(_) => Canonical::Done,
@@ -131,7 +131,7 @@ pub fn canonicalize(body: &[u8], out: &mut [u8]) -> Canonical
     }
     let d = mvcc::MvccCommitBatch::decode(body);
     let mvcc::BatchDecoded::Batch(b) = d else {
-        return told_of(d);
+        return canonical_answer(d);
     };
     let end = b.end;
     let n = b.records;

@@ -8,7 +8,7 @@ use Rattle.refusal.specs.declared.Refusal.the-variants as refusal
 use Rattle.refusal.proofs.Rows.{accepted}
 use Rattle.pager_state.specs.World.{World, countOf, headerOf, stagingFine, fine}
 use Rattle.pager_state.specs.Overlay.{readRefusal, findPage, findRefusal}
-use Rattle.pager_state.specs.Fold.{foldTodo, foldAdvance}
+use Rattle.pager_state.specs.Checkpoint.{checkpointTodo, checkpointAdvance}
 use Rattle.pager_state.specs.Commit.{commitTodo, commitAdvance}
 use Rattle.pager_state.specs.Steps.{differing, commitRefusal, beginCommit, answerOf, named, done, stepFine, stepAnswer, stepped, steps, onStore}
 use Rattle.pager_state.specs.Stores.{Act}
@@ -16,15 +16,15 @@ use Rattle.pager_state.specs.declared.Job.{Job}
 use Rattle.pager_state.specs.declared.Job.the-variants as job
 use Rattle.pager_state.specs.declared.Pager.{Pager}
 use Rattle.pager_state.specs.declared.StepAnswer.the-variants as step
-use Rattle.pager_fold.specs.FoldStep.{foldAnswer, foldStepped}
-use Rattle.pager_commit.specs.CommitStep.{commitStepAnswer, commitStepped, commitSealed}
-use Rattle.pager.specs.Jobs.{isCommit}
-use Rattle.pager.proofs.Steps.{by-commit, by-fold, no-step}
+use Rattle.pager_checkpoint.specs.CheckpointStep.{checkpointStepAnswer, checkpointStepped}
+use Rattle.pager_commit.specs.CommitStep.{commitStepAnswer, commitStepped, commitFramesWorld}
+use Rattle.pager.specs.Jobs.{isCommitJob}
+use Rattle.pager.proofs.Steps.{by-commit, by-checkpoint, no-step}
 use Rattle.pager_read.proofs.Place.{place-find, none-behind}
 use Rattle.history.specs.Calls.{refusedBy, worldAfter}
 use Rattle.history.proofs.Rest.{find-number}
 use Rattle.history.proofs.Refused.{unaccepted}
-use Rattle.other_calls.specs.Others.{Stays, CommitStepBy, CommitStepIs, BehindStaging, FoldStepBy, FoldStepIs, stepping, CommitFramesIs, StageInIs, readBy, ReadIs, ReadEndIs}
+use Rattle.other_calls.specs.Others.{Stays, CommitStepBy, CommitStepIs, BehindStaging, CheckpointStepBy, CheckpointStepIs, stepping, CommitFramesIs, StageInIs, readBy, ReadIs, ReadEndIs}
 
 -- ---- steps
 
@@ -42,50 +42,50 @@ module _ (w : World) where
   commit-by : (g : List ℕ) (j : Job) → w .pager .job ≡ j → CommitStepBy j g w (commitStepAnswer g w) (commitStepped g w)
   unfolding commitTodo worldAfter
   commit-by g job.Idle e = commit-stays g (rw e)
-  commit-by g (job.Commit h salt page answer) e = by-commit g w (ap isCommit e)
-  commit-by g (job.Fold salt page answer) e = commit-stays g (rw e)
+  commit-by g (job.Commit h salt page answer) e = by-commit g w (ap isCommitJob e)
+  commit-by g (job.Checkpoint salt page answer) e = commit-stays g (rw e)
   commit-by g (job.MainLength salt answer) e = commit-stays g (rw e)
   commit-by g (job.LogLength salt answer) e = commit-stays g (rw e)
   commit-by g (job.LogHeader salt answer) e = commit-stays g (rw e)
 
-  fold-stays : foldTodo (w .pager .job) w ≡ [] → Stays (fine w) w (foldAnswer w) (foldStepped w)
-  unfolding foldAnswer foldStepped
-  fold-stays e = none-done (fine w) (answerOf (w .pager .job)) (foldTodo (w .pager .job) w) (foldAdvance (w .pager .job) w) w e
+  checkpoint-stays : checkpointTodo (w .pager .job) w ≡ [] → Stays (fine w) w (checkpointStepAnswer w) (checkpointStepped w)
+  unfolding checkpointStepAnswer checkpointStepped
+  checkpoint-stays e = none-done (fine w) (answerOf (w .pager .job)) (checkpointTodo (w .pager .job) w) (checkpointAdvance (w .pager .job) w) w e
 
   -- refused for the areas, by `Step` too
-  fold-refused : fine w ≡ false → (foldAnswer w ≡ step.Refused refusal.Area) × (foldStepped w ≡ w)
-  unfolding foldAnswer foldStepped
-  fold-refused e = (rw e, rw e)
+  checkpoint-refused : fine w ≡ false → (checkpointStepAnswer w ≡ step.Refused refusal.Area) × (checkpointStepped w ≡ w)
+  unfolding checkpointStepAnswer checkpointStepped
+  checkpoint-refused e = (rw e, rw e)
 
-  behind : isCommit (w .pager .job) ≡ false → BehindStaging w (foldAnswer w) (foldStepped w)
+  behind : isCommitJob (w .pager .job) ≡ false → BehindStaging w (checkpointStepAnswer w) (checkpointStepped w)
   unfolding worldAfter
   behind e g = go (fine w) (stagingFine g) refl refl
     where
       go : (a b : Bool) → fine w ≡ a → stagingFine g ≡ b
-          → (stepAnswer g w ≡ pick (stagingFine g) (foldAnswer w) (step.Refused refusal.Area)) × (stepped g w ≡ pick (stagingFine g) (foldStepped w) w)
-      go true true p q = let x = by-fold g w (rw (p, q)) e in (rw q (sym (x .0)), rw q (sym (x .1)))
+          → (stepAnswer g w ≡ pick (stagingFine g) (checkpointStepAnswer w) (step.Refused refusal.Area)) × (stepped g w ≡ pick (stagingFine g) (checkpointStepped w) w)
+      go true true p q = let x = by-checkpoint g w (rw (p, q)) e in (rw q (sym (x .0)), rw q (sym (x .1)))
       go true false p q = let x = no-step g w (rw (p, q)) in (rw q (sym (x .0)), rw q (sym (x .1)))
-      go false true p q = let x = no-step g w (rw p) in (rw q (sym (x .0) ∙ sym (fold-refused p .0)), rw q (sym (x .1) ∙ sym (fold-refused p .1)))
+      go false true p q = let x = no-step g w (rw p) in (rw q (sym (x .0) ∙ sym (checkpoint-refused p .0)), rw q (sym (x .1) ∙ sym (checkpoint-refused p .1)))
       go false false p q = let x = no-step g w (rw p) in (rw q (sym (x .0)), rw q (sym (x .1)))
 
-  fold-by : (j : Job) → w .pager .job ≡ j → FoldStepBy j w (foldAnswer w) (foldStepped w)
-  unfolding foldTodo
-  fold-by job.Idle e = fold-stays (rw e)
-  fold-by (job.Commit h salt page answer) e = fold-stays (rw e)
-  fold-by (job.Fold salt page answer) e = behind (ap isCommit e)
-  fold-by (job.MainLength salt answer) e = behind (ap isCommit e)
-  fold-by (job.LogLength salt answer) e = behind (ap isCommit e)
-  fold-by (job.LogHeader salt answer) e = behind (ap isCommit e)
+  checkpoint-goes-by : (j : Job) → w .pager .job ≡ j → CheckpointStepBy j w (checkpointStepAnswer w) (checkpointStepped w)
+  unfolding checkpointTodo
+  checkpoint-goes-by job.Idle e = checkpoint-stays (rw e)
+  checkpoint-goes-by (job.Commit h salt page answer) e = checkpoint-stays (rw e)
+  checkpoint-goes-by (job.Checkpoint salt page answer) e = behind (ap isCommitJob e)
+  checkpoint-goes-by (job.MainLength salt answer) e = behind (ap isCommitJob e)
+  checkpoint-goes-by (job.LogLength salt answer) e = behind (ap isCommitJob e)
+  checkpoint-goes-by (job.LogHeader salt answer) e = behind (ap isCommitJob e)
 
 pub commit-step-is : CommitStepIs
 unfolding CommitStepIs
 commit-step-is g w = commit-by w g (w .pager .job) refl
 
-pub fold-step-is : FoldStepIs
-unfolding FoldStepIs
-fold-step-is w = fold-by w (w .pager .job) refl
+pub checkpoint-step-is : CheckpointStepIs
+unfolding CheckpointStepIs
+checkpoint-step-is w = checkpoint-goes-by w (w .pager .job) refl
 
--- ---- a commit up to its seal
+-- ---- a commit up to its commit frame
 
 steps-are : (k : ℕ) (g : List ℕ) (w : World) → steps g k w ≡ stepping k g w
 unfolding steps stepping worldAfter
@@ -93,7 +93,7 @@ steps-are zero g w = refl
 steps-are (suc k) g w = steps-are k g (stepped g w)
 
 pub commit-frames-is : CommitFramesIs
-unfolding CommitFramesIs refusedBy worldAfter commitSealed
+unfolding CommitFramesIs refusedBy worldAfter commitFramesWorld
 commit-frames-is g w h salt =
     record {
       refusal = refl;

@@ -6,18 +6,18 @@ use Prim.Native.Nat.{ℕ}
 use lib.Dec.{eqb}
 use Rattle.pager_state.specs.World.{world, countOf}
 use Rattle.pager_state.specs.Overlay.{slots, placePage, findPage}
-use Rattle.pager_state.specs.Staging.{stageAnswer, stagedAfter, stagingAfter, stagePage, stageAfter}
+use Rattle.pager_state.specs.Staging.{stageAnswer, stagedAfter, stagingBytes, stagePage, stageAfter}
 use Rattle.pager_state.specs.declared.Pager.{Pager}
 use Rattle.pager_state.specs.declared.PageFound.{PageFound}
 use Rattle.pager_state.specs.declared.Staged.{Staged}
 use Rattle.pager_read.specs.Reading.{mayRead, readAs}
 use Rattle.capi_numbers.specs.Numbers.{storeOf}
 use Rattle.capi_numbers.specs.declared.Store.{Store}
-use Rattle.other_calls.specs.Others.{Tells}
+use Rattle.other_calls.specs.Others.{SaysBusy}
 
 -- the job's number of every store that a call gives tells whether something is part done
-unfoldable pub HostTells : Type 0
-HostTells = (p : Pager) → Tells (storeOf p .job .kind) p
+unfoldable pub HostSaysBusy : Type 0
+HostSaysBusy = (p : Pager) → SaysBusy (storeOf p .job .kind) p
 
 -- a page, judged and placed by the store's own fields
 abbrev pub hostReads : Store → List ℕ → List ℕ → List ℕ → List ℕ → ℕ → PageFound
@@ -37,8 +37,8 @@ abbrev pub hostSlots : Store → Staged
 hostSlots s = slots (s .staged .count) (s .staged .pages)
 
 -- the store in which the staged pages' numbers were stored where they lie
-abbrev pub withSlots : Store → Staged → Store
-withSlots s x =
+abbrev pub storeWithSlots : Store → Staged → Store
+storeWithSlots s x =
     record {
       «current_header» = s .«current_header»;
       wal = s .wal;
@@ -52,8 +52,8 @@ withSlots s x =
 -- a page staged by the store's own fields is staged as `stage_page` stages it
 pub record HostStaged (p : Pager) (g bytes : List ℕ) (n : ℕ) : Type 0 where
   pub answer : stageAnswer (hostBusy (storeOf p)) (hostSlots (storeOf p)) g n bytes ≡ stagePage p g n bytes .answer
-  pub store : withSlots (storeOf p) (stagedAfter (hostBusy (storeOf p)) (hostSlots (storeOf p)) g n bytes) ≡ storeOf (stagePage p g n bytes .pager)
-  pub staging : stagingAfter (hostBusy (storeOf p)) (hostSlots (storeOf p)) g n bytes ≡ stageAfter p g n bytes
+  pub store : storeWithSlots (storeOf p) (stagedAfter (hostBusy (storeOf p)) (hostSlots (storeOf p)) g n bytes) ≡ storeOf (stagePage p g n bytes .pager)
+  pub staging : stagingBytes (hostBusy (storeOf p)) (hostSlots (storeOf p)) g n bytes ≡ stageAfter p g n bytes
 
 unfoldable pub HostStages : Type 0
 HostStages = (p : Pager) (g bytes : List ℕ) (n : ℕ) → HostStaged p g bytes n

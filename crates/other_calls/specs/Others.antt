@@ -1,5 +1,5 @@
 -- The pager's public calls that `Call` does not name: each is one of those that it does, or none, on every store, a made-up one too.
--- `BeginCommit h salt`, `Step`, `Stage n bytes` and `Ask (ReadPage n)` are the theorem's own calls: `refusedBy`, `worldAfter` and `calls.stagingAfter` say what they come to.
+-- `BeginCommit h salt`, `Step`, `Stage n bytes` and `Ask (ReadPage n)` are the theorem's own calls: `refusedBuilding`, `worldAfter` and `calls.stagingBytes` say what they come to.
 use mathlib.Core.Path.{_≡_}
 use mathlib.Core.Bool.{Bool, not}
 use mathlib.Core.List.{List}
@@ -10,7 +10,7 @@ use Rattle.refusal.specs.Refusal.{numberOf}
 use Rattle.refusal.specs.declared.Refusal.the-variants as refusal
 use Rattle.pager_state.specs.World.{World, countOf, headerOf, fine, stagingFine, busy, withStaged}
 use Rattle.pager_state.specs.Overlay.{slots, placePage, findPage, findRefusal}
-use Rattle.pager_state.specs.Staging.{stageRefusal, stagedAfter, stagingAfter}
+use Rattle.pager_state.specs.Staging.{stageRefusal, stagedAfter, stagingBytes}
 use Rattle.header.specs.declared.DbHeader.{DbHeader}
 use Rattle.pager_state.specs.Steps.{differing, commitRefusal, stepFine, stepAnswer, onStore}
 use Rattle.pager_state.specs.declared.Job.{Job}
@@ -21,13 +21,13 @@ use Rattle.pager_state.specs.declared.PageFound.the-variants as found
 use Rattle.pager_state.specs.declared.StepAnswer.{StepAnswer}
 use Rattle.pager_state.specs.declared.StepAnswer.the-variants as step
 use Rattle.pager_state.specs.declared.Staged.{Staged}
-use Rattle.pager_fold.specs.FoldStep.{foldAnswer, foldStepped}
-use Rattle.pager_commit.specs.CommitStep.{commitStepAnswer, commitStepped, commitSealed}
+use Rattle.pager_checkpoint.specs.CheckpointStep.{checkpointStepAnswer, checkpointStepped}
+use Rattle.pager_commit.specs.CommitStep.{commitStepAnswer, commitStepped, commitFramesWorld}
 use Rattle.pager_read.specs.Reading.{mayRead, readEnd, readAs}
 use Rattle.history.specs.Calls.{ReadPage, Ask, Stage, BeginCommit, Step, refusedBy, worldAfter}
 use Rattle.history.specs.Calls as calls
 
--- ---- steps: `commit_step` and `fold_step`. a is the call's answer, v the store and areas after it
+-- ---- steps: `commit_step` and `checkpoint_step`. a is the call's answer, v the store and areas after it
 
 -- nothing is done: Idle, or 1 where the areas are wrong
 abbrev pub Stays : Bool → World → StepAnswer → World → Type 0
@@ -37,7 +37,7 @@ Stays ok w a v = (a ≡ pick ok step.Idle (step.Refused refusal.Area)) × (v ≡
 abbrev pub CommitStepBy : Job → List ℕ → World → StepAnswer → World → Type 0
 CommitStepBy job.Idle g w a v = Stays (stepFine g w) w a v
 CommitStepBy (job.Commit h salt page answer) g w a v = (a ≡ stepAnswer g w) × (v ≡ worldAfter Step w g)
-CommitStepBy (job.Fold salt page answer) g w a v = Stays (stepFine g w) w a v
+CommitStepBy (job.Checkpoint salt page answer) g w a v = Stays (stepFine g w) w a v
 CommitStepBy (job.MainLength salt answer) g w a v = Stays (stepFine g w) w a v
 CommitStepBy (job.LogLength salt answer) g w a v = Stays (stepFine g w) w a v
 CommitStepBy (job.LogHeader salt answer) g w a v = Stays (stepFine g w) w a v
@@ -45,21 +45,21 @@ CommitStepBy (job.LogHeader salt answer) g w a v = Stays (stepFine g w) w a v
 unfoldable pub CommitStepIs : Type 0
 CommitStepIs = (g : List ℕ) (w : World) → CommitStepBy (w .pager .job) g w (commitStepAnswer g w) (commitStepped g w)
 
--- `fold_step` is not lent the staging area: `Step` is it where the staging area has its length, and is refused (1) where not
+-- `checkpoint_step` is not lent the staging area: `Step` is it where the staging area has its length, and is refused (1) where not
 abbrev pub BehindStaging : World → StepAnswer → World → Type 0
 BehindStaging w a v = (g : List ℕ) → (stepAnswer g w ≡ pick (stagingFine g) a (step.Refused refusal.Area)) × (worldAfter Step w g ≡ pick (stagingFine g) v w)
 
--- so it is where a fold is part done
-abbrev pub FoldStepBy : Job → World → StepAnswer → World → Type 0
-FoldStepBy job.Idle w a v = Stays (fine w) w a v
-FoldStepBy (job.Commit h salt page answer) w a v = Stays (fine w) w a v
-FoldStepBy (job.Fold salt page answer) w a v = BehindStaging w a v
-FoldStepBy (job.MainLength salt answer) w a v = BehindStaging w a v
-FoldStepBy (job.LogLength salt answer) w a v = BehindStaging w a v
-FoldStepBy (job.LogHeader salt answer) w a v = BehindStaging w a v
+-- so it is where a checkpoint is part done
+abbrev pub CheckpointStepBy : Job → World → StepAnswer → World → Type 0
+CheckpointStepBy job.Idle w a v = Stays (fine w) w a v
+CheckpointStepBy (job.Commit h salt page answer) w a v = Stays (fine w) w a v
+CheckpointStepBy (job.Checkpoint salt page answer) w a v = BehindStaging w a v
+CheckpointStepBy (job.MainLength salt answer) w a v = BehindStaging w a v
+CheckpointStepBy (job.LogLength salt answer) w a v = BehindStaging w a v
+CheckpointStepBy (job.LogHeader salt answer) w a v = BehindStaging w a v
 
-unfoldable pub FoldStepIs : Type 0
-FoldStepIs = (w : World) → FoldStepBy (w .pager .job) w (foldAnswer w) (foldStepped w)
+unfoldable pub CheckpointStepIs : Type 0
+CheckpointStepIs = (w : World) → CheckpointStepBy (w .pager .job) w (checkpointStepAnswer w) (checkpointStepped w)
 
 -- ---- `commit_frames` is `BeginCommit` and then as many `Step`s as pages differ, and one; refused where that is
 
@@ -70,8 +70,8 @@ stepping (suc k) g w = stepping k g (worldAfter Step w g)
 
 pub record FramesAs (g : List ℕ) (w : World) (h : DbHeader) (salt : ℕ) : Type 0 where
   pub refusal : numberOf (commitRefusal g w h) ≡ refusedBy (BeginCommit h salt) w g
-  pub refused : (refusedBy (BeginCommit h salt) w g ≡ 0 → ⊥) → commitSealed g w h salt ≡ w
-  pub begun : refusedBy (BeginCommit h salt) w g ≡ 0 → commitSealed g w h salt ≡ stepping (differing g w + 1) g (worldAfter (BeginCommit h salt) w g)
+  pub refused : (refusedBy (BeginCommit h salt) w g ≡ 0 → ⊥) → commitFramesWorld g w h salt ≡ w
+  pub begun : refusedBy (BeginCommit h salt) w g ≡ 0 → commitFramesWorld g w h salt ≡ stepping (differing g w + 1) g (worldAfter (BeginCommit h salt) w g)
 
 unfoldable pub CommitFramesIs : Type 0
 CommitFramesIs = (g : List ℕ) (w : World) (h : DbHeader) (salt : ℕ) → FramesAs g w h salt
@@ -79,8 +79,8 @@ CommitFramesIs = (g : List ℕ) (w : World) (h : DbHeader) (salt : ℕ) → Fram
 -- ---- calls that are told the job by a number
 
 -- 0 where nothing is part done, another where something is
-abbrev pub Tells : ℕ → Pager → Type 0
-Tells j p = not (eqb j 0) ≡ busy p
+abbrev pub SaysBusy : ℕ → Pager → Type 0
+SaysBusy j p = not (eqb j 0) ≡ busy p
 
 -- ---- `stage_in` is `Stage`
 
@@ -88,10 +88,10 @@ Tells j p = not (eqb j 0) ≡ busy p
 pub record StagedAs (j n : ℕ) (bytes g : List ℕ) (s : Staged) (w : World) : Type 0 where
   pub refusal : numberOf (stageRefusal (not (eqb j 0)) s g n bytes) ≡ refusedBy (Stage n bytes) w g
   pub store : onStore w (withStaged (w .pager) (stagedAfter (not (eqb j 0)) s g n bytes)) ≡ worldAfter (Stage n bytes) w g
-  pub staging : stagingAfter (not (eqb j 0)) s g n bytes ≡ calls.stagingAfter (Stage n bytes) w g
+  pub staging : stagingBytes (not (eqb j 0)) s g n bytes ≡ calls.stagingAfter (Stage n bytes) w g
 
 unfoldable pub StageInIs : Type 0
-StageInIs = (j n : ℕ) (bytes g : List ℕ) (w : World) → Tells j (w .pager) → StagedAs j n bytes g (slots (w .pager .staged .count) (w .pager .staged .pages)) w
+StageInIs = (j n : ℕ) (bytes g : List ℕ) (w : World) → SaysBusy j (w .pager) → StagedAs j n bytes g (slots (w .pager .staged .count) (w .pager .staged .pages)) w
 
 -- ---- `may_read` and `place_page` behind it are `ReadPage`
 
@@ -103,7 +103,7 @@ readBy j n g w =
 
 unfoldable pub ReadIs : Type 0
 ReadIs =
-    (j n : ℕ) (g : List ℕ) (w : World) → Tells j (w .pager)
+    (j n : ℕ) (g : List ℕ) (w : World) → SaysBusy j (w .pager)
     → (readBy j n g w ≡ findPage w g n) × (findRefusal (readBy j n g w) ≡ refusedBy (Ask (ReadPage n)) w g)
 
 -- from `read_end` on every `ReadPage` that is not refused finds no page

@@ -1,4 +1,4 @@
--- A step of a commit or of a fold is the step; what the loop over steps keeps.
+-- A step of a commit or of a checkpoint is the step; what the loop over steps keeps.
 use mathlib.Core.Path.{_≡_, refl, sym}
 use mathlib.Core.Bool.{Bool, true, false}
 use mathlib.Core.List.{List, [], _∷_, append-nil}
@@ -10,7 +10,7 @@ use Rattle.le.specs.Choice.{both}
 use Rattle.le.proofs.Compare.{no-test}
 use Rattle.refusal.specs.declared.Refusal.the-variants as refusal
 use Rattle.pager_state.specs.World.{World, fine, stagingFine, busyWith}
-use Rattle.pager_state.specs.Fold.{foldTodo, foldAdvance}
+use Rattle.pager_state.specs.Checkpoint.{checkpointTodo, checkpointAdvance}
 use Rattle.pager_state.specs.Commit.{commitTodo, commitAdvance}
 use Rattle.pager_state.specs.Steps.{stepFine, todo, advance, stepAnswer, stepped, steps, mostSteps}
 use Rattle.pager_state.specs.declared.Job.{Job}
@@ -19,9 +19,9 @@ use Rattle.pager_state.specs.declared.StepAnswer.the-variants as step
 use Rattle.pager_state.proofs.Job as J
 use Rattle.pager_state.proofs.Begun.{not-busy}
 use Rattle.pager_state.proofs.Runs.{idle-stays}
-use Rattle.pager_fold.specs.FoldStep.{foldAnswer, foldStepped}
+use Rattle.pager_checkpoint.specs.CheckpointStep.{checkpointStepAnswer, checkpointStepped}
 use Rattle.pager_commit.specs.CommitStep.{commitStepAnswer, commitStepped}
-use Rattle.pager.specs.Jobs.{isCommit}
+use Rattle.pager.specs.Jobs.{isCommitJob}
 
 -- ---- which of the two
 
@@ -29,10 +29,10 @@ use Rattle.pager.specs.Jobs.{isCommit}
 abbrev others : List ℕ
 others = 0 ∷ 2 ∷ 3 ∷ 4 ∷ 5 ∷ []
 
-pub no-commit : (j : Job) → OneOf others (tagOf J.the-type j) → false ≡ isCommit j
+pub no-commit : (j : Job) → OneOf others (tagOf J.the-type j) → false ≡ isCommitJob j
 no-commit job.Idle k = refl
 no-commit (job.Commit h salt page answer) k = absurd (miss others 1 tt k)
-no-commit (job.Fold salt page answer) k = refl
+no-commit (job.Checkpoint salt page answer) k = refl
 no-commit (job.MainLength salt answer) k = refl
 no-commit (job.LogLength salt answer) k = refl
 no-commit (job.LogHeader salt answer) k = refl
@@ -40,43 +40,43 @@ no-commit (job.LogHeader salt answer) k = refl
 -- ---- which stores are left
 
 module _ (g : List ℕ) (w : World) where
-  fold-none : (j : Job) → isCommit j ≡ true → foldTodo j w ≡ []
-  unfolding foldTodo
-  fold-none job.Idle e = no-test e
-  fold-none (job.Commit h salt page answer) e = refl
-  fold-none (job.Fold salt page answer) e = no-test e
-  fold-none (job.MainLength salt answer) e = no-test e
-  fold-none (job.LogLength salt answer) e = no-test e
-  fold-none (job.LogHeader salt answer) e = no-test e
+  checkpoint-none : (j : Job) → isCommitJob j ≡ true → checkpointTodo j w ≡ []
+  unfolding checkpointTodo
+  checkpoint-none job.Idle e = no-test e
+  checkpoint-none (job.Commit h salt page answer) e = refl
+  checkpoint-none (job.Checkpoint salt page answer) e = no-test e
+  checkpoint-none (job.MainLength salt answer) e = no-test e
+  checkpoint-none (job.LogLength salt answer) e = no-test e
+  checkpoint-none (job.LogHeader salt answer) e = no-test e
 
-  fold-still : (j : Job) (v : World) → isCommit j ≡ true → foldAdvance j v ≡ v
-  unfolding foldAdvance
-  fold-still job.Idle v e = no-test e
-  fold-still (job.Commit h salt page answer) v e = refl
-  fold-still (job.Fold salt page answer) v e = no-test e
-  fold-still (job.MainLength salt answer) v e = no-test e
-  fold-still (job.LogLength salt answer) v e = no-test e
-  fold-still (job.LogHeader salt answer) v e = no-test e
+  checkpoint-still : (j : Job) (v : World) → isCommitJob j ≡ true → checkpointAdvance j v ≡ v
+  unfolding checkpointAdvance
+  checkpoint-still job.Idle v e = no-test e
+  checkpoint-still (job.Commit h salt page answer) v e = refl
+  checkpoint-still (job.Checkpoint salt page answer) v e = no-test e
+  checkpoint-still (job.MainLength salt answer) v e = no-test e
+  checkpoint-still (job.LogLength salt answer) v e = no-test e
+  checkpoint-still (job.LogHeader salt answer) v e = no-test e
 
-  commit-none : (j : Job) → isCommit j ≡ false → (commitTodo g j w ≡ []) × (commitAdvance g j w ≡ w)
+  commit-none : (j : Job) → isCommitJob j ≡ false → (commitTodo g j w ≡ []) × (commitAdvance g j w ≡ w)
   unfolding commitTodo commitAdvance
   commit-none job.Idle e = (refl, refl)
   commit-none (job.Commit h salt page answer) e = no-test (sym e)
-  commit-none (job.Fold salt page answer) e = (refl, refl)
+  commit-none (job.Checkpoint salt page answer) e = (refl, refl)
   commit-none (job.MainLength salt answer) e = (refl, refl)
   commit-none (job.LogLength salt answer) e = (refl, refl)
   commit-none (job.LogHeader salt answer) e = (refl, refl)
 
-  pub by-commit : isCommit (w .pager .job) ≡ true → (commitStepAnswer g w ≡ stepAnswer g w) × (commitStepped g w ≡ stepped g w)
+  pub by-commit : isCommitJob (w .pager .job) ≡ true → (commitStepAnswer g w ≡ stepAnswer g w) × (commitStepped g w ≡ stepped g w)
   unfolding commitStepAnswer commitStepped stepAnswer stepped todo advance
   by-commit e =
-      let n = fold-none (w .pager .job) e in
-      let s = fold-still (w .pager .job) (commitAdvance g (w .pager .job) w) e in
+      let n = checkpoint-none (w .pager .job) e in
+      let s = checkpoint-still (w .pager .job) (commitAdvance g (w .pager .job) w) e in
       (rw (n, append-nil), rw (n, append-nil, s))
 
-  pub by-fold : stepFine g w ≡ true → isCommit (w .pager .job) ≡ false → (foldAnswer w ≡ stepAnswer g w) × (foldStepped w ≡ stepped g w)
-  unfolding foldAnswer foldStepped stepAnswer stepped todo advance
-  by-fold f e =
+  pub by-checkpoint : stepFine g w ≡ true → isCommitJob (w .pager .job) ≡ false → (checkpointStepAnswer w ≡ stepAnswer g w) × (checkpointStepped w ≡ stepped g w)
+  unfolding checkpointStepAnswer checkpointStepped stepAnswer stepped todo advance
+  by-checkpoint f e =
       let n = commit-none (w .pager .job) e in
       let b = both-first (fine w) (stagingFine g) f in
       (rw (f, b, n .0), rw (f, b, n .0, n .1))

@@ -12,21 +12,21 @@ use Rattle.pager_state.specs.declared.CheckpointStart.the-variants as checkpoin
 use Rattle.pager_state.specs.declared.CheckpointAnswer.{CheckpointAnswer}
 use Rattle.pager_state.specs.declared.CheckpointAnswer.the-variants as written
 
-abbrev pub isCommit : Job → Bool
-isCommit job.Idle = false
-isCommit (job.Commit h salt page answer) = true
-isCommit (job.Fold salt page answer) = false
-isCommit (job.MainLength salt answer) = false
-isCommit (job.LogLength salt answer) = false
-isCommit (job.LogHeader salt answer) = false
+abbrev pub isCommitJob : Job → Bool
+isCommitJob job.Idle = false
+isCommitJob (job.Commit h salt page answer) = true
+isCommitJob (job.Checkpoint salt page answer) = false
+isCommitJob (job.MainLength salt answer) = false
+isCommitJob (job.LogLength salt answer) = false
+isCommitJob (job.LogHeader salt answer) = false
 
 -- n pages differ
-abbrev pub committedAs : CommitStart → ℕ → CommitAnswer
-committedAs commit.Begun n = committed.Committed n
-committedAs (commit.Refused r) n = committed.Refused r
+abbrev pub startCommitted : CommitStart → ℕ → CommitAnswer
+startCommitted commit.Begun n = committed.Committed n
+startCommitted (commit.Refused r) n = committed.Refused r
 
 -- n pages are written, if any store is to be done
-abbrev pub writtenAs : CheckpointStart → ℕ → CheckpointAnswer
-writtenAs checkpoint.Begun n = written.Written n
-writtenAs checkpoint.Nothing n = written.Written 0
-writtenAs (checkpoint.Refused r) n = written.Refused r
+abbrev pub startWritten : CheckpointStart → ℕ → CheckpointAnswer
+startWritten checkpoint.Begun n = written.Written n
+startWritten checkpoint.Nothing n = written.Written 0
+startWritten (checkpoint.Refused r) n = written.Refused r

@@ -1,11 +1,11 @@
-// Commit and fold of the store: the next step, and either in one call, its steps run to the end.
+// Commit and checkpoint of the store: the next step, and either in one call, its steps run to the end.
 // A step does one store and names it, for a host to carry to the disk. Every public function is total.
 ghost use mathlib.Core.Path.{_≡_};
 ghost use mathlib.Core.Bool.{true};
 ghost use Prim.Native.Nat.{_-_};
 ghost use Rattle.pager_state.specs.World.{world};
 ghost use Rattle.pager_state.specs.Steps.{answerOf, stepAnswer, stepped, steps, mostSteps, commitAnswer, commitWorld, checkpointAnswer, checkpointWorld};
-ghost use Rattle.pager.specs.Jobs.{isCommit, committedAs, writtenAs};
+ghost use Rattle.pager.specs.Jobs.{isCommitJob, startCommitted, startWritten};
 use header::DbHeader;
 use pager_state::CheckpointAnswer;
 use pager_state::CheckpointStart;
@@ -19,12 +19,12 @@ use pager_state::StepAnswer;
 use pager_state::Stepped;
 use refusal::Refusal;
 
-// More steps than any commit or fold has.
+// More steps than any commit or checkpoint has.
 const MOST_STEPS: usize = 2_200;
 
-// Whether what is part done is a commit that has not sealed yet.
+// Whether what is part done is a commit that has not committed yet.
 fn is_commit(job: Job) -> bool
-    ensures { λ r. ⌜ r ≡ isCommit job ⌝ }
+    ensures { λ r. ⌜ r ≡ isCommitJob job ⌝ }
 {
     match job {
         Job::Commit {
@@ -37,7 +37,7 @@ fn is_commit(job: Job) -> bool
     }
 }
 
-// Does the next store of the commit or fold that is part done, and no other.
+// Does the next store of the commit or checkpoint that is part done, and no other.
 pub fn next_step<'a>(
     pager: Pager,
     table: &mut [u32],
@@ -63,7 +63,7 @@ pub fn next_step<'a>(
     if is_commit(job) {
         return pager_commit::commit_step(pager, table, log, main, staging);
     }
-    pager_fold::fold_step(pager, table, log, main)
+    pager_checkpoint::checkpoint_step(pager, table, log, main)
 }
 
 // Runs the steps to the end, `done` of which are done already.
@@ -106,7 +106,7 @@ fn answer_of(job: Job) -> usize
             page: _,
             answer,
         } => answer,
-        Job::Fold {
+        Job::Checkpoint {
             salt: _,
             page: _,
             answer,
@@ -119,7 +119,7 @@ fn answer_of(job: Job) -> usize
 
 // What the start of a commit comes to in one call.
 fn committed_as(answer: CommitStart, pages: usize) -> CommitAnswer
-    ensures { λ r. ⌜ r ≡ committedAs answer pages ⌝ }
+    ensures { λ r. ⌜ r ≡ startCommitted answer pages ⌝ }
 {
     match answer {
         CommitStart::Begun => CommitAnswer::Committed(pages),
@@ -166,9 +166,9 @@ pub fn commit<'a>(
     Committed { answer, pager: end }
 }
 
-// What the start of a fold comes to in one call.
+// What the start of a checkpoint comes to in one call.
 fn written_as(answer: CheckpointStart, pages: usize) -> CheckpointAnswer
-    ensures { λ r. ⌜ r ≡ writtenAs answer pages ⌝ }
+    ensures { λ r. ⌜ r ≡ startWritten answer pages ⌝ }
 {
     match answer {
         CheckpointStart::Begun => CheckpointAnswer::Written(pages),
@@ -177,7 +177,7 @@ fn written_as(answer: CheckpointStart, pages: usize) -> CheckpointAnswer
     }
 }
 
-// A fold in one call.
+// A checkpoint in one call.
 pub fn checkpoint<'a>(
     pager: Pager,
     table: &mut [u32],
@@ -194,7 +194,7 @@ pub fn checkpoint<'a>(
         let later = world (r .pager) (now (table .exit)) (now (log .exit)) (now (main .exit)) in
         later ≡ checkpointWorld (now (staging .entry)) w salt) ⌝ }
 {
-    let begun = pager_fold::begin_checkpoint(pager, table, log, main, staging, salt);
+    let begun = pager_checkpoint::begin_checkpoint(pager, table, log, main, staging, salt);
     let start = begun.answer;
     let store = begun.pager;
     let job = store.job;

@@ -14,7 +14,7 @@ use Rattle.frame.specs.Frame.{frameSize}
 use Rattle.pager_state.specs.World.{world, pageLimit}
 use Rattle.pager_state.specs.Overlay.{findIn, slotOf, isStaged, frameOf, inLog, onMain, entry, logBytes, committedIn}
 use Rattle.pager_state.specs.Pages.{differsIn}
-use Rattle.pager_state.specs.Commit.{entered}
+use Rattle.pager_state.specs.Commit.{withEntry}
 use Rattle.pager_state.specs.Steps.{standsBefore}
 use Rattle.pager_state.specs.declared.Pager.{Pager}
 use Rattle.pager_state.specs.declared.Staged.{Staged}
@@ -60,21 +60,21 @@ module _ {g m : List ℕ} {s : Staged} {len : ℕ} {t l marks : List ℕ} {page 
   apart n c e = omega (arith, c, e)
 
   differs-still : (n : ℕ) → q + 1 ≤ n → n < pageLimit → (o : Bool) → isStaged s n ≡ o
-      → both o (slotDiffers g (entered t q at) (put l at bs) m n (slotOf s n)) ≡ both o (slotDiffers g t l m n (slotOf s n))
+      → both o (slotDiffers g (withEntry t q at) (put l at bs) m n (slotOf s n)) ≡ both o (slotDiffers g t l m n (slotOf s n))
   unfolding slotDiffers
   differs-still n c d true o = rw (committed-other t l m q (entry at (onMain t q)) at bs len a b n (apart n c) (k .still n (omega (arith, h, c)) d o))
   differs-still n c d false o = refl
 
-  same-after : (n : ℕ) → q + 1 ≤ n → n < pageLimit → isIn marks n ≡ differsIn s g (entered t q at) (put l at bs) m n
+  same-after : (n : ℕ) → q + 1 ≤ n → n < pageLimit → isIn marks n ≡ differsIn s g (withEntry t q at) (put l at bs) m n
   same-after n c d =
       k .same n (omega (arith, h, c)) d
       ∙ differs-slot s g t l m n
-      ∙ sym (differs-slot s g (entered t q at) (put l at bs) m n ∙ differs-still n c d (isStaged s n) refl)
+      ∙ sym (differs-slot s g (withEntry t q at) (put l at bs) m n ∙ differs-still n c d (isStaged s n) refl)
 
-  still-after : (n : ℕ) → q + 1 ≤ n → n < pageLimit → isStaged s n ≡ true → standsBefore (entered t q at) n len ≡ true
+  still-after : (n : ℕ) → q + 1 ≤ n → n < pageLimit → isStaged s n ≡ true → standsBefore (withEntry t q at) n len ≡ true
   still-after n c d e =
       rw (log-other t q (entry at (onMain t q)) n (apart n c), frame-other t q (entry at (onMain t q)) n (apart n c)) (k .still n (omega (arith, h, c)) d e)
 
   -- the marks from the next page on
-  pub marking-frame : Marking g m s len (entered t q at) (put l at bs) marks (q + 1)
+  pub marking-frame : Marking g m s len (withEntry t q at) (put l at bs) marks (q + 1)
   marking-frame = record { same = same-after; slot = k .slot; still = still-after }

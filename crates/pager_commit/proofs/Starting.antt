@@ -1,4 +1,4 @@
--- What the judgement of a commit makes of the store: begun, or run up to its seal. Assumes nothing.
+-- What the judgement of a commit makes of the store: begun, or run up to its commit frame. Assumes nothing.
 use mathlib.Core.Path.{_≡_, sym, ap, _∙_}
 use mathlib.Core.Bool.{false}
 use mathlib.Core.List.{List}
@@ -19,8 +19,8 @@ use Rattle.pager_state.proofs.Begun.{CommitBegun, commit-begun}
 use Rattle.pager_state.proofs.Searches.{pages-same}
 use Rattle.pager_differing.specs.Differing.{isIn, Marks}
 use Rattle.pager_judge.proofs.Judging.{Judges, begins, refuses}
-use Rattle.pager_commit.specs.CommitStep.{commitSealed}
-use Rattle.pager_commit.specs.Parts.{startedAs, markedPages, roomFor, Begun, committing}
+use Rattle.pager_commit.specs.CommitStep.{commitFramesWorld}
+use Rattle.pager_commit.specs.Parts.{commitStartedAs, markedPages, hasRoomFor, Begun, committing}
 
 module _ (g : List ℕ) (w : World) (h : DbHeader) (salt : ℕ) {x : CommitStart} {n : ℕ} (j : Judges g w h x n) where
   -- a refusal
@@ -28,12 +28,12 @@ module _ (g : List ℕ) (w : World) (h : DbHeader) (salt : ℕ) {x : CommitStart
   unfolding commitStart
   refusing b = refuses (commitRefusal g w h) (sym b ∙ j .0)
 
-  pub begin-refused : {r : Refusal} → x ≡ commit.Refused r → startedAs x (w .pager) ≡ beginCommit g w h salt
+  pub begin-refused : {r : Refusal} → x ≡ commit.Refused r → commitStartedAs x (w .pager) ≡ beginCommit g w h salt
   unfolding beginCommit
   begin-refused b = rw (j .0, refusing b)
 
-  pub run-refused : {r : Refusal} → x ≡ commit.Refused r → w ≡ commitSealed g w h salt
-  unfolding commitSealed
+  pub run-refused : {r : Refusal} → x ≡ commit.Refused r → w ≡ commitFramesWorld g w h salt
+  unfolding commitFramesWorld
   run-refused b = rw (refusing b)
 
   module _ (b : x ≡ commit.Begun) where
@@ -44,7 +44,7 @@ module _ (g : List ℕ) (w : World) (h : DbHeader) (salt : ℕ) {x : CommitStart
     count-told : n ≡ differing g w
     count-told = j .1 ∙ rw accepted
 
-    pub begin-begun : {r : Pager} → r ≡ withJob (w .pager) (job.Commit h salt 0 n) → startedAs x r ≡ beginCommit g w h salt
+    pub begin-begun : {r : Pager} → r ≡ withJob (w .pager) (job.Commit h salt 0 n) → commitStartedAs x r ≡ beginCommit g w h salt
     unfolding beginCommit
     begin-begun f = rw (j .0, f, count-told, accepted)
 
@@ -57,13 +57,13 @@ module _ (g : List ℕ) (w : World) (h : DbHeader) (salt : ℕ) {x : CommitStart
   marked-all {marks} k = ap length (pages-same (isIn marks) (differs g w) 0 (λ n a b. k .same n b))
 
   module _ (b : x ≡ commit.Begun) {marks : List ℕ} (k : Marks (differs g w) (w .pager .staged) marks) where
-    -- their frames and the seal have room
-    pub begun-room : roomFor (w .pager .wal) marks
+    -- their frames and the commit frame have room
+    pub begun-room : hasRoomFor (w .pager .wal) marks
     begun-room = rw (marked-all k) (begun-told b .room)
 
     pub begun-marked : Begun g w marks
     begun-marked = record { right = begun-told b .right; before = begun-told b .before; marked = k }
 
-    pub run-begun : {v : World} → v ≡ steps g (markedPages marks + 1) (committing h salt n 0 w) → v ≡ commitSealed g w h salt
-    unfolding commitSealed beginCommit
+    pub run-begun : {v : World} → v ≡ steps g (markedPages marks + 1) (committing h salt n 0 w) → v ≡ commitFramesWorld g w h salt
+    unfolding commitFramesWorld beginCommit
     run-begun f = f ∙ rw (marked-all k, count-told b, accepted b)

@@ -19,8 +19,8 @@ use Rattle.pager_state.specs.World.{World, world, stagedLimit, stagingArea, cou
 use Rattle.pager_state.specs.Overlay.{pageFrom, slotOf, stagedBytes}
 use Rattle.pager_state.specs.Stores.{Act, Put, Other, placeOf, inside, diskOf}
 use Rattle.pager_state.specs.Pages.{pagesFrom, differs}
-use Rattle.pager_state.specs.Fold.{foldTodo, pagesTodo}
-use Rattle.pager_state.specs.Commit.{entered, framed, sealAct, jobAfter, sealedWith, sealedPager, sealedWorld, framesTodo, framesAdvance, commitTodo, commitAdvance}
+use Rattle.pager_state.specs.Checkpoint.{checkpointTodo, pagesTodo}
+use Rattle.pager_state.specs.Commit.{checkpointFrames, withEntry, pageFrameStored, commitFrameAct, jobAfter, committedWith, committedPager, committedWorld, framesTodo, framesAdvance, commitTodo, commitAdvance}
 use Rattle.pager_state.specs.Steps.{namedBy, named, done, answerOf, stepFine}
 use Rattle.pager_state.specs.declared.FileKind.the-variants as file
 use Rattle.pager_state.specs.declared.Job.{Job}
@@ -33,8 +33,8 @@ use Rattle.pager_state.proofs.Job as J
 use Rattle.pager_state.proofs.Stored.{put-end}
 use Rattle.pager_differing.specs.declared.Slot.{Slot}
 use Rattle.pager_commit.specs.CommitStep.{commitStepAnswer, commitStepped}
-use Rattle.pager_commit.specs.Parts.{slotFrame, sealFrame, logPlace, sealTold}
-use Rattle.pager_commit.proofs.Stores.{slot-size, seal-size}
+use Rattle.pager_commit.specs.Parts.{slotFrame, commitFrameBytes, logPlace, commitFrameAnswer}
+use Rattle.pager_commit.proofs.Stores.{slot-size, commit-frame-size}
 
 -- ---- what follows a store
 
@@ -50,12 +50,12 @@ unfolding pagesTodo
 pages-follow n a salt answer [] v = refl
 pages-follow n a salt answer (x ∷ xs) v = refl
 
--- behind the seal a fold, or nothing
-seal-last : (a : Act) (salt answer : ℕ) (v : World) (b : Bool)
-    → sealTold (pick b (job.Fold salt 0 answer) job.Idle) (placeOf a) answer ≡ namedBy answer a (foldTodo (pick b (job.Fold salt 0 answer) job.Idle) v)
-unfolding foldTodo
-seal-last a salt answer v true = sym (pages-follow answer a salt answer _ v)
-seal-last a salt answer v false = refl
+-- behind the commit frame a checkpoint, or nothing
+commit-frame-last : (a : Act) (salt answer : ℕ) (v : World) (b : Bool)
+    → commitFrameAnswer (pick b (job.Checkpoint salt 0 answer) job.Idle) (placeOf a) answer ≡ namedBy answer a (checkpointTodo (pick b (job.Checkpoint salt 0 answer) job.Idle) v)
+unfolding checkpointTodo
+commit-frame-last a salt answer v true = sym (pages-follow answer a salt answer _ v)
+commit-frame-last a salt answer v false = refl
 
 -- ---- the step that is next
 
@@ -97,7 +97,7 @@ module _ (g : List ℕ) (h : DbHeader) (salt answer page : ℕ) (w : World) wher
     frame = Put Other file.Log (log .len) (slotFrame log s g) false
 
     abbrev more : List Act
-    more = framesTodo g h salt answer (pagesFrom (differs g w) (suc (s .page))) (framed g h salt answer (s .page) w)
+    more = framesTodo g h salt answer (pagesFrom (differs g w) (suc (s .page))) (pageFrameStored g h salt answer (s .page) w)
 
     bytes-are : stagedBytes (w .pager .staged) g (s .page) ≡ pageFrom (pageSize * s .index) g
     unfolding stagedBytes
@@ -114,62 +114,62 @@ module _ (g : List ℕ) (h : DbHeader) (salt answer page : ℕ) (w : World) wher
     frame-refused o = outside-step frame more frame-next (frame-room ∙ o)
 
     frame-told : step.Stored (logPlace log false) ≡ namedBy answer frame more
-    frame-told = sym (more-frames answer frame g h salt answer (pagesFrom (differs g w) (suc (s .page))) (framed g h salt answer (s .page) w) ∙ rw (slot-size log s g n b))
+    frame-told = sym (more-frames answer frame g h salt answer (pagesFrom (differs g w) (suc (s .page))) (pageFrameStored g h salt answer (s .page) w) ∙ rw (slot-size log s g n b))
 
     framed-by : {r : Pager} {t l : List ℕ} → r ≡ withJob (withWal (w .pager) (withFrame log 0)) (job.Commit h salt (s .page + 1) answer)
-        → t ≡ entered (w .table) (s .page) (log .len) → l ≡ put (w .log) (log .len) (slotFrame log s g) → world r t l (w .main) ≡ framed g h salt answer (s .page) w
-    unfolding framed
+        → t ≡ withEntry (w .table) (s .page) (log .len) → l ≡ put (w .log) (log .len) (slotFrame log s g) → world r t l (w .main) ≡ pageFrameStored g h salt answer (s .page) w
+    unfolding pageFrameStored
     framed-by er et el = rw (er, et, el, add-one (s .page), bytes-are, put-end (diskOf w .log) (slotFrame log s g))
 
     pub frame-stepped : {a : StepAnswer} {r : Pager} {t l : List ℕ} → hasRoom log ≡ true → a ≡ step.Stored (logPlace log false)
-        → r ≡ withJob (withWal (w .pager) (withFrame log 0)) (job.Commit h salt (s .page + 1) answer) → t ≡ entered (w .table) (s .page) (log .len)
+        → r ≡ withJob (withWal (w .pager) (withFrame log 0)) (job.Commit h salt (s .page + 1) answer) → t ≡ withEntry (w .table) (s .page) (log .len)
         → l ≡ put (w .log) (log .len) (slotFrame log s g) → Stepped a (world r t l (w .main))
     frame-stepped o ea er et el =
         inside-step frame more frame-next (frame-room ∙ o) (ea ∙ frame-told)
         (framed-by er et el ∙ sym (advance-is (s .page ∷ pagesFrom (differs g w) (suc (s .page))) e))
 
-  -- ---- the seal
+  -- ---- the commit frame
 
   module _ (e : pagesFrom (differs g w) page ≡ []) where
-    abbrev sealed : World
-    sealed = sealedWorld h salt answer w
+    abbrev committed : World
+    committed = committedWorld h salt answer w
 
     abbrev seal : Act
-    seal = sealAct h w
+    seal = commitFrameAct h w
 
-    seal-next : commitTodo g K w ≡ seal ∷ foldTodo (sealed .pager .job) sealed
+    commit-frame-next : commitTodo g K w ≡ seal ∷ checkpointTodo (committed .pager .job) committed
     unfolding framesTodo
-    seal-next = todo-is [] e
+    commit-frame-next = todo-is [] e
 
-    seal-room : inside seal ≡ hasRoom log
-    seal-room = rw (seal-size log h)
+    commit-frame-room : inside seal ≡ hasRoom log
+    commit-frame-room = rw (commit-frame-size log h)
 
-    pub seal-refused : hasRoom log ≡ false → Stepped (step.Refused refusal.Area) w
-    seal-refused o = outside-step seal (foldTodo (sealed .pager .job) sealed) seal-next (seal-room ∙ o)
+    pub commit-frame-refused : hasRoom log ≡ false → Stepped (step.Refused refusal.Area) w
+    commit-frame-refused o = outside-step seal (checkpointTodo (committed .pager .job) committed) commit-frame-next (commit-frame-room ∙ o)
 
-    job-is : sealed .pager .job ≡ jobAfter (withFrame log (countOf h)) salt answer
-    unfolding sealedWorld sealedPager
+    job-is : committed .pager .job ≡ jobAfter (withFrame log (countOf h)) salt answer
+    unfolding committedWorld committedPager
     job-is = refl
 
-    seal-told : sealTold (jobAfter (withFrame log (countOf h)) salt answer) (logPlace log true) answer ≡ namedBy answer seal (foldTodo (sealed .pager .job) sealed)
-    seal-told =
-        let p : placeOf seal ≡ logPlace log true = rw (seal-size log h) in
-        let l = seal-last seal salt answer sealed (leb 100 (withFrame log (countOf h) .«frame_count»)) in
-        ap (λ (x : Place). sealTold (jobAfter (withFrame log (countOf h)) salt answer) x answer) (sym p)
+    commit-frame-told : commitFrameAnswer (jobAfter (withFrame log (countOf h)) salt answer) (logPlace log true) answer ≡ namedBy answer seal (checkpointTodo (committed .pager .job) committed)
+    commit-frame-told =
+        let p : placeOf seal ≡ logPlace log true = rw (commit-frame-size log h) in
+        let l = commit-frame-last seal salt answer committed (leb checkpointFrames (withFrame log (countOf h) .«frame_count»)) in
+        ap (λ (x : Place). commitFrameAnswer (jobAfter (withFrame log (countOf h)) salt answer) x answer) (sym p)
         ∙ l
-        ∙ ap (λ (j : Job). namedBy answer seal (foldTodo j sealed)) (sym job-is)
+        ∙ ap (λ (j : Job). namedBy answer seal (checkpointTodo j committed)) (sym job-is)
 
-    sealed-by : {r : Pager} {t l : List ℕ} → r ≡ sealedWith h salt answer (withFrame log (countOf h)) (w .pager) → t ≡ entered (w .table) 0 (log .len)
-        → l ≡ put (w .log) (log .len) (sealFrame log h) → world r t l (w .main) ≡ sealed
-    unfolding sealedWorld sealedPager
-    sealed-by er et el = rw (er, et, el, put-end (diskOf w .log) (sealFrame log h))
+    committed-through : {r : Pager} {t l : List ℕ} → r ≡ committedWith h salt answer (withFrame log (countOf h)) (w .pager) → t ≡ withEntry (w .table) 0 (log .len)
+        → l ≡ put (w .log) (log .len) (commitFrameBytes log h) → world r t l (w .main) ≡ committed
+    unfolding committedWorld committedPager
+    committed-through er et el = rw (er, et, el, put-end (diskOf w .log) (commitFrameBytes log h))
 
-    pub seal-stepped : {a : StepAnswer} {r : Pager} {t l : List ℕ} → hasRoom log ≡ true → a ≡ sealTold (r .job) (logPlace log true) answer
-        → r ≡ sealedWith h salt answer (withFrame log (countOf h)) (w .pager) → t ≡ entered (w .table) 0 (log .len) → l ≡ put (w .log) (log .len) (sealFrame log h)
+    pub commit-frame-stepped : {a : StepAnswer} {r : Pager} {t l : List ℕ} → hasRoom log ≡ true → a ≡ commitFrameAnswer (r .job) (logPlace log true) answer
+        → r ≡ committedWith h salt answer (withFrame log (countOf h)) (w .pager) → t ≡ withEntry (w .table) 0 (log .len) → l ≡ put (w .log) (log .len) (commitFrameBytes log h)
         → Stepped a (world r t l (w .main))
-    seal-stepped {a} {r} o ea er et el =
-        let j : a ≡ sealTold (jobAfter (withFrame log (countOf h)) salt answer) (logPlace log true) answer = ea ∙ ap (λ (p : Pager). sealTold (p .job) (logPlace log true) answer) er in
-        inside-step seal (foldTodo (sealed .pager .job) sealed) seal-next (seal-room ∙ o) (j ∙ seal-told) (sealed-by er et el ∙ sym (advance-is [] e))
+    commit-frame-stepped {a} {r} o ea er et el =
+        let j : a ≡ commitFrameAnswer (jobAfter (withFrame log (countOf h)) salt answer) (logPlace log true) answer = ea ∙ ap (λ (p : Pager). commitFrameAnswer (p .job) (logPlace log true) answer) er in
+        inside-step seal (checkpointTodo (committed .pager .job) committed) commit-frame-next (commit-frame-room ∙ o) (j ∙ commit-frame-told) (committed-through er et el ∙ sym (advance-is [] e))
 
 -- ---- by the job that is part done
 
@@ -193,7 +193,7 @@ module _ (g : List ℕ) (w : World) where
     unfolding commitTodo
     none-left job.Idle k = refl
     none-left (job.Commit h salt page answer) k = absurd (miss others 1 tt k)
-    none-left (job.Fold salt page answer) k = refl
+    none-left (job.Checkpoint salt page answer) k = refl
     none-left (job.MainLength salt answer) k = refl
     none-left (job.LogLength salt answer) k = refl
     none-left (job.LogHeader salt answer) k = refl

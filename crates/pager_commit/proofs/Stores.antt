@@ -1,4 +1,4 @@
--- A frame and the seal, stored at the log's length. Assumes nothing.
+-- A frame and the commit frame, stored at the log's length. Assumes nothing.
 use mathlib.Core.Path.{_≡_, _∙_}
 use mathlib.Core.Bool.{true}
 use mathlib.Core.List.{List}
@@ -16,14 +16,14 @@ use Rattle.header.proofs.Encoding.{length-headerFields, length-encodeHeader}
 use Rattle.frame.specs.Frame.{frameSize, encodeFrame, frameAfter}
 use Rattle.frame.proofs.Stores.{length-encodeFrame, length-padded}
 use Rattle.wal.specs.Recovery.{walArea}
-use Rattle.wal.specs.Write.{withFrame, hasRoom, appendAnswer, appendAfter}
+use Rattle.wal.specs.Write.{withFrame, hasRoom, appendFrameAnswer, appendFrameAfter}
 use Rattle.wal.specs.declared.Wal.{Wal}
 use Rattle.wal.specs.declared.FrameAppended.{FrameAppended}
 use Rattle.wal.specs.declared.FrameAppended.the-variants as appended
 use Rattle.pager_state.specs.World.{stagedLimit, stagingArea, countOf}
 use Rattle.pager_state.specs.Overlay.{pageFrom}
 use Rattle.pager_differing.specs.declared.Slot.{Slot}
-use Rattle.pager_commit.specs.Parts.{slotFrame, sealFrame}
+use Rattle.pager_commit.specs.Parts.{slotFrame, commitFrameBytes}
 
 -- ---- their lengths
 
@@ -34,8 +34,8 @@ body-size g index n h = simp (length-take, length-drop) (omega arith)
 pub slot-size : (v : Wal) (s : Slot) (g : List ℕ) → length g ≡ stagingArea → s .index < stagedLimit → length (slotFrame v s g) ≡ frameSize
 slot-size v s g n h = length-encodeFrame (s .page) 0 (v .header .salt) (pageFrom (pageSize * s .index) g) (body-size g (s .index) n h)
 
-pub seal-size : (v : Wal) (h : DbHeader) → length (sealFrame v h) ≡ frameSize
-seal-size v h = length-encodeFrame 0 (countOf h) (v .header .salt) (encodeHeader h) (length-encodeHeader h)
+pub commit-frame-size : (v : Wal) (h : DbHeader) → length (commitFrameBytes v h) ≡ frameSize
+commit-frame-size v h = length-encodeFrame 0 (countOf h) (v .header .salt) (encodeHeader h) (length-encodeHeader h)
 
 -- ---- what is stored where there is room
 
@@ -51,12 +51,12 @@ frame-stored l v q body n b o =
     rw (length-encodeFrame q 0 (v .header .salt) body b) (omega (arith, room-is v o, n)) in
     rw (eq-eqb (length body) pageSize b) (store-put l (v .len) (encodeFrame q 0 (v .header .salt) body) j)
 
--- the seal: a page of the header's fields and zeros is the header's page
-pub seal-stored : (l : List ℕ) (v : Wal) (h : DbHeader) {x y : List ℕ} {r : FrameAppended} → length l ≡ walArea → hasRoom v ≡ true → x ≡ headerFields h
-    → r ≡ appendAnswer l v 0 (frontPage x) (countOf h) → y ≡ appendAfter l v 0 (frontPage x) (countOf h)
-    → (r ≡ appended.Appended (withFrame v (countOf h))) × (y ≡ put l (v .len) (sealFrame v h))
-unfolding appendAnswer appendAfter encodeHeader
-seal-stored l v h n t e a b =
+-- the commit frame: a page of the header's fields and zeros is the header's page
+pub commit-frame-stored : (l : List ℕ) (v : Wal) (h : DbHeader) {x y : List ℕ} {r : FrameAppended} → length l ≡ walArea → hasRoom v ≡ true → x ≡ headerFields h
+    → r ≡ appendFrameAnswer l v 0 (frontPage x) (countOf h) → y ≡ appendFrameAfter l v 0 (frontPage x) (countOf h)
+    → (r ≡ appended.Appended (withFrame v (countOf h))) × (y ≡ put l (v .len) (commitFrameBytes v h))
+unfolding appendFrameAnswer appendFrameAfter encodeHeader
+commit-frame-stored l v h n t e a b =
     let z : length (frontPage (headerFields h)) ≡ pageSize = length-padded (headerFields h) (length-headerFields h) in
     let f : v .len ≤ walArea = omega (arith, room-is v t) in
     (a ∙ rw (e, eq-eqb _ _ z, eq-eqb _ _ n, le-leb _ _ f, t), b ∙ rw (e, eq-eqb _ _ z, eq-eqb _ _ n, le-leb _ _ f, t))

@@ -1,4 +1,4 @@
--- A commit's stores up to the seal in one call: what the loop over frames keeps, and the seal behind it. Assumes nothing.
+-- A commit's stores up to the commit frame in one call: what the loop over frames keeps, and the commit frame behind it. Assumes nothing.
 use mathlib.Core.Path.{_≡_, refl, sym, ap, _∙_}
 use mathlib.Core.Bool.{true}
 use mathlib.Core.List.{List, [], _∷_, append-nil}
@@ -16,8 +16,8 @@ use Rattle.wal.specs.declared.Wal.{Wal}
 use Rattle.pager_state.specs.World.{World, world, stagedLimit, stagingArea, countOf, withJob, withWal}
 use Rattle.pager_state.specs.Overlay.{findIn, slotOf}
 use Rattle.pager_state.specs.Pages.{pagesFrom, differsIn, differs}
-use Rattle.pager_state.specs.Fold.{foldTodo, foldAdvance}
-use Rattle.pager_state.specs.Commit.{entered, sealedWith, commitTodo, commitAdvance}
+use Rattle.pager_state.specs.Checkpoint.{checkpointTodo, checkpointAdvance}
+use Rattle.pager_state.specs.Commit.{withEntry, committedWith, commitTodo, commitAdvance}
 use Rattle.pager_state.specs.Steps.{todo, advance, done, stepFine, stepped, steps}
 use Rattle.pager_state.specs.declared.Job.{Job}
 use Rattle.pager_state.specs.declared.Job.the-variants as job
@@ -29,16 +29,16 @@ use Rattle.pager_state.proofs.Sizes.{frame-len}
 use Rattle.pager_state.proofs.Searches.{First, pages-same}
 use Rattle.pager_differing.specs.Differing.{isIn}
 use Rattle.pager_differing.specs.declared.Slot.{Slot}
-use Rattle.pager_commit.specs.Parts.{Lent, slotFrame, sealFrame, markedPages, roomFor, committing, AtSeal, FramesStored}
+use Rattle.pager_commit.specs.Parts.{Lengths, slotFrame, commitFrameBytes, markedPages, hasRoomFor, committing, AtCommitFrame, FramesStored}
 use Rattle.pager_commit.proofs.Stores.{room-is}
-use Rattle.pager_commit.proofs.Step.{frame-stepped, seal-stepped}
+use Rattle.pager_commit.proofs.Step.{frame-stepped, commit-frame-stepped}
 use Rattle.pager_commit.proofs.Marking.{Marking, marking-begun, marking-frame}
 
 -- ---- a step of a commit
 
 commit-stepped : (g : List ℕ) (w : World) (h : DbHeader) (salt page n : ℕ) → w .pager .job ≡ job.Commit h salt page n → stepFine g w ≡ true
     → stepped g w ≡ done (commitTodo g (job.Commit h salt page n) w) (commitAdvance g (job.Commit h salt page n) w) w
-unfolding stepped todo advance foldTodo foldAdvance
+unfolding stepped todo advance checkpointTodo checkpointAdvance
 commit-stepped g w h salt page n j f = rw (f, j, append-nil)
 
 -- one more step
@@ -47,7 +47,7 @@ unfolding steps
 steps-more g k w = steps-add g k 1 w
 
 -- another log, table and job leave the areas as they must be
-still-fine : (g : List ℕ) (p : Pager) (v : Wal) (j : Job) (t l t′ l′ m : List ℕ) → stepFine g (world p t l m) ≡ true → Lent t′ l′ → hasRoom v ≡ true
+still-fine : (g : List ℕ) (p : Pager) (v : Wal) (j : Job) (t l t′ l′ m : List ℕ) → stepFine g (world p t l m) ≡ true → Lengths t′ l′ → hasRoom v ≡ true
     → stepFine g (world (withJob (withWal p v) j) t′ l′ m) ≡ true
 still-fine g p v j t l t′ l′ m f a o =
     let s = ready-fine g (world p t l m) f in
@@ -72,9 +72,9 @@ module _ (g m : List ℕ) (s : Staged) (u : Wal) (t l : List ℕ) where
   run-none p h salt n es ev f = rw (← ev) refl
 
   -- a page's frame
-  run-frame : (k page : ℕ) {v : Wal} {t′ l′ : List ℕ} → FramesRun g m s u t l k page v t′ l′ → Lent t′ l′ → (x : Slot) {v″ : Wal} {t″ l″ : List ℕ} → length g ≡ stagingArea
+  run-frame : (k page : ℕ) {v : Wal} {t′ l′ : List ℕ} → FramesRun g m s u t l k page v t′ l′ → Lengths t′ l′ → (x : Slot) {v″ : Wal} {t″ l″ : List ℕ} → length g ≡ stagingArea
       → pagesFrom (differsIn s g t′ l′ m) page ≡ x .page ∷ pagesFrom (differsIn s g t′ l′ m) (suc (x .page)) → x .index ≡ slotOf s (x .page)
-      → x .index < stagedLimit → hasRoom v ≡ true → v″ ≡ withFrame v 0 → t″ ≡ entered t′ (x .page) (v .len)
+      → x .index < stagedLimit → hasRoom v ≡ true → v″ ≡ withFrame v 0 → t″ ≡ withEntry t′ (x .page) (v .len)
       → l″ ≡ put l′ (v .len) (slotFrame v x g) → FramesRun g m s u t l (k + 1) (x .page + 1) v″ t″ l″
   run-frame k page {v} {t′} {l′} r nt x {v″} {t″} {l″} ng e i b o fv ft fl p h salt n es ev f =
       let w : World = committing h salt n page (world (withWal p v) t′ l′ m) in
@@ -108,9 +108,9 @@ Kept marks g u t l k page v t′ l′ =
     → FramesRun g m s u t l k page v t′ l′ × Marking g m s (u .len) t′ l′ marks page
 
 -- a marked page's frame
-kept-frame : (marks g : List ℕ) (u : Wal) (t l : List ℕ) (k page : ℕ) {j : ℕ} {v : Wal} {t′ l′ : List ℕ} → Kept marks g u t l k page v t′ l′ → k + 1 ≡ j → Lent t′ l′ → u .len ≤ v .len
+kept-frame : (marks g : List ℕ) (u : Wal) (t l : List ℕ) (k page : ℕ) {j : ℕ} {v : Wal} {t′ l′ : List ℕ} → Kept marks g u t l k page v t′ l′ → k + 1 ≡ j → Lengths t′ l′ → u .len ≤ v .len
     → (x : Slot) {v″ : Wal} {t″ l″ : List ℕ} → length g ≡ stagingArea → First (isIn marks) page (x .page) → x .index ≡ findIn marks (x .page)
-    → x .index < stagedLimit → hasRoom v ≡ true → v″ ≡ withFrame v 0 → t″ ≡ entered t′ (x .page) (v .len) → l″ ≡ put l′ (v .len) (slotFrame v x g)
+    → x .index < stagedLimit → hasRoom v ≡ true → v″ ≡ withFrame v 0 → t″ ≡ withEntry t′ (x .page) (v .len) → l″ ≡ put l′ (v .len) (slotFrame v x g)
     → Kept marks g u t l j (x .page + 1) v″ t″ l″
 kept-frame marks g u t l k page {j} {v} {t′} {l′} r ej nt nv x ng p i b o fv ft fl s m z =
     let y = r s m z .1 in
@@ -133,7 +133,7 @@ pub record Loop (marks g : List ℕ) (u : Wal) (t l : List ℕ) (page : ℕ) (v 
   pub kept : Kept marks g u t l (markedPages marks - left marks page) page v t′ l′
 
 module _ (marks g : List ℕ) (u : Wal) (t l : List ℕ) where
-  pub loop-start : roomFor u marks → Loop marks g u t l 0 u t l
+  pub loop-start : hasRoomFor u marks → Loop marks g u t l 0 u t l
   loop-start h =
       let z : markedPages marks - left marks 0 ≡ 0 = omega arith in
       record { table = refl; log = refl; low = omega arith; room = h; few = omega arith; kept = λ s m k. (rw z (run-none g m s u t l), k) }
@@ -142,11 +142,11 @@ module _ (marks g : List ℕ) (u : Wal) (t l : List ℕ) where
     pub loop-room : hasRoom v ≡ true
     loop-room = let h : v .len + frameSize ≤ walArea = omega (arith, i .room) in le-leb _ _ h
 
-    pub loop-lent : Lent t l → Lent t′ l′
+    pub loop-lent : Lengths t l → Lengths t′ l′
     loop-lent a = record { table = i .table ∙ a .table; log = i .log ∙ a .log }
 
-    pub loop-frame : Lent t l → length g ≡ stagingArea → (x : Slot) {v″ : Wal} {t″ l″ : List ℕ} → First (isIn marks) page (x .page) → x .index ≡ findIn marks (x .page)
-        → x .index < stagedLimit → length t″ ≡ length t′ → length l″ ≡ length l′ → v″ ≡ withFrame v 0 → t″ ≡ entered t′ (x .page) (v .len)
+    pub loop-frame : Lengths t l → length g ≡ stagingArea → (x : Slot) {v″ : Wal} {t″ l″ : List ℕ} → First (isIn marks) page (x .page) → x .index ≡ findIn marks (x .page)
+        → x .index < stagedLimit → length t″ ≡ length t′ → length l″ ≡ length l′ → v″ ≡ withFrame v 0 → t″ ≡ withEntry t′ (x .page) (v .len)
         → l″ ≡ put l′ (v .len) (slotFrame v x g) → Loop marks g u t l (x .page + 1) v″ t″ l″
     loop-frame a ng x {v″} p j b nt nl fv ft fl =
         let n = ap length (p .split) in
@@ -169,14 +169,14 @@ module _ (marks g : List ℕ) (u : Wal) (t l : List ℕ) where
         let y = i .kept (p .staged) m (rw (← ev) (marking-begun g m p t l b)) in
         record { page = page; none = none-marked page (y .1) e; same = λ h salt n. rw c at (y .0 p h salt n refl ev (b .right)) }
 
--- ---- the seal behind it
+-- ---- the commit frame behind it
 
-pub run-sealed : (g m : List ℕ) (p : Pager) (h : DbHeader) (salt n : ℕ) (t l : List ℕ) (k : ℕ) {q : Pager} {v v″ : Wal} {t′ l′ t″ l″ : List ℕ}
-    → AtSeal g k (world p t l m) (world (withWal p v) t′ l′ m) → stepFine g (world p t l m) ≡ true → Lent t′ l′ → hasRoom v ≡ true
-    → v″ ≡ withFrame v (countOf h) → q ≡ sealedWith h salt n v″ p → t″ ≡ entered t′ 0 (v .len) → l″ ≡ put l′ (v .len) (sealFrame v h)
+pub run-committed : (g m : List ℕ) (p : Pager) (h : DbHeader) (salt n : ℕ) (t l : List ℕ) (k : ℕ) {q : Pager} {v v″ : Wal} {t′ l′ t″ l″ : List ℕ}
+    → AtCommitFrame g k (world p t l m) (world (withWal p v) t′ l′ m) → stepFine g (world p t l m) ≡ true → Lengths t′ l′ → hasRoom v ≡ true
+    → v″ ≡ withFrame v (countOf h) → q ≡ committedWith h salt n v″ p → t″ ≡ withEntry t′ 0 (v .len) → l″ ≡ put l′ (v .len) (commitFrameBytes v h)
     → world q t″ l″ m ≡ steps g (k + 1) (committing h salt n 0 (world p t l m))
-run-sealed g m p h salt n t l k {q} {v} {v″} {t′} {l′} {t″} {l″} r f nt o fv fq ft fl =
+run-committed g m p h salt n t l k {q} {v} {v″} {t′} {l′} {t″} {l″} r f nt o fv fq ft fl =
     let w : World = committing h salt n (r .page) (world (withWal p v) t′ l′ m) in
     let a = still-fine g p v (job.Commit h salt (r .page) n) t l t′ l′ m f nt o in
-    let y = seal-stepped g h salt n (r .page) w (r .none) {r = q} {t = t″} {l = l″} o refl (rw (fq, fv) refl) ft fl .1 in
+    let y = commit-frame-stepped g h salt n (r .page) w (r .none) {r = q} {t = t″} {l = l″} o refl (rw (fq, fv) refl) ft fl .1 in
     y ∙ sym (commit-stepped g w h salt (r .page) n refl a) ∙ ap (stepped g) (r .same h salt n) ∙ sym (steps-more g k _)

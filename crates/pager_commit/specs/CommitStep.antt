@@ -1,4 +1,4 @@
--- A step of a commit that is part done, and a commit up to its seal. g is the staging area.
+-- A step of a commit that is part done, and a commit up to its commit frame. g is the staging area.
 use mathlib.Core.List.{List}
 use Prim.Native.Nat.{ℕ, _+_}
 use Rattle.le.specs.Choice.{pick}
@@ -18,6 +18,6 @@ commitStepAnswer g w = pick (stepFine g w) (named (answerOf (w .pager .job)) (co
 unfoldable pub commitStepped : List ℕ → World → World
 commitStepped g w = pick (stepFine g w) (done (commitTodo g (w .pager .job) w) (commitAdvance g (w .pager .job) w) w) w
 
--- a commit up to its seal: begun, and as many steps as pages differ, and one; a refusal leaves the world
-unfoldable pub commitSealed : List ℕ → World → DbHeader → ℕ → World
-commitSealed g w h salt = pick (accepts (commitRefusal g w h)) (steps g (differing g w + 1) (onStore w (beginCommit g w h salt .pager))) w
+-- a commit up to its commit frame: begun, and as many steps as pages differ, and one; a refusal leaves the world
+unfoldable pub commitFramesWorld : List ℕ → World → DbHeader → ℕ → World
+commitFramesWorld g w h salt = pick (accepts (commitRefusal g w h)) (steps g (differing g w + 1) (onStore w (beginCommit g w h salt .pager))) w

@@ -1,4 +1,4 @@
-// The calls of a commit: its start, its stores one at a time, and all of them up to the seal.
+// The calls of a commit: its start, its stores one at a time, and all of them up to the commit frame.
 ghost use mathlib.Core.Path.{_≡_};
 ghost use mathlib.Core.Bool.{true, false};
 ghost use Prim.Native.Nat.{_+_, _≤_, _<_};
@@ -10,10 +10,10 @@ ghost use Rattle.wal.specs.Recovery.{walArea};
 ghost use Rattle.wal.specs.Write.{withFrame, hasRoom};
 ghost use Rattle.pager_state.specs.World.{world, pageLimit, stagedLimit, stagingArea, countOf, withJob, withWal};
 ghost use Rattle.pager_state.specs.Overlay.{entry};
-ghost use Rattle.pager_state.specs.Commit.{entered, jobAfter, sealedWith, commitTodo, commitAdvance};
+ghost use Rattle.pager_state.specs.Commit.{withEntry, jobAfter, committedWith, commitTodo, commitAdvance};
 ghost use Rattle.pager_state.specs.Steps.{named, done, differing, commitRefusal, commitStart, beginCommit};
-ghost use Rattle.pager_commit.specs.CommitStep.{commitStepAnswer, commitStepped, commitSealed};
-ghost use Rattle.pager_commit.specs.Parts.{Lent, slotFrame, sealFrame, logPlace, sealTold, startedAs, ranAs, roomFor, FramesStored, RanToSeal};
+ghost use Rattle.pager_commit.specs.CommitStep.{commitStepAnswer, commitStepped, commitFramesWorld};
+ghost use Rattle.pager_commit.specs.Parts.{Lengths, slotFrame, commitFrameBytes, logPlace, commitFrameAnswer, commitStartedAs, commitRunOf, hasRoomFor, FramesStored, RunToCommitFrame};
 use frame::FRAME_SIZE;
 use header::DbHeader;
 use page::PAGE_SIZE;
@@ -51,7 +51,7 @@ fn entry_at(at: usize, on_main: bool) -> u32
 // Enters a page's frame that stands at `at`.
 fn enter(table: &mut [u32], page: usize, at: usize)
     requires { ⌜ (page < length (now table)) × (at ≤ walArea) ⌝ }
-    ensures { λ _. ⌜ now (table .exit) ≡ entered (now (table .entry)) page at ⌝ }
+    ensures { λ _. ⌜ now (table .exit) ≡ withEntry (now (table .entry)) page at ⌝ }
 {
     let on_main = pager_state::on_main(table, page);
     table[page] = entry_at(at, on_main);
@@ -60,10 +60,10 @@ fn enter(table: &mut [u32], page: usize, at: usize)
 // Stores the frame of a staged page at the log's length, where there is room for it, and enters it.
 fn store_frame(wal: Wal, found: Slot, table: &mut [u32], log: &mut [u8], staging: &[u8]) -> Wal
     requires { ⌜ (found .page < pageLimit) × (found .index < stagedLimit) ⌝ }
-    requires { ⌜ Lent (now table) (now log) × (length (now staging) ≡ stagingArea) ⌝ }
+    requires { ⌜ Lengths (now table) (now log) × (length (now staging) ≡ stagingArea) ⌝ }
     requires { ⌜ hasRoom wal ≡ true ⌝ }
     ensures { λ r. ⌜ r ≡ withFrame wal 0 ⌝ }
-    ensures { λ _. ⌜ now (table .exit) ≡ entered (now (table .entry)) (found .page) (wal .len) ⌝ }
+    ensures { λ _. ⌜ now (table .exit) ≡ withEntry (now (table .entry)) (found .page) (wal .len) ⌝ }
     ensures { λ _. ⌜ now (log .exit) ≡ put (now (log .entry)) (wal .len) (slotFrame wal found (now (staging .entry))) ⌝ }
 {
     let body = pager_state::page_from(staging, PAGE_SIZE * found.index);
@@ -73,12 +73,12 @@ fn store_frame(wal: Wal, found: Slot, table: &mut [u32], log: &mut [u8], staging
     wal.longer()
 }
 
-// Stores the seal at the log's length, where there is room for it, and enters it.
-fn store_seal(table: &mut [u32], log: &mut [u8], wal: Wal, header: DbHeader) -> Wal
-    requires { ⌜ Lent (now table) (now log) × (hasRoom wal ≡ true) ⌝ }
+// Stores the commit frame at the log's length, where there is room for it, and enters it.
+fn store_commit_frame(table: &mut [u32], log: &mut [u8], wal: Wal, header: DbHeader) -> Wal
+    requires { ⌜ Lengths (now table) (now log) × (hasRoom wal ≡ true) ⌝ }
     ensures { λ r. ⌜ r ≡ withFrame wal (countOf header) ⌝ }
-    ensures { λ _. ⌜ now (table .exit) ≡ entered (now (table .entry)) 0 (wal .len) ⌝ }
-    ensures { λ _. ⌜ now (log .exit) ≡ put (now (log .entry)) (wal .len) (sealFrame wal header) ⌝ }
+    ensures { λ _. ⌜ now (table .exit) ≡ withEntry (now (table .entry)) 0 (wal .len) ⌝ }
+    ensures { λ _. ⌜ now (log .exit) ≡ put (now (log .entry)) (wal .len) (commitFrameBytes wal header) ⌝ }
 {
     enter(table, 0, wal.len);
     let fields = header::encode_fields(header);
@@ -89,12 +89,12 @@ fn store_seal(table: &mut [u32], log: &mut [u8], wal: Wal, header: DbHeader) -> 
     later
 }
 
-// What a commit has left after its seal.
+// What a commit has left after its commit frame.
 fn job_after(wal: Wal, salt: u32, answer: usize) -> Job
     ensures { λ r. ⌜ r ≡ jobAfter wal salt answer ⌝ }
 {
     if AUTO_CHECKPOINT_THRESHOLD_FRAMES <= wal.frame_count {
-        return Job::Fold {
+        return Job::Checkpoint {
             salt,
             page: 0,
             answer,
@@ -103,9 +103,9 @@ fn job_after(wal: Wal, salt: u32, answer: usize) -> Job
     Job::Idle
 }
 
-// The store once the seal stands: the new header counts and nothing is staged.
-fn sealed(pager: Pager, header: DbHeader, salt: u32, answer: usize, wal: Wal) -> Pager
-    ensures { λ r. ⌜ r ≡ sealedWith header salt answer wal pager ⌝ }
+// The store once the commit frame stands: the new header counts and nothing is staged.
+fn committed(pager: Pager, header: DbHeader, salt: u32, answer: usize, wal: Wal) -> Pager
+    ensures { λ r. ⌜ r ≡ committedWith header salt answer wal pager ⌝ }
 {
     let storage = pager.storage;
     let staged = pager.staged;
@@ -148,13 +148,13 @@ fn frame_step(
     staging: &[u8],
 ) -> Stepped
     requires { ⌜ (found .page < pageLimit) × (found .index < stagedLimit) ⌝ }
-    requires { ⌜ Lent (now table) (now log) × (length (now staging) ≡ stagingArea) ⌝ }
+    requires { ⌜ Lengths (now table) (now log) × (length (now staging) ≡ stagingArea) ⌝ }
     requires { ⌜ hasRoom (pager .wal) ≡ true ⌝ }
     ensures { λ r. ⌜ r .answer ≡ StepAnswer.Stored (logPlace (pager .wal) false) ⌝ }
     ensures { λ r. ⌜
         (let later = withWal pager (withFrame (pager .wal) 0) in
         r .pager ≡ withJob later (Job.Commit header salt (found .page + 1) answer)) ⌝ }
-    ensures { λ _. ⌜ now (table .exit) ≡ entered (now (table .entry)) (found .page) (pager .wal .len) ⌝ }
+    ensures { λ _. ⌜ now (table .exit) ≡ withEntry (now (table .entry)) (found .page) (pager .wal .len) ⌝ }
     ensures { λ _. ⌜
         (let frame = slotFrame (pager .wal) found (now (staging .entry)) in
         now (log .exit) ≡ put (now (log .entry)) (pager .wal .len) frame) ⌝ }
@@ -174,9 +174,9 @@ fn frame_step(
     }
 }
 
-// What a step that stored the seal answers: it is the last, or a fold follows.
-fn seal_answer(job: Job, place: Place, answer: usize) -> StepAnswer
-    ensures { λ r. ⌜ r ≡ sealTold job place answer ⌝ }
+// What a step that stored the commit frame answers: it is the last, or a checkpoint follows.
+fn commit_frame_answer(job: Job, place: Place, answer: usize) -> StepAnswer
+    ensures { λ r. ⌜ r ≡ commitFrameAnswer job place answer ⌝ }
 {
     if pager_state::is_busy(job) {
         return StepAnswer::Stored(place);
@@ -184,8 +184,8 @@ fn seal_answer(job: Job, place: Place, answer: usize) -> StepAnswer
     StepAnswer::Last(place, answer)
 }
 
-// Stores the seal.
-fn seal_step(
+// Stores the commit frame.
+fn commit_frame_step(
     pager: Pager,
     header: DbHeader,
     salt: u32,
@@ -193,18 +193,18 @@ fn seal_step(
     table: &mut [u32],
     log: &mut [u8],
 ) -> Stepped
-    requires { ⌜ Lent (now table) (now log) × (hasRoom (pager .wal) ≡ true) ⌝ }
-    ensures { λ r. ⌜ r .answer ≡ sealTold (r .pager .job) (logPlace (pager .wal) true) answer ⌝ }
-    ensures { λ r. ⌜ r .pager ≡ sealedWith header salt answer (withFrame (pager .wal) (countOf header)) pager ⌝ }
-    ensures { λ _. ⌜ now (table .exit) ≡ entered (now (table .entry)) 0 (pager .wal .len) ⌝ }
-    ensures { λ _. ⌜ now (log .exit) ≡ put (now (log .entry)) (pager .wal .len) (sealFrame (pager .wal) header) ⌝ }
+    requires { ⌜ Lengths (now table) (now log) × (hasRoom (pager .wal) ≡ true) ⌝ }
+    ensures { λ r. ⌜ r .answer ≡ commitFrameAnswer (r .pager .job) (logPlace (pager .wal) true) answer ⌝ }
+    ensures { λ r. ⌜ r .pager ≡ committedWith header salt answer (withFrame (pager .wal) (countOf header)) pager ⌝ }
+    ensures { λ _. ⌜ now (table .exit) ≡ withEntry (now (table .entry)) 0 (pager .wal .len) ⌝ }
+    ensures { λ _. ⌜ now (log .exit) ≡ put (now (log .entry)) (pager .wal .len) (commitFrameBytes (pager .wal) header) ⌝ }
 {
     let old = pager.wal;
-    let wal = store_seal(table, log, old, header);
-    let next = sealed(pager, header, salt, answer, wal);
+    let wal = store_commit_frame(table, log, old, header);
+    let next = committed(pager, header, salt, answer, wal);
     let job = next.job;
     Stepped {
-        answer: seal_answer(job, log_place(old, true), answer),
+        answer: commit_frame_answer(job, log_place(old, true), answer),
         pager: next,
     }
 }
@@ -221,7 +221,7 @@ fn frames_step<'a>(
     main: &'a [u8],
     staging: &'a [u8],
 ) -> Stepped
-    requires { ⌜ Lent (now table) (now log) × (length (now staging) ≡ stagingArea) ⌝ }
+    requires { ⌜ Lengths (now table) (now log) × (length (now staging) ≡ stagingArea) ⌝ }
     ensures { λ r. ⌜
         (let w = world pager (now (table .entry)) (now (log .entry)) (now (main .entry)) in
         r .answer ≡ named answer (commitTodo (now (staging .entry)) (Job.Commit header salt page answer) w)) ⌝ }
@@ -244,7 +244,7 @@ fn frames_step<'a>(
     if found.page < PAGES {
         return frame_step(pager, header, salt, answer, found, table, log, staging);
     }
-    seal_step(pager, header, salt, answer, table, log)
+    commit_frame_step(pager, header, salt, answer, table, log)
 }
 
 // Does the next store of a commit that is part done, and no other.
@@ -288,7 +288,7 @@ pub fn commit_step<'a>(
 // ---- the start
 
 fn started(answer: CommitStart, pager: Pager) -> CommitStarted
-    ensures { λ r. ⌜ r ≡ startedAs answer pager ⌝ }
+    ensures { λ r. ⌜ r ≡ commitStartedAs answer pager ⌝ }
 {
     CommitStarted { answer, pager }
 }
@@ -322,7 +322,7 @@ pub fn begin_commit<'a>(
     started(answer, pager_state::with_wal(pager, wal, job))
 }
 
-// ---- all stores up to the seal
+// ---- all stores up to the commit frame
 
 // Stores the frames of the pages among the first n marks one after another, each as a step does; only the log and the page are handed
 // on, not the store, and no page is compared again.
@@ -334,8 +334,8 @@ fn store_frames(
     log: &mut [u8],
     staging: &[u8],
 ) -> Wal
-    requires { ⌜ (length (now marks) ≡ stagedLimit) × roomFor first (take n (now marks)) ⌝ }
-    requires { ⌜ Lent (now table) (now log) × (length (now staging) ≡ stagingArea) ⌝ }
+    requires { ⌜ (length (now marks) ≡ stagedLimit) × hasRoomFor first (take n (now marks)) ⌝ }
+    requires { ⌜ Lengths (now table) (now log) × (length (now staging) ≡ stagingArea) ⌝ }
     ensures { λ r. ⌜
         (let marked = take n (now (marks .entry)) in
         FramesStored marked (now (staging .entry)) first (now (table .entry)) (now (log .entry)) r (now (table .exit)) (now (log .exit))) ⌝ }
@@ -354,7 +354,7 @@ fn store_frames(
     wal
 }
 
-// Runs a commit that was begun up to its seal.
+// Runs a commit that was begun up to its commit frame.
 fn run_frames(
     pager: Pager,
     header: DbHeader,
@@ -365,21 +365,21 @@ fn run_frames(
     log: &mut [u8],
     staging: &[u8],
 ) -> Pager
-    requires { ⌜ (length (now marks) ≡ stagedLimit) × roomFor (pager .wal) (take (pager .staged .count) (now marks)) ⌝ }
-    requires { ⌜ Lent (now table) (now log) × (length (now staging) ≡ stagingArea) ⌝ }
+    requires { ⌜ (length (now marks) ≡ stagedLimit) × hasRoomFor (pager .wal) (take (pager .staged .count) (now marks)) ⌝ }
+    requires { ⌜ Lengths (now table) (now log) × (length (now staging) ≡ stagingArea) ⌝ }
     ensures { λ r. ⌜
         (let marked = take (pager .staged .count) (now (marks .entry)) in
-        let before = RanToSeal marked (now (staging .entry)) header salt answer pager (now (table .entry)) (now (log .entry)) in
+        let before = RunToCommitFrame marked (now (staging .entry)) header salt answer pager (now (table .entry)) (now (log .entry)) in
         before r (now (table .exit)) (now (log .exit))) ⌝ }
 {
     let first = pager.wal;
     let staged = pager.staged;
     let last = store_frames(marks, staged.count, first, table, log, staging);
-    let wal = store_seal(table, log, last, header);
-    sealed(pager, header, salt, answer, wal)
+    let wal = store_commit_frame(table, log, last, header);
+    committed(pager, header, salt, answer, wal)
 }
 
-// What a commit in one call comes to, but for the fold that it may bring on.
+// What a commit in one call comes to, but for the checkpoint that it may bring on.
 pub struct CommitRun {
     pub answer: CommitStart,
     // The number of differing pages, if it has begun.
@@ -388,7 +388,7 @@ pub struct CommitRun {
 }
 
 fn ran(answer: CommitStart, pages: usize, pager: Pager) -> CommitRun
-    ensures { λ r. ⌜ r ≡ ranAs answer pages pager ⌝ }
+    ensures { λ r. ⌜ r ≡ commitRunOf answer pages pager ⌝ }
 {
     CommitRun {
         answer,
@@ -397,7 +397,7 @@ fn ran(answer: CommitStart, pages: usize, pager: Pager) -> CommitRun
     }
 }
 
-// Judges a commit and runs it up to its seal: a step for each differing page, and one.
+// Judges a commit and runs it up to its commit frame: a step for each differing page, and one.
 pub fn commit_frames<'a>(
     pager: Pager,
     table: &mut [u32],
@@ -417,7 +417,7 @@ pub fn commit_frames<'a>(
     ensures { λ r. ⌜
         (let w = world pager (now (table .entry)) (now (log .entry)) (now (main .entry)) in
         let later = world (r .pager) (now (table .exit)) (now (log .exit)) (now (main .entry)) in
-        later ≡ commitSealed (now (staging .entry)) w «new_header» salt) ⌝ }
+        later ≡ commitFramesWorld (now (staging .entry)) w «new_header» salt) ⌝ }
 {
     let judged = pager_judge::judge(pager, table, log, main, staging, new_header);
     let answer = judged.answer;

@@ -15,7 +15,7 @@ use Rattle.header.specs.Header.{encodeHeader, encodeAfter}
 use Rattle.header.specs.declared.DbHeader.{DbHeader}
 use Rattle.header.proofs.Encoding.{length-encodeHeader}
 use Rattle.wal.specs.Header.{encodeWalHeader}
-use Rattle.wal.specs.Write.{createdHeader, headed}
+use Rattle.wal.specs.Write.{createdHeader, withHeader}
 use Rattle.pager_state.specs.Stores.{File, grown, putFile, lenFile, storedAll}
 use Rattle.pager_state.specs.Opening.{tableOf, firstHeader, logStores, createStores, emptyFile, createdDisk, createdPager, createFine, create, createTable, createLog, createMain, noPager}
 use Rattle.pager_state.specs.declared.Pager.{Pager}
@@ -70,8 +70,8 @@ module _ (t l m g : List ℕ) (salt : ℕ) where
   create-refused n a = (rw n a, (rw n, (rw n, rw n)))
 
   pub create-done : {p : Pager} {u v w : List ℕ} → createFine t l m g ≡ true → length l ≡ 4210720 → p ≡ createdPager salt → u ≡ tableOf firstHeader []
-      → v ≡ headed l (createdHeader salt) → w ≡ put (put m 0 (encodeHeader firstHeader)) 4096 emptyTablePage
+      → v ≡ withHeader l (createdHeader salt) → w ≡ put (put m 0 (encodeHeader firstHeader)) 4096 emptyTablePage
       → Creates (record { answer = created.Created; pager = p }) u v w
-  unfolding create createTable createLog createMain headed
+  unfolding create createTable createLog createMain withHeader
   create-done y n a b c d =
       (rw (y, a), (rw y b, (rw (y, created-log l m salt) (c ∙ rw (eq-eqb (length l) 4210720 n)), rw (y, created-main l m salt) d)))

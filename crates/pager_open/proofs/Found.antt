@@ -1,4 +1,4 @@
--- What an opening finds in the log: the sealed frames, page 0 among them, and the log as it is then open. Assumes nothing.
+-- What an opening finds in the log: the committed frames, page 0 among them, and the log as it is then open. Assumes nothing.
 use mathlib.Core.Path.{_≡_, refl, sym, ap, _∙_}
 use mathlib.Core.Bool.{Bool, true, false}
 use mathlib.Core.List.{List, [], _∷_, _++_}
@@ -13,17 +13,17 @@ use Rattle.frame.specs.Frame.{frameAt, bodyOf}
 use Rattle.header.specs.Header.{decodeHeader}
 use Rattle.header.specs.declared.DbHeader.{DbHeader}
 use Rattle.header.specs.declared.HeaderDecoded.the-variants as main
-use Rattle.wal.specs.Header.{headerIn}
-use Rattle.wal.specs.Recovery.{chunks, chunkAt, pageOf, pageIn, recovered, sealedFrames, commitPoint, lastCommit, lastCount, walOf}
+use Rattle.wal.specs.Header.{walHeaderIn}
+use Rattle.wal.specs.Recovery.{chunks, chunkAt, pageOf, pageIn, recovered, committedFrames, commitPoint, lastCommit, lastCount, walOf}
 use Rattle.wal.specs.Write.{emptyWal}
 use Rattle.wal.specs.declared.Wal.{Wal}
 use Rattle.wal.proofs.Places.{length-chunks, chunk-gone, take-chunk}
-use Rattle.wal.proofs.Frames.{pageIn-snoc, sealed-most}
-use Rattle.wal.proofs.Recovered.{frames-most, sealed-chunks, commit-within, committed-sealed, cut-sealed}
+use Rattle.wal.proofs.Frames.{pageIn-snoc, committed-most}
+use Rattle.wal.proofs.Recovered.{frames-most, committed-chunks, commit-within, committed-committed, cut-committed}
 use Rattle.wal.proofs.Opening.{known-header, known-commit, known-last, cut-known, length-cut}
 use Rattle.pager_state.specs.Stores.{File, content}
 use Rattle.pager_state.specs.Opening.{placeFrom, How, keptOf, foundIn, foundFresh, foundBy, recounted, headerBy}
-use Rattle.pager_open.specs.Judging.{sealedWal, keptWal}
+use Rattle.pager_open.specs.Judging.{committedWal, keptWal}
 use Rattle.pager_open.proofs.Table.{place-snoc}
 
 -- ---- page 0
@@ -49,33 +49,33 @@ module _ (n : ℕ) (l : List ℕ) where
       rw (take-chunk k l (omega arith))
       (one-more (take k (chunks l)) (frameAt (chunkAt k) l) (length-frame (chunkAt k) l (omega arith)) (body-or-none k (omega arith)))
 
-  pub body-found : eqb (length (bodyOf (pageIn n (sealedFrames (recovered l))))) 0 ≡ eqb (placeFrom n 0 (sealedFrames (recovered l))) 0
+  pub body-found : eqb (length (bodyOf (pageIn n (committedFrames (recovered l))))) 0 ≡ eqb (placeFrom n 0 (committedFrames (recovered l))) 0
   body-found =
-      let k : length (sealedFrames (recovered l)) ≤ (length l - 32) / 4112 =
-      omega (arith, sealed-most (recovered l .frames), frames-most l, length-chunks l) in
-      rw (sealed-chunks l) (body-or-none (length (sealedFrames (recovered l))) k)
+      let k : length (committedFrames (recovered l)) ≤ (length l - 32) / 4112 =
+      omega (arith, committed-most (recovered l .frames), frames-most l, length-chunks l) in
+      rw (committed-chunks l) (body-or-none (length (committedFrames (recovered l))) k)
 
 -- ---- a log that exists, kept or cut
 
-pub found-frames : (clean : Bool) (l : List ℕ) → foundIn clean l .frames ≡ sealedFrames (recovered l)
+pub found-frames : (clean : Bool) (l : List ℕ) → foundIn clean l .frames ≡ committedFrames (recovered l)
 unfolding foundIn keptOf
-found-frames true l = cut-sealed l
+found-frames true l = cut-committed l
 found-frames false l = refl
 
 pub found-last : (clean : Bool) (l : List ℕ) → foundIn clean l .last ≡ lastCommit (recovered l)
 unfolding foundIn keptOf
-found-last true l = ap lastCount (cut-sealed l)
+found-last true l = ap lastCount (cut-committed l)
 found-last false l = refl
 
-header-there : (l : List ℕ) → recovered l .header ≡ headerIn l
+header-there : (l : List ℕ) → recovered l .header ≡ walHeaderIn l
 unfolding recovered
 header-there l = refl
 
 -- "its frame count is the frames kept"
 cut-wal : (l : List ℕ) (v : Wal) → 32 ≤ length l → v ≡ walOf (length l) (recovered l) → keptWal true v ≡ foundIn true l .log
-unfolding foundIn keptOf sealedWal
+unfolding foundIn keptOf committedWal
 cut-wal l v h k =
-    let n : (commitPoint (recovered l) - 32) / 4112 ≡ length (sealedFrames (recovered l)) = omega arith in
+    let n : (commitPoint (recovered l) - 32) / 4112 ≡ length (committedFrames (recovered l)) = omega arith in
     rw (length-cut l h, cut-known l, known-commit l v k, known-last l v k, n, known-header l v k, header-there l)
 
 pub found-log : (clean : Bool) (l : List ℕ) (v : Wal) → 32 ≤ length l → v ≡ walOf (length l) (recovered l) → keptWal clean v ≡ foundIn clean l .log
@@ -85,17 +85,17 @@ found-log false l v h k = k
 
 -- "Page 0 in the log replaces the main header, its own page count included"
 module _ (mh : DbHeader) (clean : Bool) (l : List ℕ) where
-  page-zero : eqb (length (bodyOf (pageIn 0 (sealedFrames (recovered l))))) 0 ≡ eqb (placeFrom 0 0 (foundIn clean l .frames)) 0
+  page-zero : eqb (length (bodyOf (pageIn 0 (committedFrames (recovered l))))) 0 ≡ eqb (placeFrom 0 0 (foundIn clean l .frames)) 0
   page-zero = body-found 0 l ∙ rw (found-frames clean l)
 
-  pub header-zero : {z : List ℕ} → z ≡ bodyOf (pageIn 0 (sealedFrames (recovered l))) → (length z ≡ 0 → ⊥) → decodeHeader z ≡ headerBy mh (foundIn clean l)
+  pub header-zero : {z : List ℕ} → z ≡ bodyOf (pageIn 0 (committedFrames (recovered l))) → (length z ≡ 0 → ⊥) → decodeHeader z ≡ headerBy mh (foundIn clean l)
   unfolding headerBy
   header-zero {z} e n =
       let b : eqb (placeFrom 0 0 (foundIn clean l .frames)) 0 ≡ false = sym page-zero ∙ rw (← e) (ne-eqb (length z) 0 n) in
       rw (b, found-frames clean l, e)
 
   -- "otherwise the last commit count replaces the page count"
-  pub header-main : {z : List ℕ} → z ≡ bodyOf (pageIn 0 (sealedFrames (recovered l))) → length z ≡ 0
+  pub header-main : {z : List ℕ} → z ≡ bodyOf (pageIn 0 (committedFrames (recovered l))) → length z ≡ 0
       → main.Header (recounted mh (lastCommit (recovered l))) ≡ headerBy mh (foundIn clean l)
   unfolding headerBy
   header-main {z} e n =
@@ -104,7 +104,7 @@ module _ (mh : DbHeader) (clean : Bool) (l : List ℕ) where
 
 -- ---- either log
 
--- the sealed frames end at the commit point of the log that is then open
+-- the committed frames end at the commit point of the log that is then open
 end-of : (how : How) (f : File) (b : Bool) → let x = pick b (foundIn (how .clean) (content f)) (foundFresh how) in chunkAt (length (x .frames)) ≡ x .log .«last_commit_offset»
 unfolding foundIn foundFresh walOf emptyWal
 end-of how f true = refl
@@ -121,7 +121,7 @@ found-chunks clean f h =
     let l : List ℕ = content f in
     let w : commitPoint (recovered l) ≤ f .len = omega (arith, commit-within l h, length-take (f .len) (f .area)) in
     let t : take (commitPoint (recovered l)) l ≡ take (commitPoint (recovered l)) (f .area) = take-take (commitPoint (recovered l)) (f .len) (f .area) w in
-    rw (found-frames clean l, ← t) (committed-sealed l)
+    rw (found-frames clean l, ← t) (committed-committed l)
 
 pub fresh-chunks : (how : How) (l : List ℕ) → chunks (take (chunkAt (length (foundFresh how .frames))) l) ≡ foundFresh how .frames
 unfolding foundFresh

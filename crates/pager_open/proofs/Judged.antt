@@ -21,10 +21,10 @@ use Rattle.wal.specs.declared.WalOpened.the-variants as wal
 use Rattle.wal.specs.declared.Wal.{Wal}
 use Rattle.pager_state.specs.World.{countOf}
 use Rattle.pager_state.specs.Stores.{File, Disk, content}
-use Rattle.pager_state.specs.Opening.{placeFrom, How, foundIn, foundFresh, foundBy, mainHeader, isLong, judgedMain, judgedLog, judgedZero, headerBy, openingOf, opensAs, openedAs, judged, openFine, openPager}
+use Rattle.pager_state.specs.Opening.{placeFrom, How, foundIn, foundFresh, foundBy, mainHeader, isLong, judgedMain, judgedLog, judgedZero, headerBy, openingOf, opensAs, openedStore, judged, openFine, openPager}
 use Rattle.pager_state.specs.Opened.{Opens}
 use Rattle.pager_state.specs.Opened as opened
-use Rattle.pager_open.specs.Judging.{keptWal, barred, openedWith, judgedFound, judgedBehind, judgedFiles}
+use Rattle.pager_open.specs.Judging.{keptWal, isCleanReadOnly, openedWith, judgedFound, judgedBehind, judgedFiles}
 use Rattle.pager_open.proofs.Found.{found-frames, found-last, found-log, found-end}
 
 -- ---- 6, then 10
@@ -36,13 +36,13 @@ module _ (how : How) (len : ℕ) (mh : DbHeader) (v : Wal) (h : DbHeader) where
       let k : 1024 < countOf h = omega (arith, leb-false (4096 * countOf h) 4194304 e) in
       rw (lt-leb _ _ k)
 
-  pub read-only : leb (4096 * countOf h) 4194304 ≡ true → barred how ≡ true → (opened.Refused refusal.ReadOnly) ≡ openedWith how len mh v h
+  pub read-only : leb (4096 * countOf h) 4194304 ≡ true → isCleanReadOnly how ≡ true → (opened.Refused refusal.ReadOnly) ≡ openedWith how len mh v h
   unfolding openedWith
   read-only e b =
       let k : countOf h ≤ 1024 = omega (arith, leb-true (4096 * countOf h) 4194304 e) in
       rw (le-leb _ _ k, b)
 
-  pub opens-with : leb (4096 * countOf h) 4194304 ≡ true → barred how ≡ false
+  pub opens-with : leb (4096 * countOf h) 4194304 ≡ true → isCleanReadOnly how ≡ false
       → opened.Opened (opensAs h mh len v (v .«last_commit_offset») (openingOf how)) ≡ openedWith how len mh v h
   unfolding openedWith
   opens-with e b =
@@ -95,8 +95,8 @@ zero-like (main.Header h) f g e = e h
 zero-like (main.Refused r) f g e = refl
 
 module _ (how : How) (d : Disk) where
-  with-as : (mh h : DbHeader) → openedAs how d mh (foundBy how (d .log)) h ≡ openedWith how (d .main .len) mh (foundBy how (d .log) .log) h
-  unfolding openedAs openedWith
+  with-as : (mh h : DbHeader) → openedStore how d mh (foundBy how (d .log)) h ≡ openedWith how (d .main .len) mh (foundBy how (d .log) .log) h
+  unfolding openedStore openedWith
   with-as mh h = rw (found-end how (d .log))
 
   behind-as : (mh : DbHeader) → pick (isLong (d .main) mh) (judged how d mh) (opened.Refused refusal.MainShort) ≡ judgedBehind how (d .main .len) (d .log) mh

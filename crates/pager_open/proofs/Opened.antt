@@ -19,7 +19,7 @@ use Rattle.header.specs.declared.HeaderDecoded.the-variants as main
 use Rattle.header.proofs.RoundTrip.{decoded-as}
 use Rattle.wal.specs.Header.{decodeWalHeader, encodeWalHeader}
 use Rattle.wal.specs.Recovery.{chunks, chunkAt, recovered, commitPoint}
-use Rattle.wal.specs.Write.{createdHeader, headed}
+use Rattle.wal.specs.Write.{createdHeader, withHeader}
 use Rattle.wal.specs.declared.WalHeader.{WalHeader}
 use Rattle.wal.specs.declared.WalHeaderDecoded.{WalHeaderDecoded}
 use Rattle.wal.specs.declared.WalHeaderDecoded.the-variants as log
@@ -30,13 +30,13 @@ use Rattle.refusal.specs.declared.Refusal.{Refusal}
 use Rattle.refusal.specs.declared.Refusal.the-variants as refusal
 use Rattle.pager_state.specs.World.{countOf, lengthsFine}
 use Rattle.pager_state.specs.Stores.{File, Disk, content, grown, putFile, lenFile, storedAll}
-use Rattle.pager_state.specs.Opening.{tableOf, opensAs, How, writes, foundIn, foundFresh, foundBy, mainHeader, judgedMain, judgedLog, judgedZero, headerBy, openingOf, openFine, openPager, openedAnswer, opens, logStores, openStores, emptyFile, lying, openTable, openLogArea}
+use Rattle.pager_state.specs.Opening.{tableOf, opensAs, How, writes, foundIn, foundFresh, foundBy, mainHeader, judgedMain, judgedLog, judgedZero, headerBy, openingOf, openFine, openPager, openedAnswer, opens, logStores, openStores, emptyFile, startDisk, openTable, openLogArea}
 use Rattle.pager_state.specs.Opened.{Opens}
 use Rattle.pager_state.specs.Opened as opened
 use Rattle.pager_state.specs.declared.Pager.{Pager}
 use Rattle.pager_state.specs.declared.PagerOpened.{PagerOpened}
 use Rattle.pager_state.specs.declared.OpenAnswer.the-variants as answer
-use Rattle.pager_open.specs.Judging.{barred, openedWith, judgedFound, judgedBehind, judgedFiles}
+use Rattle.pager_open.specs.Judging.{isCleanReadOnly, openedWith, judgedFound, judgedBehind, judgedFiles}
 use Rattle.pager_open.proofs.Found.{found-end, found-chunks, fresh-chunks}
 use Rattle.pager_open.proofs.Judged.{opening-judged}
 
@@ -119,7 +119,7 @@ opened-with : (how : How) (len : ℕ) (mh : DbHeader) (v : Wal) (h : DbHeader) (
 unfolding openedWith opensAs
 opened-with how len mh v h p e =
     let a = chosen (leb (countOf h) 1024) _ (opened.Refused refusal.Limit) p refl e in
-    let b = not-barred (barred how) (opensAs h mh len v (v .«last_commit_offset») (openingOf how)) (a .1) in
+    let b = not-barred (isCleanReadOnly how) (opensAs h mh len v (v .«last_commit_offset») (openingOf how)) (a .1) in
     record { header = ap (λ (x : Pager). x .storage .header) (sym b); end = ap (λ (x : Pager). x .recovered) (sym b) }
   where
     not-barred : (t : Bool) (q : Pager) → pick t (opened.Refused refusal.ReadOnly) (opened.Opened q) ≡ opened.Opened p → q ≡ p
@@ -222,9 +222,9 @@ fresh-area l salt d e =
 module _ (how : How) (d : Disk) where
   stored-log : (b c w : Bool) → how .exists ≡ b → how .clean ≡ c → writes (how .access) ≡ w → length (d .log .area) ≡ 4210720
       → (how .exists ≡ true → 32 ≤ length (content (d .log)))
-      → pick b (d .log .area) (pick w (headed (d .log .area) (createdHeader (how .salt))) (d .log .area))
-      ≡ storedAll (openStores how d) (lying how d) .log .area
-  unfolding openStores storedAll lenFile headed
+      → pick b (d .log .area) (pick w (withHeader (d .log .area) (createdHeader (how .salt))) (d .log .area))
+      ≡ storedAll (openStores how d) (startDisk how d) .log .area
+  unfolding openStores storedAll lenFile withHeader
   stored-log true true w eb ec ew n h = rw (eb, ec) (sym (cut-area (d .log) (h eb)))
   stored-log true false w eb ec ew n h = rw (eb, ec)
   stored-log false c true eb ec ew n h =
@@ -241,7 +241,7 @@ module _ (how : How) (d : Disk) where
 
     pub opened-leaves : (p : Pager) {u v : List ℕ} → openPager how t d g ≡ opened.Opened p → Known how d p → length (d .log .area) ≡ 4210720
         → u ≡ tableOf (p .storage .header) (chunks (take (p .recovered) (d .log .area)))
-        → v ≡ pick (how .exists) (d .log .area) (pick (writes (how .access)) (headed (d .log .area) (createdHeader (how .salt))) (d .log .area))
+        → v ≡ pick (how .exists) (d .log .area) (pick (writes (how .access)) (withHeader (d .log .area) (createdHeader (how .salt))) (d .log .area))
         → (u ≡ openTable how t d g) × (v ≡ openLogArea how t d g)
     unfolding openTable openLogArea
     opened-leaves p e k n a b =
@@ -268,7 +268,7 @@ module _ (how : How) (d : Disk) where
 
       pub judged-opened : {u v : List ℕ} → r .answer ≡ answer.Opened → length (d .log .area) ≡ 4210720
           → u ≡ tableOf (r .pager .storage .header) (chunks (take (r .pager .recovered) (d .log .area)))
-          → v ≡ pick (how .exists) (d .log .area) (pick (writes (how .access)) (headed (d .log .area) (createdHeader (how .salt))) (d .log .area))
+          → v ≡ pick (how .exists) (d .log .area) (pick (writes (how .access)) (withHeader (d .log .area) (createdHeader (how .salt))) (d .log .area))
           → Leaves r u v
       judged-opened y n b c =
           let o = store-opened (judgedFiles how d) r a y in

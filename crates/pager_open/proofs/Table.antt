@@ -19,7 +19,7 @@ use Rattle.wal.specs.Recovery.{chunks, chunkAt, pageOf}
 use Rattle.wal.proofs.Places.{length-chunks, take-chunk}
 use Rattle.pager_state.specs.Overlay.{onMain, entry}
 use Rattle.pager_state.specs.Opening.{tabulate, placeFrom, hasPage, tableOf}
-use Rattle.pager_state.specs.Commit.{entered}
+use Rattle.pager_state.specs.Commit.{withEntry}
 
 -- ---- tabulated lists
 
@@ -107,11 +107,11 @@ flag-kept x =
     zero-or-one : (r : ℕ) → r < 2 → (r ≡ 1 → ⊥) → r ≡ 0
     zero-or-one r h e = omega arith
 
-pub entered-as : (t : List ℕ) (n at : ℕ) → set t n (2 * at + getD t n 0 % 2) ≡ entered t n at
+pub entered-as : (t : List ℕ) (n at : ℕ) → set t n (2 * at + getD t n 0 % 2) ≡ withEntry t n at
 unfolding onMain
 entered-as t n at = ap (λ (r : ℕ). set t n (2 * at + r)) (flag-kept (getD t n 0))
 
-pub entered-none : (t : List ℕ) (n at : ℕ) → length t ≤ n → t ≡ entered t n at
+pub entered-none : (t : List ℕ) (n at : ℕ) → length t ≤ n → t ≡ withEntry t n at
 entered-none t n at h = sym (set-out t n (entry at (onMain t n)) h)
 
 pub length-table : (h : DbHeader) (fs : List (List ℕ)) → length (tableOf h fs) ≡ 1024
@@ -137,21 +137,21 @@ module _ (h : DbHeader) (fs : List (List ℕ)) (f : List ℕ) where
   unfolding before onMain
   flag-here b = rw (get-tabulate before 1024 (pageOf f) b) (entry-flag (placeFrom (pageOf f) 0 fs) (hasPage h (pageOf f)))
 
-  entered-below : pageOf f < 1024 → entered (tableOf h fs) (pageOf f) (chunkAt (length fs)) ≡ tableOf h (fs ++ (f ∷ []))
+  entered-below : pageOf f < 1024 → withEntry (tableOf h fs) (pageOf f) (chunkAt (length fs)) ≡ tableOf h (fs ++ (f ∷ []))
   unfolding tableOf before after
   entered-below b =
       rw (flag-here b)
       (set-tabulate before after 1024 (pageOf f) (entry (chunkAt (length fs)) (hasPage h (pageOf f))) b after-here
       (λ n e. after-other n (λ s. e (sym s))))
 
-  entered-above : 1024 ≤ pageOf f → entered (tableOf h fs) (pageOf f) (chunkAt (length fs)) ≡ tableOf h (fs ++ (f ∷ []))
+  entered-above : 1024 ≤ pageOf f → withEntry (tableOf h fs) (pageOf f) (chunkAt (length fs)) ≡ tableOf h (fs ++ (f ∷ []))
   unfolding tableOf before after
   entered-above b =
       set-out (tabulate before 0 1024) (pageOf f) _ (rw (length-tabulate before 0 1024) b)
       ∙ tabulate-like before after 1024 (λ n m. sym (after-other n (λ e. omega arith)))
 
   -- a frame behind some frames, entered behind them
-  pub entered-frame : entered (tableOf h fs) (pageOf f) (chunkAt (length fs)) ≡ tableOf h (fs ++ (f ∷ []))
+  pub entered-frame : withEntry (tableOf h fs) (pageOf f) (chunkAt (length fs)) ≡ tableOf h (fs ++ (f ∷ []))
   entered-frame = ⊎-elim entered-above entered-below (le-or-lt 1024 (pageOf f))
 
 -- without frames
@@ -174,13 +174,13 @@ module _ (h : DbHeader) (l : List ℕ) where
   pub entering-long : (t : List ℕ) (at : ℕ) → Entering h l t at → length t ≡ 1024
   entering-long t at r = rw (r .table) (length-table h (take (r .index) (chunks l)))
 
-  pub entering-on : (t : List ℕ) (at : ℕ) {u : List ℕ} → Entering h l t at → at + 4112 ≤ length l → u ≡ entered t (pageOf (frameAt at l)) at
+  pub entering-on : (t : List ℕ) (at : ℕ) {u : List ℕ} → Entering h l t at → at + 4112 ≤ length l → u ≡ withEntry t (pageOf (frameAt at l)) at
       → Entering h l u (at + 4112)
   entering-on t at {u} r k e =
       let i = r .index in
       let m : chunkAt i + 4112 ≤ length l = rw (← r .place) k in
       let n : length (take i (chunks l)) ≡ i = length-take-le i (chunks l) (rw length-chunks (omega arith)) in
-      let s : entered (tableOf h (take i (chunks l))) (pageOf (frameAt (chunkAt i) l)) (chunkAt i)
+      let s : withEntry (tableOf h (take i (chunks l))) (pageOf (frameAt (chunkAt i) l)) (chunkAt i)
       ≡ tableOf h (take i (chunks l) ++ (frameAt (chunkAt i) l ∷ [])) =
       rw n at (entered-frame h (take i (chunks l)) (frameAt (chunkAt i) l)) in
       record { index = suc i; place = omega (arith, r .place); table = e ∙ rw (r .table, r .place, take-chunk i l m) s }

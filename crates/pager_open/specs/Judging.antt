@@ -17,9 +17,9 @@ use Rattle.pager_state.specs.Opening.{How, Found, writes, foundBy, mainHeader, 
 use Rattle.pager_state.specs.Opened.{Opens}
 use Rattle.pager_state.specs.Opened as opened
 
--- an open log that ends with its last seal: "its frame count is the frames kept"
-unfoldable pub sealedWal : WalHeader → ℕ → LastCommit → Wal
-sealedWal h end last =
+-- an open log that ends with its last commit frame: "its frame count is the frames kept"
+unfoldable pub committedWal : WalHeader → ℕ → LastCommit → Wal
+committedWal h end last =
     record {
       header = h;
       len = end;
@@ -31,17 +31,17 @@ sealedWal h end last =
 
 -- "A clean opening .. cuts the log at the commit point"
 abbrev pub keptWal : Bool → Wal → Wal
-keptWal clean v = pick clean (sealedWal (v .header) (v .«last_commit_offset») (v .«last_commit_page_count»)) v
+keptWal clean v = pick clean (committedWal (v .header) (v .«last_commit_offset») (v .«last_commit_page_count»)) v
 
 -- 10: "clean opening, read-only"
-abbrev pub barred : How → Bool
-barred how = both (how .clean) (pick (writes (how .access)) false true)
+abbrev pub isCleanReadOnly : How → Bool
+isCleanReadOnly how = both (how .clean) (pick (writes (how .access)) false true)
 
 -- 6, then 10, then the store: h is the header that counts, mh the main file's own, len its length
 unfoldable pub openedWith : How → ℕ → DbHeader → Wal → DbHeader → Opens
 openedWith how len mh v h =
     pick (leb (countOf h) pageLimit)
-    (pick (barred how) (opened.Refused refusal.ReadOnly) (opened.Opened (opensAs h mh len v (v .«last_commit_offset») (openingOf how))))
+    (pick (isCleanReadOnly how) (opened.Refused refusal.ReadOnly) (opened.Opened (opensAs h mh len v (v .«last_commit_offset») (openingOf how))))
     (opened.Refused refusal.Limit)
 
 -- 8, then the rest

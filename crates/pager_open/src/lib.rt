@@ -12,15 +12,15 @@ ghost use Rattle.page.specs.Page.{emptyTablePage, pageSize};
 ghost use Rattle.header.specs.Header.{encodeHeader};
 ghost use Rattle.wal.specs.Header.{headerSize, decodeWalHeader};
 ghost use Rattle.wal.specs.Recovery.{chunks, recovered, walOf, walArea};
-ghost use Rattle.wal.specs.Write.{emptyWal, createdHeader, headed};
+ghost use Rattle.wal.specs.Write.{emptyWal, createdHeader, withHeader};
 ghost use Rattle.pager_state.specs.World.{lengthsFine, pageLimit};
 ghost use Rattle.pager_state.specs.Overlay.{entry};
 ghost use Rattle.pager_state.specs.Stores.{File};
-ghost use Rattle.pager_state.specs.Commit.{entered};
+ghost use Rattle.pager_state.specs.Commit.{withEntry};
 ghost use Rattle.pager_state.specs.Opening.{hasPage, tableOf, opensAs, firstHeader, create, createTable, createLog, createMain, writes, foundIn, foundFresh, mainHeader, judgedLog, recounted, headerBy, openingOf, openPager, openedAnswer, openTable, openLogArea, noPager};
 ghost use Rattle.pager_state.specs.Opened.{Refused};
 ghost use Rattle.pager_open.specs.Given.{how, howOf, files};
-ghost use Rattle.pager_open.specs.Judging.{sealedWal, keptWal, barred, openedWith, judgedFound, judgedBehind, judgedFiles};
+ghost use Rattle.pager_open.specs.Judging.{committedWal, keptWal, isCleanReadOnly, openedWith, judgedFound, judgedBehind, judgedFiles};
 use frame::FRAME_SIZE;
 use header::DbHeader;
 use header::HeaderDecoded;
@@ -109,7 +109,7 @@ fn clear_table(table: &mut [u32], main_header: DbHeader)
 // Enters the frame at `at` for its page; page numbers that the table does not have do not matter.
 fn enter_frame(table: &mut [u32], page_num: u32, at: usize)
     requires { ⌜ 2 * at + 1 < 2 ^ 32 ⌝ }
-    ensures { λ _. ⌜ now (table .exit) ≡ entered (now (table .entry)) «page_num» at ⌝ }
+    ensures { λ _. ⌜ now (table .exit) ≡ withEntry (now (table .entry)) «page_num» at ⌝ }
 {
     let n = page_num as usize;
     if n < table.len() {
@@ -117,7 +117,7 @@ fn enter_frame(table: &mut [u32], page_num: u32, at: usize)
     }
 }
 
-// Fills the table from the sealed frames' headings, each over those before it.
+// Fills the table from the committed frames' headings, each over those before it.
 fn fill_table(table: &mut [u32], file: &[u8], main_header: DbHeader)
     requires { ⌜ (length (now table) ≡ pageLimit) × (length (now file) ≤ walArea) ⌝ }
     ensures { λ _. ⌜ now (table .exit) ≡ tableOf «main_header» (chunks (now (file .entry))) ⌝ }
@@ -131,10 +131,10 @@ fn fill_table(table: &mut [u32], file: &[u8], main_header: DbHeader)
     }
 }
 
-// An open log that ends with its last seal.
-fn sealed_wal(header: WalHeader, end: usize, last: LastCommit) -> Wal
+// An open log that ends with its last commit frame.
+fn committed_wal(header: WalHeader, end: usize, last: LastCommit) -> Wal
     requires { ⌜ headerSize ≤ end ⌝ }
-    ensures { λ r. ⌜ r ≡ sealedWal header end last ⌝ }
+    ensures { λ r. ⌜ r ≡ committedWal header end last ⌝ }
 {
     Wal {
         header,
@@ -156,7 +156,7 @@ fn empty_wal(salt: u32) -> Wal
         checkpoint_seq: 0,
         clock_high_water: 0,
     };
-    sealed_wal(header, WAL_HEADER_SIZE, LastCommit::Nothing)
+    committed_wal(header, WAL_HEADER_SIZE, LastCommit::Nothing)
 }
 
 // The log cut at its commit point.
@@ -166,7 +166,7 @@ fn cut_at_commit(wal: Wal) -> Wal
 {
     let header = wal.header;
     let last = wal.last_commit_page_count;
-    sealed_wal(header, wal.last_commit_offset, last)
+    committed_wal(header, wal.last_commit_offset, last)
 }
 
 // The log as it is then open: a clean opening cuts it, a plain one keeps the tail.
@@ -245,8 +245,8 @@ fn opening_of(options: OpenOptions) -> Opening
 }
 
 // Whether the opening is clean and read-only.
-fn is_barred(options: OpenOptions) -> bool
-    ensures { λ r. ⌜ r ≡ barred (howOf options) ⌝ }
+fn is_clean_read_only(options: OpenOptions) -> bool
+    ensures { λ r. ⌜ r ≡ isCleanReadOnly (howOf options) ⌝ }
 {
     let access_mode = options.access_mode;
     if options.clean {
@@ -278,7 +278,7 @@ fn opened_with(
     if !covers(MAIN_AREA, header) {
         return refused(Refusal::Limit);
     }
-    if is_barred(options) {
+    if is_clean_read_only(options) {
         return refused(Refusal::ReadOnly);
     }
     let opening = opening_of(options);
@@ -380,7 +380,8 @@ fn judge_behind(
 ) -> PagerOpened
     requires { ⌜ «log_len» ≤ walArea ⌝ }
     ensures { λ r. ⌜
-        (let f : File = record { area = now (log .entry); len = «log_len» } in r ≡ openedAnswer (judgedBehind (howOf options) «main_len» f «main_header»))
+        (let f : File = record { area = now (log .entry); len = «log_len» } in
+        r ≡ openedAnswer (judgedBehind (howOf options) «main_len» f «main_header»))
         ⌝ }
 {
     if !covers(main_len, main_header) {
@@ -429,7 +430,7 @@ fn judge(
 fn store_log(log: &mut [u8], options: OpenOptions)
     ensures { λ _. ⌜
         (let l = now (log .entry) in
-        now (log .exit) ≡ pick (options .«log_exists») l (pick (writes (options .«access_mode»)) (headed l (createdHeader (options .salt))) l))
+        now (log .exit) ≡ pick (options .«log_exists») l (pick (writes (options .«access_mode»)) (withHeader l (createdHeader (options .salt))) l))
         ⌝ }
 {
     if options.log_exists {

@@ -4,7 +4,7 @@ ghost use mathlib.Core.Path.{_≡_};
 ghost use Rattle.pager_state.specs.World.{world};
 ghost use Rattle.pager_state.specs.Overlay.{slots, below, placePage, findPage, readPage};
 ghost use Rattle.pager_state.specs.Queries.{header, modeBy, accessMode, clockHighWater, raised, observedBy, observeClock};
-ghost use Rattle.pager_state.specs.Batches.{recoveredAs, nextRecovered};
+ghost use Rattle.pager_state.specs.Batches.{recoveredBatch, nextRecovered};
 ghost use Rattle.pager_read.specs.Reading.{mayRead, readEnd};
 use frame::FRAME_HEADER_SIZE;
 use page::PAGE_SIZE;
@@ -97,7 +97,7 @@ fn observed(opening: Opening, wal: Wal, value: u64) -> Wal
     }
 }
 
-// Raises the clock in memory; it reaches the log's header at a fold.
+// Raises the clock in memory; it reaches the log's header at a checkpoint.
 pub fn observe_clock_high_water(pager: Pager, value: u64) -> ClockObserved
     ensures { λ r. ⌜ r ≡ observeClock pager value ⌝ }
 {
@@ -217,7 +217,9 @@ pub fn may_read(
     main: &[u8],
     staging: &[u8],
 ) -> ReadAnswer
-    ensures { λ r. ⌜ r ≡ mayRead «page_count» job «log_len» «main_len» (now (table .entry)) (now (log .entry)) (now (main .entry)) (now (staging .entry)) ⌝ }
+    ensures { λ r. ⌜
+        r ≡ mayRead «page_count» job «log_len» «main_len» (now (table .entry)) (now (log .entry)) (now (main .entry)) (now (staging .entry))
+        ⌝ }
 {
     if !pager_state::is_inside(
         page_count,
@@ -260,7 +262,7 @@ pub fn read_page<'a>(
 }
 
 fn recovered_as(found: BatchFound) -> RecoveredFound
-    ensures { λ r. ⌜ r ≡ recoveredAs found ⌝ }
+    ensures { λ r. ⌜ r ≡ recoveredBatch found ⌝ }
 {
     match found {
         BatchFound::Batch { index, offset } => RecoveredFound::Batch { index, offset },

@@ -26,7 +26,7 @@ use Rattle.pager_state.specs.Batches.{appendRefusal, batchFrame, appendBatch, a
 use Rattle.pager_state.specs.declared.Pager.{Pager}
 use Rattle.pager_state.specs.declared.PagerAppended.{PagerAppended}
 use Rattle.pager_state.specs.declared.BatchAnswer.the-variants as append
-use Rattle.pager_stage.specs.Append.{orElse, lowest}
+use Rattle.pager_stage.specs.Append.{refusalOr, lowest}
 
 -- ---- a heading's refusal, or another
 
@@ -34,18 +34,18 @@ abbrev pub judgedOr : HeadingJudged → Refusal → Refusal
 judgedOr heading.Fine other = other
 judgedOr (heading.Refused r) other = r
 
-by-judgement : (v : Option Refusal) (other : Refusal) → judgedOr (answered heading.Refused heading.Fine v) other ≡ orElse v other
+by-judgement : (v : Option Refusal) (other : Refusal) → judgedOr (answered heading.Refused heading.Fine v) other ≡ refusalOr v other
 by-judgement none other = refl
 by-judgement (some r) other = refl
 
-pub heading-or : (s : List ℕ) (other : Refusal) → judgedOr (headingJudged s) other ≡ orElse (headingRefusal s) other
+pub heading-or : (s : List ℕ) (other : Refusal) → judgedOr (headingJudged s) other ≡ refusalOr (headingRefusal s) other
 heading-or s other = by-judgement (headingRefusal s) other
 
 -- ---- judgements
 
 -- 1, 2 and 3 before another
 lowest-by : (t : Bool) (v rest : Option Refusal) (other : Refusal) → rest ≡ some other
-    → unless t refusal.Area (first v rest) ≡ some (pick t (orElse v other) refusal.Area)
+    → unless t refusal.Area (first v rest) ≡ some (pick t (refusalOr v other) refusal.Area)
 lowest-by true none rest other e = e
 lowest-by true (some r) rest other e = refl
 lowest-by false v rest other e = refl

@@ -13,11 +13,11 @@ use Rattle.wal.specs.Recovery.{walArea}
 use Rattle.pager_state.specs.World.{inArea}
 
 -- the refusal itself, or another where there is none
-abbrev pub orElse : Option Refusal → Refusal → Refusal
-orElse none other = other
-orElse (some r) other = r
+abbrev pub refusalOr : Option Refusal → Refusal → Refusal
+refusalOr none other = other
+refusalOr (some r) other = r
 
 -- "lowest number first": 1, 2 and 3 before another refusal
 abbrev pub lowest : ℕ → ℕ → List ℕ → Refusal → Refusal
 lowest log len body other =
-    pick (both (inArea walArea log len) (leb (length body) pageSize)) (orElse (headingRefusal body) other) refusal.Area
+    pick (both (inArea walArea log len) (leb (length body) pageSize)) (refusalOr (headingRefusal body) other) refusal.Area

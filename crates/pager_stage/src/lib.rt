@@ -5,7 +5,7 @@ ghost use mathlib.Core.Bool.{not};
 ghost use lib.Dec.{eqb};
 ghost use Rattle.pager_state.specs.World.{withWal};
 ghost use Rattle.pager_state.specs.Overlay.{slots};
-ghost use Rattle.pager_state.specs.Staging.{stageAnswer, stagedAfter, stagingAfter, stagePage, stageAfter, clearStaged};
+ghost use Rattle.pager_state.specs.Staging.{stageAnswer, stagedAfter, stagingBytes, stagePage, stageAfter, clearStaged};
 ghost use Rattle.pager_state.specs.Batches.{appendBatch, appendAfter};
 ghost use Rattle.pager_stage.specs.Append.{lowest};
 use mvcc::HeadingJudged;
@@ -54,7 +54,10 @@ fn stage(
         (let s = slots count (now (pages .entry)) in
         slots (r .count) (now (pages .exit)) ≡ stagedAfter busy s (now (staging .entry)) «page_num» (now (bytes .entry)))
         ⌝ }
-    ensures { λ _. ⌜ now (staging .exit) ≡ stagingAfter busy (slots count (now (pages .entry))) (now (staging .entry)) «page_num» (now (bytes .entry)) ⌝ }
+    ensures { λ _. ⌜
+        (let s = slots count (now (pages .entry)) in
+        now (staging .exit) ≡ stagingBytes busy s (now (staging .entry)) «page_num» (now (bytes .entry)))
+        ⌝ }
 {
     if staging.len() != STAGING_AREA {
         return refused_in(Refusal::Area, count);
@@ -99,7 +102,7 @@ pub fn stage_in(
         ⌝ }
     ensures { λ _. ⌜
         (let s = slots «staged_count» (now (staged .entry)) in
-        now (staging .exit) ≡ stagingAfter (not (eqb job 0)) s (now (staging .entry)) «page_num» (now (bytes .entry)))
+        now (staging .exit) ≡ stagingBytes (not (eqb job 0)) s (now (staging .entry)) «page_num» (now (bytes .entry)))
         ⌝ }
 {
     stage(job != 0, page_num, staged_count, staged, staging, bytes)
@@ -190,7 +193,7 @@ fn appended(wal: Wal, pager: Pager) -> PagerAppended
     }
 }
 
-// Appends a batch to the log, as `encode` writes it, unsealed.
+// Appends a batch to the log, as `encode` writes it, uncommitted.
 pub fn append_mvcc_batch(pager: Pager, log: &mut [u8], body: &[u8]) -> PagerAppended
     ensures { λ r. ⌜ r ≡ appendBatch pager (now (log .entry)) (now (body .entry)) ⌝ }
     ensures { λ _. ⌜ now (log .exit) ≡ appendAfter pager (now (log .entry)) (now (body .entry)) ⌝ }

@@ -1,4 +1,4 @@
--- What a step answers: the place of the first store left; the last also the number fixed when the commit or fold began. Assumes nothing.
+-- What a step answers: the place of the first store left; the last also the number fixed when the commit or checkpoint began. Assumes nothing.
 use mathlib.Core.Path.{_≡_, refl, sym, ap, _∙_}
 use mathlib.Core.Bool.{Bool, true, false}
 use mathlib.Core.List.{List, [], _∷_}
@@ -10,7 +10,7 @@ use Rattle.refusal.specs.declared.Refusal.the-variants as refusal
 use Rattle.header.specs.declared.DbHeader.{DbHeader}
 use Rattle.pager_state.specs.World.{World, busyWith, busy}
 use Rattle.pager_state.specs.Stores.{Act, inside, placeOf}
-use Rattle.pager_state.specs.Steps.{differing, commitRefusal, beginCommit, checkpointBegins, folding, beginCheckpoint, todo, answerOf, named, stepFine, stepAnswer, stepped, steps}
+use Rattle.pager_state.specs.Steps.{differing, commitRefusal, beginCommit, checkpointBegins, checkpointCount, beginCheckpoint, todo, answerOf, named, stepFine, stepAnswer, stepped, steps}
 use Rattle.pager_state.specs.declared.Job.{Job}
 use Rattle.pager_state.specs.declared.Job.the-variants as job
 use Rattle.pager_state.specs.declared.StepAnswer.the-variants as step
@@ -57,7 +57,7 @@ module _ (g : List ℕ) (w : World) where
 is-busy : (j : Job) → (j ≡ job.Idle → ⊥) → busyWith j ≡ true
 is-busy job.Idle n = absurd (n refl)
 is-busy (job.Commit h salt page answer) n = refl
-is-busy (job.Fold salt page answer) n = refl
+is-busy (job.Checkpoint salt page answer) n = refl
 is-busy (job.MainLength salt answer) n = refl
 is-busy (job.LogLength salt answer) n = refl
 is-busy (job.LogHeader salt answer) n = refl
@@ -128,5 +128,5 @@ pub commit-answer : (g : List ℕ) (w : World) (h : DbHeader) (salt : ℕ) → c
     → answerOf (beginCommit g w h salt .pager .job) ≡ differing g w
 commit-answer g w h salt e = rw (begun-commit g w h e salt)
 
-pub checkpoint-answer : (g : List ℕ) (w : World) (salt : ℕ) → checkpointBegins g w ≡ true → answerOf (beginCheckpoint g w salt .pager .job) ≡ folding w
+pub checkpoint-answer : (g : List ℕ) (w : World) (salt : ℕ) → checkpointBegins g w ≡ true → answerOf (beginCheckpoint g w salt .pager .job) ≡ checkpointCount w
 checkpoint-answer g w salt e = rw (begun-checkpoint g w e salt)

@@ -1,4 +1,4 @@
--- What a commit or fold that was begun tells of the store, and that what the laws of steps ask holds then. Assumes nothing.
+-- What a commit or checkpoint that was begun tells of the store, and that what the laws of steps ask holds then. Assumes nothing.
 use mathlib.Core.Path.{_≡_, refl, sym}
 use mathlib.Core.Bool.{Bool, true, false, not}
 use mathlib.Core.List.{List, append-nil}
@@ -20,15 +20,15 @@ use Rattle.wal.specs.Recovery.{walArea}
 use Rattle.pager_state.specs.World.{World, pageLimit, stagedLimit, countOf, fine, busyWith, busy, readOnly, withJob}
 use Rattle.pager_state.specs.Overlay.{isStaged}
 use Rattle.pager_state.specs.Pages.{pagesFrom, differs}
-use Rattle.pager_state.specs.Fold.{foldTodo}
+use Rattle.pager_state.specs.Checkpoint.{checkpointTodo}
 use Rattle.pager_state.specs.Commit.{framesTodo, commitTodo}
-use Rattle.pager_state.specs.Steps.{headerGood, differing, lacking, roomFor, tableFits, commitFine, commitRefusal, beginCommit, nothingToFold, checkpointRefusal, checkpointBegins, folding, beginCheckpoint, todo, stepFine, onStore}
+use Rattle.pager_state.specs.Steps.{headerGood, differing, lacking, roomFor, tableFits, commitFine, commitRefusal, beginCommit, nothingToCheckpoint, checkpointRefusal, checkpointBegins, checkpointCount, beginCheckpoint, todo, stepFine, onStore}
 use Rattle.pager_state.specs.declared.Job.{Job}
 use Rattle.pager_state.specs.declared.Job.the-variants as job
 use Rattle.pager_state.proofs.Stored.{AllInside}
 use Rattle.pager_state.proofs.Made.{ready-fine, PlacedOf, Names, Made, Ready, ReadyOf}
 use Rattle.pager_state.proofs.Before.{stands-frame, before-staged}
-use Rattle.pager_state.proofs.Inside.{fold-inside, frames-inside}
+use Rattle.pager_state.proofs.Inside.{checkpoint-stores-inside, frames-inside}
 
 pub off : (b : Bool) → not b ≡ true → b ≡ false
 off true e = no-test e
@@ -38,7 +38,7 @@ off false e = refl
 pub not-busy : (j : Job) → busyWith j ≡ false → j ≡ job.Idle
 not-busy job.Idle e = refl
 not-busy (job.Commit h salt page answer) e = no-test (sym e)
-not-busy (job.Fold salt page answer) e = no-test (sym e)
+not-busy (job.Checkpoint salt page answer) e = no-test (sym e)
 not-busy (job.MainLength salt answer) e = no-test (sym e)
 not-busy (job.LogLength salt answer) e = no-test (sym e)
 not-busy (job.LogHeader salt answer) e = no-test (sym e)
@@ -90,7 +90,7 @@ module _ (g : List ℕ) (w : World) (h : DbHeader) (e : commitRefusal g w h ≡ 
   -- no step of it is refused on the way
   commit-todo : (salt n : ℕ) → todo g (onStore w (withJob (w .pager) (job.Commit h salt 0 n)))
       ≡ framesTodo g h salt n (pagesFrom (differs g w) 0) (onStore w (withJob (w .pager) (job.Commit h salt 0 n)))
-  unfolding todo commitTodo foldTodo
+  unfolding todo commitTodo checkpointTodo
   commit-todo salt n = append-nil _
 
   pub commit-inside : (salt : ℕ) → AllInside (todo g (onStore w (beginCommit g w h salt .pager)))
@@ -117,50 +117,50 @@ module _ (g : List ℕ) (w : World) (h : DbHeader) (e : commitRefusal g w h ≡ 
   pub commit-made : (salt : ℕ) → Made w → Ready g (onStore w (beginCommit g w h salt .pager))
   commit-made salt m = ready-by salt (m .slots) (rw (commit-begun .idle) at (m .asked)) (λ n o. refl)
 
--- ---- a fold
+-- ---- a checkpoint
 
 pub record CheckpointBegun (g : List ℕ) (w : World) : Type 0 where
   pub right : stepFine g w ≡ true
   pub idle : w .pager .job ≡ job.Idle
   pub writes : readOnly (w .pager) ≡ false
-  pub some : nothingToFold w ≡ false
+  pub some : nothingToCheckpoint w ≡ false
 
 module _ (g : List ℕ) (w : World) (e : checkpointBegins g w ≡ true) where
   pub checkpoint-begun : CheckpointBegun g w
   unfolding checkpointRefusal
   checkpoint-begun =
-      let x = both-true (accepts (checkpointRefusal g w)) (not (nothingToFold w)) e in
+      let x = both-true (accepts (checkpointRefusal g w)) (not (nothingToCheckpoint w)) e in
       let a = met (stepFine g w) refusal.Area _ (accepts-none _ (x .0)) in
       let b = met (not (busy (w .pager))) refusal.Busy _ (a .1) in
       let c = met (not (readOnly (w .pager))) refusal.ReadOnly none (b .1) in
       record { right = a .0; idle = not-busy (w .pager .job) (off _ (b .0)); writes = off _ (c .0); some = off _ (x .1) }
 
-  pub begun-checkpoint : (salt : ℕ) → beginCheckpoint g w salt .pager ≡ withJob (w .pager) (job.Fold salt 0 (folding w))
+  pub begun-checkpoint : (salt : ℕ) → beginCheckpoint g w salt .pager ≡ withJob (w .pager) (job.Checkpoint salt 0 (checkpointCount w))
   unfolding beginCheckpoint
   begun-checkpoint salt = rw e
 
-  checkpoint-todo : (salt n : ℕ) → todo g (onStore w (withJob (w .pager) (job.Fold salt 0 n)))
-      ≡ foldTodo (job.Fold salt 0 n) (onStore w (withJob (w .pager) (job.Fold salt 0 n)))
+  checkpoint-todo : (salt n : ℕ) → todo g (onStore w (withJob (w .pager) (job.Checkpoint salt 0 n)))
+      ≡ checkpointTodo (job.Checkpoint salt 0 n) (onStore w (withJob (w .pager) (job.Checkpoint salt 0 n)))
   unfolding todo commitTodo
   checkpoint-todo salt n = refl
 
   pub checkpoint-inside : (salt : ℕ) → AllInside (todo g (onStore w (beginCheckpoint g w salt .pager)))
   checkpoint-inside salt =
-      rw (begun-checkpoint salt, checkpoint-todo salt (folding w))
-      (fold-inside (job.Fold salt 0 (folding w)) (onStore w (withJob (w .pager) (job.Fold salt 0 (folding w)))) (ready-fine g w (checkpoint-begun .right) .0 .count))
+      rw (begun-checkpoint salt, checkpoint-todo salt (checkpointCount w))
+      (checkpoint-stores-inside (job.Checkpoint salt 0 (checkpointCount w)) (onStore w (withJob (w .pager) (job.Checkpoint salt 0 (checkpointCount w)))) (ready-fine g w (checkpoint-begun .right) .0 .count))
 
-  fold-ready : {P : ℕ → Bool} → (salt : ℕ) → length (w .pager .staged .pages) ≡ stagedLimit → PlacedOf P w → ReadyOf P g (onStore w (beginCheckpoint g w salt .pager))
+  checkpoint-is-ready : {P : ℕ → Bool} → (salt : ℕ) → length (w .pager .staged .pages) ≡ stagedLimit → PlacedOf P w → ReadyOf P g (onStore w (beginCheckpoint g w salt .pager))
   unfolding fine
-  fold-ready salt s p = rw (begun-checkpoint salt) (record { right = checkpoint-begun .right; made = record { slots = s; asked = p } })
+  checkpoint-is-ready salt s p = rw (begun-checkpoint salt) (record { right = checkpoint-begun .right; made = record { slots = s; asked = p } })
 
   -- in any store: of the table nothing is asked
   pub checkpoint-ready : (salt : ℕ) → length (w .pager .staged .pages) ≡ stagedLimit → ReadyOf (λ (n : ℕ). false) g (onStore w (beginCheckpoint g w salt .pager))
-  checkpoint-ready salt s = fold-ready salt s (λ n l o i. no-test o)
+  checkpoint-ready salt s = checkpoint-is-ready salt s (λ n l o i. no-test o)
 
   -- in a store that the calls make
   pub checkpoint-made : (salt : ℕ) → Made w → Ready g (onStore w (beginCheckpoint g w salt .pager))
-  checkpoint-made salt m = fold-ready salt (m .slots) (rw (checkpoint-begun .idle) at (m .asked))
+  checkpoint-made salt m = checkpoint-is-ready salt (m .slots) (rw (checkpoint-begun .idle) at (m .asked))
 
--- a fold that is not refused and has something to do is begun
-pub begins : (g : List ℕ) (w : World) → checkpointRefusal g w ≡ none → nothingToFold w ≡ false → checkpointBegins g w ≡ true
+-- a checkpoint that is not refused and has something to do is begun
+pub begins : (g : List ℕ) (w : World) → checkpointRefusal g w ≡ none → nothingToCheckpoint w ≡ false → checkpointBegins g w ≡ true
 begins g w e n = rw (e, n)

@@ -19,7 +19,7 @@ use Rattle.wal.specs.Write.{withFrame, withClock}
 use Rattle.wal.specs.declared.Wal.{Wal}
 use Rattle.pager_state.specs.World.{World, world, logFine, busy, withStaged, withWal, noneStaged}
 use Rattle.pager_state.specs.Overlay.{slotOf}
-use Rattle.pager_state.specs.Staging.{stageRefusal, slotted, stagedAfter, stagePage, clearStaged}
+use Rattle.pager_state.specs.Staging.{stageRefusal, withSlot, stagedAfter, stagePage, clearStaged}
 use Rattle.pager_state.specs.Batches.{batchFrame, appendRefusal, appendBatch, appendAfter}
 use Rattle.pager_state.specs.Queries.{raised, observedBy, observeClock}
 use Rattle.pager_state.specs.declared.Opening.{Opening}
@@ -37,15 +37,15 @@ use Rattle.pager_state.proofs.Begun.{off, not-busy}
 asks-same : (j : Job) (w v : World) → v .table ≡ w .table → v .pager .wal .len ≡ w .pager .wal .len → AsksOf every j w → AsksOf every j v
 asks-same job.Idle w v t l a = rw (t, l) a
 asks-same (job.Commit h salt page answer) w v t l a = (rw (t, l) (a .0), (λ n e. refl, a .1 .1))
-asks-same (job.Fold salt page answer) w v t l a = rw (t, l) a
+asks-same (job.Checkpoint salt page answer) w v t l a = rw (t, l) a
 asks-same (job.MainLength salt answer) w v t l a = rw (t, l) a
 asks-same (job.LogLength salt answer) w v t l a = rw (t, l) a
 asks-same (job.LogHeader salt answer) w v t l a = l ∙ a
 
 -- ---- staging
 
-staged-length : (b : Bool) (s : Staged) (i n : ℕ) → length (pick b (slotted s i n) s .pages) ≡ length (s .pages)
-unfolding slotted
+staged-length : (b : Bool) (s : Staged) (i n : ℕ) → length (pick b (withSlot s i n) s .pages) ≡ length (s .pages)
+unfolding withSlot
 staged-length true s i n = length-set (s .pages) i n
 staged-length false s i n = refl
 

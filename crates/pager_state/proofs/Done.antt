@@ -11,9 +11,9 @@ use Rattle.header.specs.declared.DbHeader.{DbHeader}
 use Rattle.pager_state.specs.World.{World, stagedLimit}
 use Rattle.pager_state.specs.Overlay.{isStaged}
 use Rattle.pager_state.specs.Stores.{diskOf, Act, storedAll}
-use Rattle.pager_state.specs.Pages.{pagesFrom, differs, folds}
-use Rattle.pager_state.specs.Fold.{paged, pagesTodo, foldTodo}
-use Rattle.pager_state.specs.Commit.{framed, sealedWorld, framesTodo, commitTodo}
+use Rattle.pager_state.specs.Pages.{pagesFrom, differs, inCheckpoint}
+use Rattle.pager_state.specs.Checkpoint.{pageStored, pagesTodo, checkpointTodo}
+use Rattle.pager_state.specs.Commit.{pageFrameStored, committedWorld, framesTodo, commitTodo}
 use Rattle.pager_state.specs.Steps.{commitRefusal, beginCommit, checkpointBegins, beginCheckpoint, todo, steps, mostSteps, onStore, commitWorld, checkpointWorld}
 use Rattle.pager_state.specs.declared.Job.{Job}
 use Rattle.pager_state.specs.declared.Job.the-variants as job
@@ -29,30 +29,30 @@ use Rattle.pager_state.proofs.Begun.{commit-inside, commit-ready, check
 length-pages : (salt answer : ℕ) (ns : List ℕ) (w : World) → length (pagesTodo salt answer ns w) ≡ length ns + 4
 unfolding pagesTodo
 length-pages salt answer [] w = refl
-length-pages salt answer (n ∷ ns) w = omega (arith, length-pages salt answer ns (paged salt answer n w))
+length-pages salt answer (n ∷ ns) w = omega (arith, length-pages salt answer ns (pageStored salt answer n w))
 
-fold-length : (j : Job) (w : World) → length (foldTodo j w) ≤ 1028
-unfolding foldTodo
-fold-length job.Idle w = omega arith
-fold-length (job.Commit h salt page answer) w = omega arith
-fold-length (job.Fold salt page answer) w = omega (arith, length-pages salt answer (pagesFrom (folds w) page) w, pages-length (folds w) page)
-fold-length (job.MainLength salt answer) w = omega arith
-fold-length (job.LogLength salt answer) w = omega arith
-fold-length (job.LogHeader salt answer) w = omega arith
+checkpoint-length : (j : Job) (w : World) → length (checkpointTodo j w) ≤ 1028
+unfolding checkpointTodo
+checkpoint-length job.Idle w = omega arith
+checkpoint-length (job.Commit h salt page answer) w = omega arith
+checkpoint-length (job.Checkpoint salt page answer) w = omega (arith, length-pages salt answer (pagesFrom (inCheckpoint w) page) w, pages-length (inCheckpoint w) page)
+checkpoint-length (job.MainLength salt answer) w = omega arith
+checkpoint-length (job.LogLength salt answer) w = omega arith
+checkpoint-length (job.LogHeader salt answer) w = omega arith
 
 frames-length : (g : List ℕ) (h : DbHeader) (salt answer : ℕ) (ns : List ℕ) (w : World) → length (framesTodo g h salt answer ns w) ≤ length ns + 1029
 unfolding framesTodo
 frames-length g h salt answer [] w =
-    omega (arith, fold-length (sealedWorld h salt answer w .pager .job) (sealedWorld h salt answer w))
-frames-length g h salt answer (n ∷ ns) w = omega (arith, frames-length g h salt answer ns (framed g h salt answer n w))
+    omega (arith, checkpoint-length (committedWorld h salt answer w .pager .job) (committedWorld h salt answer w))
+frames-length g h salt answer (n ∷ ns) w = omega (arith, frames-length g h salt answer ns (pageFrameStored g h salt answer n w))
 
-length-by : (g : List ℕ) (j : Job) (w : World) → length (commitTodo g j w ++ foldTodo j w) ≤ mostSteps
-unfolding commitTodo foldTodo
+length-by : (g : List ℕ) (j : Job) (w : World) → length (commitTodo g j w ++ checkpointTodo j w) ≤ mostSteps
+unfolding commitTodo checkpointTodo
 length-by g job.Idle w = omega arith
 length-by g (job.Commit h salt page answer) w =
     rw (append-nil (framesTodo g h salt answer (pagesFrom (differs g w) page) w))
     (omega (arith, frames-length g h salt answer (pagesFrom (differs g w) page) w, pages-length (differs g w) page))
-length-by g (job.Fold salt page answer) w = omega (arith, length-pages salt answer (pagesFrom (folds w) page) w, pages-length (folds w) page)
+length-by g (job.Checkpoint salt page answer) w = omega (arith, length-pages salt answer (pagesFrom (inCheckpoint w) page) w, pages-length (inCheckpoint w) page)
 length-by g (job.MainLength salt answer) w = omega arith
 length-by g (job.LogLength salt answer) w = omega arith
 length-by g (job.LogHeader salt answer) w = omega arith
@@ -71,13 +71,13 @@ unfolding framesTodo
 frames-some g h salt answer [] w = omega arith
 frames-some g h salt answer (n ∷ ns) w = omega arith
 
-none-by : (g : List ℕ) (j : Job) (w : World) → length (commitTodo g j w ++ foldTodo j w) ≡ 0 → j ≡ job.Idle
-unfolding commitTodo foldTodo
+none-by : (g : List ℕ) (j : Job) (w : World) → length (commitTodo g j w ++ checkpointTodo j w) ≡ 0 → j ≡ job.Idle
+unfolding commitTodo checkpointTodo
 none-by g job.Idle w e = refl
 none-by g (job.Commit h salt page answer) w e =
     let z : length (framesTodo g h salt answer (pagesFrom (differs g w) page) w) ≡ 0 = rw (append-nil (framesTodo g h salt answer (pagesFrom (differs g w) page) w)) at e in
     absurd (omega (arith, frames-some g h salt answer (pagesFrom (differs g w) page) w))
-none-by g (job.Fold salt page answer) w e = absurd (omega (arith, pages-some salt answer (pagesFrom (folds w) page) w))
+none-by g (job.Checkpoint salt page answer) w e = absurd (omega (arith, pages-some salt answer (pagesFrom (inCheckpoint w) page) w))
 none-by g (job.MainLength salt answer) w e = absurd (omega arith)
 none-by g (job.LogLength salt answer) w e = absurd (omega arith)
 none-by g (job.LogHeader salt answer) w e = absurd (omega arith)
@@ -128,8 +128,8 @@ module _ (g : List ℕ) (w : World) (h : DbHeader) (salt : ℕ) (e : commitRefus
   commit-done s = commit-ended (commit-ready g w h e salt s)
 
 module _ (g : List ℕ) (w : World) (salt : ℕ) (e : checkpointBegins g w ≡ true) where
-  fold-disk : diskOf (onStore w (beginCheckpoint g w salt .pager)) ≡ diskOf w
-  fold-disk = rw (begun-checkpoint g w e salt)
+  checkpoint-disk : diskOf (onStore w (beginCheckpoint g w salt .pager)) ≡ diskOf w
+  checkpoint-disk = rw (begun-checkpoint g w e salt)
 
   pub checkpoint-done : length (w .pager .staged .pages) ≡ stagedLimit
       → Rests (λ (n : ℕ). false) g (todo g (onStore w (beginCheckpoint g w salt .pager))) w (checkpointWorld g w salt)
@@ -137,4 +137,4 @@ module _ (g : List ℕ) (w : World) (salt : ℕ) (e : checkpointBegins g w ≡ t
   checkpoint-done s =
       let d = all-done g (onStore w (beginCheckpoint g w salt .pager)) (checkpoint-ready g w e salt s) (checkpoint-inside g w e salt) in
       let x : checkpointWorld g w salt ≡ steps g mostSteps (onStore w (beginCheckpoint g w salt .pager)) = rw e in
-      rw x (record { idle = d .idle; disk = d .disk ∙ ap (storedAll (todo g (onStore w (beginCheckpoint g w salt .pager)))) fold-disk; ready = d .ready })
+      rw x (record { idle = d .idle; disk = d .disk ∙ ap (storedAll (todo g (onStore w (beginCheckpoint g w salt .pager)))) checkpoint-disk; ready = d .ready })

@@ -11,9 +11,9 @@ use Rattle.header.specs.declared.DbHeader.{DbHeader}
 use Rattle.wal.specs.Write.{withFrame}
 use Rattle.pager_state.specs.World.{World, pageLimit, countOf}
 use Rattle.pager_state.specs.Stores.{Act, inside}
-use Rattle.pager_state.specs.Pages.{pagesFrom, differs, folds}
-use Rattle.pager_state.specs.Fold.{paged, headed, lengthened, emptied, folded, pagesAdvance, foldAdvance}
-use Rattle.pager_state.specs.Commit.{framed, sealedPager, sealedWorld, framesAdvance, commitAdvance}
+use Rattle.pager_state.specs.Pages.{pagesFrom, differs, inCheckpoint}
+use Rattle.pager_state.specs.Checkpoint.{pageStored, mainHeaderStored, mainLengthStored, logLengthStored, checkpointed, pagesAdvance, checkpointAdvance}
+use Rattle.pager_state.specs.Commit.{checkpointFrames, pageFrameStored, committedPager, committedWorld, framesAdvance, commitAdvance}
 use Rattle.pager_state.specs.Steps.{todo, advance, done, stepFine, stepped, steps, mostSteps}
 use Rattle.pager_state.specs.declared.Job.{Job}
 use Rattle.pager_state.specs.declared.Job.the-variants as job
@@ -25,7 +25,7 @@ use Rattle.pager_state.proofs.Runs.{steps-still}
 abbrev pub rank : Job → ℕ
 rank job.Idle = 0
 rank (job.Commit h salt page answer) = 1029 + (pageLimit - page)
-rank (job.Fold salt page answer) = 4 + (pageLimit - page)
+rank (job.Checkpoint salt page answer) = 4 + (pageLimit - page)
 rank (job.MainLength salt answer) = 3
 rank (job.LogLength salt answer) = 2
 rank (job.LogHeader salt answer) = 1
@@ -33,38 +33,38 @@ rank (job.LogHeader salt answer) = 1
 pub rank-most : (j : Job) → rank j ≤ mostSteps
 rank-most job.Idle = omega arith
 rank-most (job.Commit h salt page answer) = omega arith
-rank-most (job.Fold salt page answer) = omega arith
+rank-most (job.Checkpoint salt page answer) = omega arith
 rank-most (job.MainLength salt answer) = omega arith
 rank-most (job.LogLength salt answer) = omega arith
 rank-most (job.LogHeader salt answer) = omega arith
 
 -- ---- a store lowers the rank
 
-rank-seal : (salt answer page : ℕ) (b : Bool) → rank (pick b (job.Fold salt 0 answer) job.Idle) < 1029 + (pageLimit - page)
-rank-seal salt answer page true = omega arith
-rank-seal salt answer page false = omega arith
+rank-commit-frame : (salt answer page : ℕ) (b : Bool) → rank (pick b (job.Checkpoint salt 0 answer) job.Idle) < 1029 + (pageLimit - page)
+rank-commit-frame salt answer page true = omega arith
+rank-commit-frame salt answer page false = omega arith
 
 rank-commit : (g : List ℕ) (h : DbHeader) (salt page answer : ℕ) (w : World) (l : List ℕ) → pagesFrom (differs g w) page ≡ l
     → rank (framesAdvance g h salt answer l w .pager .job) < 1029 + (pageLimit - page)
-unfolding framed sealedWorld sealedPager
-rank-commit g h salt page answer w [] e = rank-seal salt answer page (leb 100 (withFrame (w .pager .wal) (countOf h) .«frame_count»))
+unfolding pageFrameStored committedWorld committedPager
+rank-commit g h salt page answer w [] e = rank-commit-frame salt answer page (leb checkpointFrames (withFrame (w .pager .wal) (countOf h) .«frame_count»))
 rank-commit g h salt page answer w (n ∷ ns) e = let r = first (differs g w) page n ns e in omega (arith, r .from, r .below)
 
-rank-fold : (salt page answer : ℕ) (w : World) (l : List ℕ) → pagesFrom (folds w) page ≡ l
+rank-checkpoint : (salt page answer : ℕ) (w : World) (l : List ℕ) → pagesFrom (inCheckpoint w) page ≡ l
     → rank (pagesAdvance salt answer l w .pager .job) < 4 + (pageLimit - page)
-unfolding paged headed
-rank-fold salt page answer w [] e = omega arith
-rank-fold salt page answer w (n ∷ ns) e = let r = first (folds w) page n ns e in omega (arith, r .from, r .below)
+unfolding pageStored mainHeaderStored
+rank-checkpoint salt page answer w [] e = omega arith
+rank-checkpoint salt page answer w (n ∷ ns) e = let r = first (inCheckpoint w) page n ns e in omega (arith, r .from, r .below)
 
 -- a step changes nothing, or lowers the rank
 abbrev Moves : Job → World → World → Type 0
 Moves j w v = (v ≡ w) ⊎ (rank (v .pager .job) < rank j)
 
-lower : (g : List ℕ) (j : Job) (w : World) → Moves j w (foldAdvance j (commitAdvance g j w))
-unfolding commitAdvance foldAdvance lengthened emptied folded
+lower : (g : List ℕ) (j : Job) (w : World) → Moves j w (checkpointAdvance j (commitAdvance g j w))
+unfolding commitAdvance checkpointAdvance mainLengthStored logLengthStored checkpointed
 lower g job.Idle w = inl refl
 lower g (job.Commit h salt page answer) w = inr (rank-commit g h salt page answer w (pagesFrom (differs g w) page) refl)
-lower g (job.Fold salt page answer) w = inr (rank-fold salt page answer w (pagesFrom (folds w) page) refl)
+lower g (job.Checkpoint salt page answer) w = inr (rank-checkpoint salt page answer w (pagesFrom (inCheckpoint w) page) refl)
 lower g (job.MainLength salt answer) w = inr (omega arith)
 lower g (job.LogLength salt answer) w = inr (omega arith)
 lower g (job.LogHeader salt answer) w = inr (omega arith)

@@ -1,4 +1,4 @@
--- Laws of the page table: what entering a frame and folding leave, and the bytes of another page after a frame. Assumes nothing.
+-- Laws of the page table: what entering a frame and checkpointing leave, and the bytes of another page after a frame. Assumes nothing.
 use mathlib.Core.Path.{_≡_, refl, sym, ap, _∙_}
 use mathlib.Core.Bool.{Bool, true, false}
 use mathlib.Core.List.{List, [], _∷_}
@@ -15,8 +15,8 @@ use Rattle.le.proofs.Compare.{no-test}
 use Rattle.le.proofs.Stores.{take-put}
 use Rattle.pager_state.specs.World.{World, pageLimit}
 use Rattle.pager_state.specs.Overlay.{frameOf, inLog, onMain, entry, logBytes, committedIn, committedBytes}
-use Rattle.pager_state.specs.Fold.{foldedFrom}
-use Rattle.pager_state.specs.Commit.{entered}
+use Rattle.pager_state.specs.Checkpoint.{checkpointedFrom}
+use Rattle.pager_state.specs.Commit.{withEntry}
 
 -- ---- entering a frame
 
@@ -56,19 +56,19 @@ flag-back at false =
     rw e
 
 -- the page's own
-pub frame-own : (t : List ℕ) (q at : ℕ) → q < length t → frameOf (entered t q at) q ≡ at
+pub frame-own : (t : List ℕ) (q at : ℕ) → q < length t → frameOf (withEntry t q at) q ≡ at
 unfolding frameOf
 frame-own t q at h =
-    let e : getD (entered t q at) q 0 ≡ entry at (onMain t q) = getD-set-same t q (entry at (onMain t q)) 0 h in
+    let e : getD (withEntry t q at) q 0 ≡ entry at (onMain t q) = getD-set-same t q (entry at (onMain t q)) 0 h in
     rw e (omega (arith, flag-small (onMain t q)))
 
-pub main-own : (t : List ℕ) (q at : ℕ) → q < length t → onMain (entered t q at) q ≡ onMain t q
+pub main-own : (t : List ℕ) (q at : ℕ) → q < length t → onMain (withEntry t q at) q ≡ onMain t q
 unfolding onMain
 main-own t q at h =
-    let e : getD (entered t q at) q 0 ≡ entry at (onMain t q) = getD-set-same t q (entry at (onMain t q)) 0 h in
+    let e : getD (withEntry t q at) q 0 ≡ entry at (onMain t q) = getD-set-same t q (entry at (onMain t q)) 0 h in
     rw e (flag-back at (onMain t q))
 
-pub length-entered : (t : List ℕ) (q at : ℕ) → length (entered t q at) ≡ length t
+pub length-entered : (t : List ℕ) (q at : ℕ) → length (withEntry t q at) ≡ length t
 length-entered t q at = length-set t q (entry at (onMain t q))
 
 -- the frames that the table names for the pages that P names lie below `at`
@@ -77,17 +77,17 @@ Below P t at = (n : ℕ) → n < pageLimit → P n ≡ true → inLog t n ≡ tr
 
 -- .. and with one entered there, below its end
 module _ (P : ℕ → Bool) (t : List ℕ) (q at : ℕ) (l : q < length t) (b : Below P t at) where
-  below-at : (n : ℕ) → n < pageLimit → P n ≡ true → inLog (entered t q at) n ≡ true → (s : Bool) → eqb n q ≡ s
-      → frameOf (entered t q at) n + 4112 ≤ at + 4112
+  below-at : (n : ℕ) → n < pageLimit → P n ≡ true → inLog (withEntry t q at) n ≡ true → (s : Bool) → eqb n q ≡ s
+      → frameOf (withEntry t q at) n + 4112 ≤ at + 4112
   below-at n h o i true s =
-      let e : frameOf (entered t q at) n ≡ at = rw (eqb-true n q s) (frame-own t q at l) in
+      let e : frameOf (withEntry t q at) n ≡ at = rw (eqb-true n q s) (frame-own t q at l) in
       omega arith
   below-at n h o i false s =
       let d = eqb-false n q s in
       let y : frameOf t n + 4112 ≤ at = b n h o (sym (log-other t q (entry at (onMain t q)) n d) ∙ i) in
       omega (arith, frame-other t q (entry at (onMain t q)) n d)
 
-  pub below-entered : Below P (entered t q at) (at + 4112)
+  pub below-entered : Below P (withEntry t q at) (at + 4112)
   below-entered n h o i = below-at n h o i (eqb n q) refl
 
 -- ---- the bytes of another page after a frame
@@ -108,7 +108,7 @@ module _ (v w : World) (q x at : ℕ) (bs : List ℕ) (t : v .table ≡ set (w .
   pub bytes-other : committedBytes v n ≡ committedBytes w n
   bytes-other = bytes-at (inLog (w .table) n) refl
 
--- ---- folding
+-- ---- checkpointing
 
 entry-small : (count n x : ℕ) (a b c : Bool) → pick a 0 (pick b 0 (pick c 0 1)) ≤ 1
 entry-small count n x true b c = omega arith
@@ -116,23 +116,23 @@ entry-small count n x false true c = omega arith
 entry-small count n x false false true = omega arith
 entry-small count n x false false false = omega arith
 
-folded-small : (count k : ℕ) (t : List ℕ) (n : ℕ) → getD (foldedFrom count k t) n 0 ≤ 1
-unfolding foldedFrom
-folded-small count k [] n = omega arith
-folded-small count k (x ∷ xs) zero = entry-small count k x (eqb k 0) (leb count k) (eqb x 0)
-folded-small count k (x ∷ xs) (suc n) = folded-small count (suc k) xs n
+checkpointed-small : (count k : ℕ) (t : List ℕ) (n : ℕ) → getD (checkpointedFrom count k t) n 0 ≤ 1
+unfolding checkpointedFrom
+checkpointed-small count k [] n = omega arith
+checkpointed-small count k (x ∷ xs) zero = entry-small count k x (eqb k 0) (leb count k) (eqb x 0)
+checkpointed-small count k (x ∷ xs) (suc n) = checkpointed-small count (suc k) xs n
 
 -- no page is in the log then
-pub folded-none : (count k : ℕ) (t : List ℕ) (n : ℕ) → inLog (foldedFrom count k t) n ≡ false
+pub checkpointed-none : (count k : ℕ) (t : List ℕ) (n : ℕ) → inLog (checkpointedFrom count k t) n ≡ false
 unfolding inLog frameOf
-folded-none count k t n =
-    let e : getD (foldedFrom count k t) n 0 / 2 ≡ 0 = omega (arith, folded-small count k t n) in
+checkpointed-none count k t n =
+    let e : getD (checkpointedFrom count k t) n 0 / 2 ≡ 0 = omega (arith, checkpointed-small count k t n) in
     rw e
 
-pub folded-below : (P : ℕ → Bool) (count k : ℕ) (t : List ℕ) (at : ℕ) → Below P (foldedFrom count k t) at
-folded-below P count k t at n h o i = no-test (sym (folded-none count k t n) ∙ i)
+pub checkpointed-below : (P : ℕ → Bool) (count k : ℕ) (t : List ℕ) (at : ℕ) → Below P (checkpointedFrom count k t) at
+checkpointed-below P count k t at n h o i = no-test (sym (checkpointed-none count k t n) ∙ i)
 
-pub length-folded : (count k : ℕ) (t : List ℕ) → length (foldedFrom count k t) ≡ length t
-unfolding foldedFrom
-length-folded count k [] = refl
-length-folded count k (x ∷ xs) = ap suc (length-folded count (suc k) xs)
+pub length-checkpointed : (count k : ℕ) (t : List ℕ) → length (checkpointedFrom count k t) ≡ length t
+unfolding checkpointedFrom
+length-checkpointed count k [] = refl
+length-checkpointed count k (x ∷ xs) = ap suc (length-checkpointed count (suc k) xs)

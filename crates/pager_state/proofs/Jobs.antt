@@ -17,7 +17,7 @@ busyKinds = 1 ∷ 2 ∷ 3 ∷ 4 ∷ 5 ∷ []
 pub not-idle : (j : Job) → OneOf busyKinds (tagOf the-type j) → true ≡ busyWith j
 not-idle job.Idle k = absurd (miss busyKinds 0 tt k)
 not-idle (job.Commit h salt page answer) k = refl
-not-idle (job.Fold salt page answer) k = refl
+not-idle (job.Checkpoint salt page answer) k = refl
 not-idle (job.MainLength salt answer) k = refl
 not-idle (job.LogLength salt answer) k = refl
 not-idle (job.LogHeader salt answer) k = refl

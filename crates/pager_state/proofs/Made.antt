@@ -68,11 +68,11 @@ PlacedOf P w = (n : ℕ) → n < pageLimit → P n ≡ true → inLog (w .table)
 abbrev pub Names : (ℕ → Bool) → World → Type 0
 Names P w = (n : ℕ) → isStaged (w .pager .staged) n ≡ true → P n ≡ true
 
--- by the job: a commit's header can count; before a fold's last store the log is emptied and the table's places are void
+-- by the job: a commit's header can count; before a checkpoint's last store the log is emptied and the table's places are void
 abbrev pub AsksOf : (ℕ → Bool) → Job → World → Type 0
 AsksOf P job.Idle w = PlacedOf P w
 AsksOf P (job.Commit h salt page answer) w = PlacedOf P w × (Names P w × (countOf h ≤ pageLimit))
-AsksOf P (job.Fold salt page answer) w = PlacedOf P w
+AsksOf P (job.Checkpoint salt page answer) w = PlacedOf P w
 AsksOf P (job.MainLength salt answer) w = PlacedOf P w
 AsksOf P (job.LogLength salt answer) w = PlacedOf P w
 AsksOf P (job.LogHeader salt answer) w = w .pager .wal .len ≡ headerSize

@@ -20,11 +20,11 @@ use Rattle.wal.specs.Write.{emptyWal, createdHeader}
 use Rattle.wal.specs.declared.Wal.{Wal}
 use Rattle.wal.specs.declared.WalHeaderDecoded.{WalHeaderDecoded}
 use Rattle.wal.specs.declared.WalHeaderDecoded.the-variants as log
-use Rattle.wal.proofs.Frames.{sealed-most}
+use Rattle.wal.proofs.Frames.{committed-most}
 use Rattle.wal.proofs.Opening.{frameCount-most}
 use Rattle.pager_state.specs.World.{world, pageLimit, countOf}
 use Rattle.pager_state.specs.Overlay.{frameOf, inLog, entry}
-use Rattle.pager_state.specs.Opening.{tabulate, placeFrom, hasPage, tableOf, emptyStaged, opensAs, firstHeader, createdPager, How, Found, keptOf, foundIn, foundFresh, foundBy, writes, mainHeader, judgedMain, isLong, judgedLog, judgedZero, headerBy, openingOf, openedAs, judged, openFine, openPager, openTable}
+use Rattle.pager_state.specs.Opening.{tabulate, placeFrom, hasPage, tableOf, emptyStaged, opensAs, firstHeader, createdPager, How, Found, keptOf, foundIn, foundFresh, foundBy, writes, mainHeader, judgedMain, isLong, judgedLog, judgedZero, headerBy, openingOf, openedStore, judged, openFine, openPager, openTable}
 use Rattle.pager_state.specs.Stores.{File, Disk, content}
 use Rattle.pager_state.specs.declared.Job.the-variants as job
 use Rattle.pager_state.specs.declared.Opening.{Opening}
@@ -107,7 +107,7 @@ found-in clean l =
     omega (
       arith,
       wal-len (length (keptOf clean l)) (recovered (keptOf clean l)),
-      sealed-most (recovered (keptOf clean l) .frames),
+      committed-most (recovered (keptOf clean l) .frames),
       frameCount-most (keptOf clean l),
     )
 
@@ -153,10 +153,10 @@ module _ (P : Pager → Type 0) where
   if-judged : (how : How) (d : Disk) (mh : DbHeader)
       → ((h : DbHeader) → P (opensAs h mh (d .main .len) (foundBy how (d .log) .log) (chunkAt (length (foundBy how (d .log) .frames))) (openingOf how)))
       → IfOpened (judged how d mh)
-  unfolding judged openedAs
+  unfolding judged openedStore
   if-judged how d mh k =
-      let n : IfOpened (judgedZero (headerBy mh (foundBy how (d .log))) (openedAs how d mh (foundBy how (d .log)))) =
-      if-zero (headerBy mh (foundBy how (d .log))) (openedAs how d mh (foundBy how (d .log)))
+      let n : IfOpened (judgedZero (headerBy mh (foundBy how (d .log))) (openedStore how d mh (foundBy how (d .log)))) =
+      if-zero (headerBy mh (foundBy how (d .log))) (openedStore how d mh (foundBy how (d .log)))
       (λ h. if-pick (leb (countOf h) pageLimit) _ (opened.Refused refusal.Limit)
       (if-pick (both (how .clean) (pick (writes (how .access)) false true)) (opened.Refused refusal.ReadOnly)
       (opened.Opened (opensAs h mh (d .main .len) (foundBy how (d .log) .log) (chunkAt (length (foundBy how (d .log) .frames))) (openingOf how))) tt (k h)) tt) in

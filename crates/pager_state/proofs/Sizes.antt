@@ -1,4 +1,4 @@
--- Lengths: what is staged for a page, its frame, a seal, the log once a frame or none stands in it. Assumes nothing.
+-- Lengths: what is staged for a page, its frame, a commit frame, the log once a frame or none stands in it. Assumes nothing.
 use mathlib.Core.Path.{_≡_, refl, sym}
 use mathlib.Core.Bool.{Bool, true, false}
 use mathlib.Core.List.{List}
@@ -82,8 +82,8 @@ pub frame-most : (page count salt : ℕ) (body : List ℕ) → length body ≤ 4
 unfolding encodeFrame
 frame-most page count salt body h = simp (length-append, length-leBytes, length-heading) (omega arith)
 
-pub seal-size : (h : DbHeader) (count salt : ℕ) → length (encodeFrame 0 count salt (encodeHeader h)) ≡ 4112
-seal-size h count salt = length-encodeFrame 0 count salt (encodeHeader h) (length-encodeHeader h)
+pub commit-frame-size : (h : DbHeader) (count salt : ℕ) → length (encodeFrame 0 count salt (encodeHeader h)) ≡ 4112
+commit-frame-size h count salt = length-encodeFrame 0 count salt (encodeHeader h) (length-encodeHeader h)
 
 -- ---- the log's numbers
 

@@ -9,16 +9,16 @@ use Rattle.le.proofs.Compare.{both-true}
 use Rattle.pager_state.specs.World.{World, stagingArea}
 use Rattle.pager_state.specs.Overlay.{isStaged}
 use Rattle.pager_state.specs.Stores.{diskOf, Act, stored, inside}
-use Rattle.pager_state.specs.Pages.{pagesFrom, differsIn, differs, folds}
-use Rattle.pager_state.specs.Fold.{isEmpty, foldTodo}
+use Rattle.pager_state.specs.Pages.{pagesFrom, differsIn, differs, inCheckpoint}
+use Rattle.pager_state.specs.Checkpoint.{isEmpty, checkpointTodo}
 use Rattle.pager_state.specs.Commit.{commitTodo}
 use Rattle.pager_state.specs.Steps.{todo, advance, answerOf, done, stepFine, stepped}
 use Rattle.pager_state.specs.declared.Job.{Job}
 use Rattle.pager_state.specs.declared.Job.the-variants as job
 use Rattle.pager_state.proofs.Stored.{stored-areas}
-use Rattle.pager_state.proofs.Next.{todo-by, Next, Frame, Seal, Page, MainHeader, MainLength, LogLength, LogHeader, next}
+use Rattle.pager_state.proofs.Next.{todo-by, Next, Frame, CommitLast, Page, MainHeader, MainLength, LogLength, LogHeader, next}
 use Rattle.pager_state.proofs.Made.{Fine, AsksOf, MadeOf, ReadyOf, ready-fine, fine-ready}
-use Rattle.pager_state.proofs.Advance.{After, after-framed, after-sealed, after-paged, after-headed, after-lengthened, after-emptied, after-folded}
+use Rattle.pager_state.proofs.Advance.{After, after-framed, after-committed, after-paged, after-headed, after-lengthened, after-emptied, after-checkpointed}
 
 -- a page that differs is staged
 pub differs-staged : (g : List ℕ) (w : World) (n : ℕ) → differs g w n ≡ true → isStaged (w .pager .staged) n ≡ true
@@ -35,19 +35,19 @@ module _ {P : ℕ → Bool} (g : List ℕ) (w : World) (a : Act) (rest : List Ac
   after-next (Frame h salt page answer n j r x y z) =
       let p = asked-by (job.Commit h salt page answer) j in
       rw (x, y, z) (after-framed g h salt answer w n f k m (p .0) (p .1 .0) (p .1 .1) (differs-staged g w n (r .holds)) (r .below) (ap answerOf j))
-  after-next (Seal h salt page answer j r x y z) =
+  after-next (CommitLast h salt page answer j r x y z) =
       let p = asked-by (job.Commit h salt page answer) j in
-      rw (x, y, z) (after-sealed g h salt answer w f m (p .0) (p .1 .1) (ap answerOf j))
+      rw (x, y, z) (after-committed g h salt answer w f m (p .0) (p .1 .1) (ap answerOf j))
   after-next (Page salt page answer n j r x y z) =
       rw (x, y, z)
-      (after-paged g salt answer w f m (ap answerOf j) (asked-by (job.Fold salt page answer) j) n (isEmpty (pagesFrom (folds w) (suc n))))
+      (after-paged g salt answer w f m (ap answerOf j) (asked-by (job.Checkpoint salt page answer) j) n (isEmpty (pagesFrom (inCheckpoint w) (suc n))))
   after-next (MainHeader salt page answer j r x y z) =
-      rw (x, y, z) (after-headed g salt answer w f m (ap answerOf j) (asked-by (job.Fold salt page answer) j))
+      rw (x, y, z) (after-headed g salt answer w f m (ap answerOf j) (asked-by (job.Checkpoint salt page answer) j))
   after-next (MainLength salt answer j x y z) =
       rw (x, y, z) (after-lengthened g salt answer w f m (ap answerOf j) (asked-by (job.MainLength salt answer) j))
   after-next (LogLength salt answer j x y z) = rw (x, y, z) (after-emptied g salt answer w f m (ap answerOf j))
   after-next (LogHeader salt answer j x y z) =
-      rw (x, y, z) (after-folded g salt answer w f m (ap answerOf j) (asked-by (job.LogHeader salt answer) j))
+      rw (x, y, z) (after-checkpointed g salt answer w f m (ap answerOf j) (asked-by (job.LogHeader salt answer) j))
 
 -- ---- a step that is done
 
@@ -104,7 +104,7 @@ module _ (g : List ℕ) (w : World) where
 
   -- nothing is under way
   pub idle-todo : w .pager .job ≡ job.Idle → todo g w ≡ []
-  unfolding commitTodo foldTodo
+  unfolding commitTodo checkpointTodo
   idle-todo e = todo-by g w job.Idle e
 
   pub idle-step : w .pager .job ≡ job.Idle → stepped g w ≡ w

@@ -51,9 +51,9 @@ appendAfter p l body = pick (accepts (appendRefusal p l body)) (put l (p .wal .l
 
 -- ---- the batches that the opening found, "in log order"
 
-abbrev pub recoveredAs : BatchFound → RecoveredFound
-recoveredAs (batch.Batch i at) = found.Batch i at
-recoveredAs batch.Nothing = found.Nothing
+abbrev pub recoveredBatch : BatchFound → RecoveredFound
+recoveredBatch (batch.Batch i at) = found.Batch i at
+recoveredBatch batch.Nothing = found.Nothing
 
 -- refusals 1 and 9
 unfoldable pub recoveredRefusal : Pager → List ℕ → Option Refusal
@@ -61,4 +61,4 @@ recoveredRefusal p l = unless (logFine (p .wal .len) l) refusal.Area (busyRefusa
 
 -- the first at a frame's index or behind it
 unfoldable pub nextRecovered : Pager → List ℕ → ℕ → RecoveredFound
-nextRecovered p l i = answered found.Refused (recoveredAs (nextBatch l (p .recovered) i)) (recoveredRefusal p l)
+nextRecovered p l i = answered found.Refused (recoveredBatch (nextBatch l (p .recovered) i)) (recoveredRefusal p l)

@@ -1,5 +1,5 @@
 -- The stores of a commit, each in the world that those before it leave: the differing pages, "ascending, then page 0 as seal, flush", and
--- the fold that it brings on. g is the staging area.
+-- the checkpoint that it brings on. g is the staging area.
 use mathlib.Core.Bool.{Bool, true, false}
 use mathlib.Core.List.{List, [], _∷_}
 use Prim.Native.Nat.{ℕ, suc}
@@ -13,9 +13,9 @@ use Rattle.wal.specs.Write.{withFrame}
 use Rattle.wal.specs.declared.Wal.{Wal}
 use Rattle.pager_state.specs.World.{World, countOf, withJob, withWal, noneStaged}
 use Rattle.pager_state.specs.Overlay.{stagedBytes, onMain, entry}
-use Rattle.pager_state.specs.Stores.{diskOf, Act, Put, Sealed, Other, stored}
+use Rattle.pager_state.specs.Stores.{diskOf, Act, Put, CommitFrame, Other, stored}
 use Rattle.pager_state.specs.Pages.{pagesFrom, differs}
-use Rattle.pager_state.specs.Fold.{foldTodo, foldAdvance}
+use Rattle.pager_state.specs.Checkpoint.{checkpointTodo, checkpointAdvance}
 use Rattle.pager_state.specs.declared.FileKind.the-variants as file
 use Rattle.pager_state.specs.declared.Job.{Job}
 use Rattle.pager_state.specs.declared.Job.the-variants as job
@@ -25,35 +25,38 @@ abbrev pub saltOf : World → ℕ
 saltOf w = w .pager .wal .header .salt
 
 -- the table once page n's frame stands at `at`
-abbrev pub entered : List ℕ → ℕ → ℕ → List ℕ
-entered t n at = set t n (entry at (onMain t n))
+abbrev pub withEntry : List ℕ → ℕ → ℕ → List ℕ
+withEntry t n at = set t n (entry at (onMain t n))
 
 -- ---- a page's frame
 
 abbrev pub frameAct : List ℕ → World → ℕ → Act
 frameAct g w n = Put Other file.Log (w .pager .wal .len) (encodeFrame n 0 (saltOf w) (stagedBytes (w .pager .staged) g n)) false
 
-unfoldable pub framed : List ℕ → DbHeader → ℕ → ℕ → ℕ → World → World
-framed g h salt answer n w =
+unfoldable pub pageFrameStored : List ℕ → DbHeader → ℕ → ℕ → ℕ → World → World
+pageFrameStored g h salt answer n w =
     record {
       pager = withJob (withWal (w .pager) (withFrame (w .pager .wal) 0)) (job.Commit h salt (suc n) answer);
-      table = entered (w .table) n (w .pager .wal .len);
+      table = withEntry (w .table) n (w .pager .wal .len);
       log = stored (frameAct g w n) (diskOf w) .log .area;
       main = w .main;
     }
 
 -- ---- "page 0 as seal"
 
-abbrev pub sealAct : DbHeader → World → Act
-sealAct h w = Put Sealed file.Log (w .pager .wal .len) (encodeFrame 0 (countOf h) (saltOf w) (encodeHeader h)) true
+abbrev pub commitFrameAct : DbHeader → World → Act
+commitFrameAct h w = Put CommitFrame file.Log (w .pager .wal .len) (encodeFrame 0 (countOf h) (saltOf w) (encodeHeader h)) true
 
 -- "At 100 frames or more it then folds"
-abbrev pub jobAfter : Wal → ℕ → ℕ → Job
-jobAfter v salt answer = pick (leb 100 (v .«frame_count»)) (job.Fold salt 0 answer) job.Idle
+abbrev pub checkpointFrames : ℕ
+checkpointFrames = 100
 
--- the store once the seal stands: the new header counts, "the staging is emptied"; v is the log then
-abbrev pub sealedWith : DbHeader → ℕ → ℕ → Wal → Pager → Pager
-sealedWith h salt answer v p =
+abbrev pub jobAfter : Wal → ℕ → ℕ → Job
+jobAfter v salt answer = pick (leb checkpointFrames (v .«frame_count»)) (job.Checkpoint salt 0 answer) job.Idle
+
+-- the store once the commit frame stands: the new header counts, "the staging is emptied"; v is the log then
+abbrev pub committedWith : DbHeader → ℕ → ℕ → Wal → Pager → Pager
+committedWith h salt answer v p =
     record {
       «current_header» = h;
       wal = v;
@@ -64,15 +67,15 @@ sealedWith h salt answer v p =
       opening = p .opening;
     }
 
-unfoldable pub sealedPager : DbHeader → ℕ → ℕ → Pager → Pager
-sealedPager h salt answer p = sealedWith h salt answer (withFrame (p .wal) (countOf h)) p
+unfoldable pub committedPager : DbHeader → ℕ → ℕ → Pager → Pager
+committedPager h salt answer p = committedWith h salt answer (withFrame (p .wal) (countOf h)) p
 
-unfoldable pub sealedWorld : DbHeader → ℕ → ℕ → World → World
-sealedWorld h salt answer w =
+unfoldable pub committedWorld : DbHeader → ℕ → ℕ → World → World
+committedWorld h salt answer w =
     record {
-      pager = sealedPager h salt answer (w .pager);
-      table = entered (w .table) 0 (w .pager .wal .len);
-      log = stored (sealAct h w) (diskOf w) .log .area;
+      pager = committedPager h salt answer (w .pager);
+      table = withEntry (w .table) 0 (w .pager .wal .len);
+      log = stored (commitFrameAct h w) (diskOf w) .log .area;
       main = w .main;
     }
 
@@ -81,19 +84,19 @@ sealedWorld h salt answer w =
 -- "The fold that a commit brings on belongs to the commit's stores"
 unfoldable pub framesTodo : List ℕ → DbHeader → ℕ → ℕ → List ℕ → World → List Act
 framesTodo g h salt answer [] w =
-    let v = sealedWorld h salt answer w in
-    sealAct h w ∷ foldTodo (v .pager .job) v
-framesTodo g h salt answer (n ∷ ns) w = frameAct g w n ∷ framesTodo g h salt answer ns (framed g h salt answer n w)
+    let v = committedWorld h salt answer w in
+    commitFrameAct h w ∷ checkpointTodo (v .pager .job) v
+framesTodo g h salt answer (n ∷ ns) w = frameAct g w n ∷ framesTodo g h salt answer ns (pageFrameStored g h salt answer n w)
 
 abbrev pub framesAdvance : List ℕ → DbHeader → ℕ → ℕ → List ℕ → World → World
-framesAdvance g h salt answer [] w = sealedWorld h salt answer w
-framesAdvance g h salt answer (n ∷ ns) w = framed g h salt answer n w
+framesAdvance g h salt answer [] w = committedWorld h salt answer w
+framesAdvance g h salt answer (n ∷ ns) w = pageFrameStored g h salt answer n w
 
 -- of a commit that is part done; none of another job
 unfoldable pub commitTodo : List ℕ → Job → World → List Act
 commitTodo g job.Idle w = []
 commitTodo g (job.Commit h salt page answer) w = framesTodo g h salt answer (pagesFrom (differs g w) page) w
-commitTodo g (job.Fold salt page answer) w = []
+commitTodo g (job.Checkpoint salt page answer) w = []
 commitTodo g (job.MainLength salt answer) w = []
 commitTodo g (job.LogLength salt answer) w = []
 commitTodo g (job.LogHeader salt answer) w = []
@@ -101,7 +104,7 @@ commitTodo g (job.LogHeader salt answer) w = []
 unfoldable pub commitAdvance : List ℕ → Job → World → World
 commitAdvance g job.Idle w = w
 commitAdvance g (job.Commit h salt page answer) w = framesAdvance g h salt answer (pagesFrom (differs g w) page) w
-commitAdvance g (job.Fold salt page answer) w = w
+commitAdvance g (job.Checkpoint salt page answer) w = w
 commitAdvance g (job.MainLength salt answer) w = w
 commitAdvance g (job.LogLength salt answer) w = w
 commitAdvance g (job.LogHeader salt answer) w = w

@@ -8,6 +8,6 @@ pub mod Stores
 pub mod Opened
 pub mod Opening
 pub mod Pages
-pub mod Fold
+pub mod Checkpoint
 pub mod Commit
 pub mod Steps

@@ -16,7 +16,7 @@ use Rattle.header.specs.declared.HeaderDecoded.{HeaderDecoded}
 use Rattle.header.specs.declared.HeaderDecoded.the-variants as main
 use Rattle.frame.specs.Frame.{bodyOf}
 use Rattle.wal.specs.Header.{headerSize, encodeWalHeader, decodeWalHeader}
-use Rattle.wal.specs.Recovery.{chunkAt, pageOf, pageIn, recovered, sealedFrames, commitPoint, lastCommit, walOf}
+use Rattle.wal.specs.Recovery.{chunkAt, pageOf, pageIn, recovered, committedFrames, commitPoint, lastCommit, walOf}
 use Rattle.wal.specs.Write.{emptyWal, createdHeader}
 use Rattle.wal.specs.declared.WalHeaderDecoded.{WalHeaderDecoded}
 use Rattle.wal.specs.declared.WalHeaderDecoded.the-variants as log
@@ -59,7 +59,7 @@ placeFrom n i (f ∷ fs) =
 abbrev pub hasPage : DbHeader → ℕ → Bool
 hasPage h n = both (leb 1 n) (ltb n (countOf h))
 
--- the table of a store with these sealed frames and this main header
+-- the table of a store with these committed frames and this main header
 unfoldable pub tableOf : DbHeader → List (List ℕ) → List ℕ
 tableOf h fs = tabulate (λ (n : ℕ). entry (placeFrom n 0 fs) (hasPage h n)) 0 pageLimit
 
@@ -154,7 +154,7 @@ writes mode.ReadOnly = false
 
 -- ---- what it finds in the log
 
--- the sealed frames, the log as it is then open, and the last commit count
+-- the committed frames, the log as it is then open, and the last commit count
 pub record Found : Type 0 where
   pub frames : List (List ℕ)
   pub log : Wal
@@ -168,7 +168,7 @@ unfoldable pub foundIn : Bool → List ℕ → Found
 foundIn clean l =
     let k = keptOf clean l in
     let r = recovered k in
-    record { frames = sealedFrames r; log = walOf (length k) r; last = lastCommit r }
+    record { frames = committedFrames r; log = walOf (length k) r; last = lastCommit r }
 
 -- "absent means a fresh log, or read-only an empty one whose clock stays 0"
 unfoldable pub foundFresh : How → Found
@@ -220,8 +220,8 @@ openingOf how =
     pick (writes (how .access)) (pick (how .clean) opening.Clean opening.Plain) (pick (how .exists) opening.ReadOnly opening.NoLog)
 
 -- 6: "a page count above 1,024"; 10: a "clean opening, read-only"
-unfoldable pub openedAs : How → Disk → DbHeader → Found → DbHeader → Opens
-openedAs how d mh x h =
+unfoldable pub openedStore : How → Disk → DbHeader → Found → DbHeader → Opens
+openedStore how d mh x h =
     pick (leb (countOf h) pageLimit)
     (pick (both (how .clean) (pick (writes (how .access)) false true))
     (opened.Refused refusal.ReadOnly)
@@ -231,7 +231,7 @@ openedAs how d mh x h =
 unfoldable pub judged : How → Disk → DbHeader → Opens
 judged how d mh =
     let x = foundBy how (d .log) in
-    let next = judgedZero (headerBy mh x) (openedAs how d mh x) in
+    let next = judgedZero (headerBy mh x) (openedStore how d mh x) in
     pick (how .exists) (judgedLog (decodeWalHeader (content (d .log))) next) next
 
 -- refusal 1
@@ -268,8 +268,8 @@ openStores how d =
     (pick (writes (how .access)) (logStores (how .salt)) [])
 
 -- a fresh log lies in an empty file
-abbrev pub lying : How → Disk → Disk
-lying how d = record { main = d .main; log = pick (how .exists) (d .log) (emptyFile (d .log .area)) }
+abbrev pub startDisk : How → Disk → Disk
+startDisk how d = record { main = d .main; log = pick (how .exists) (d .log) (emptyFile (d .log .area)) }
 
 -- the main file's own header stands at its start
 unfoldable pub openTable : How → List ℕ → Disk → List ℕ → List ℕ
@@ -277,4 +277,4 @@ openTable how t d g = pick (opens (openPager how t d g)) (tableOf (headerIn (d .
 
 unfoldable pub openLogArea : How → List ℕ → Disk → List ℕ → List ℕ
 openLogArea how t d g =
-    pick (opens (openPager how t d g)) (storedAll (openStores how d) (lying how d) .log .area) (d .log .area)
+    pick (opens (openPager how t d g)) (storedAll (openStores how d) (startDisk how d) .log .area) (d .log .area)

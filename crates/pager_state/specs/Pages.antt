@@ -1,4 +1,4 @@
--- The pages that a commit or fold looks for, ascending.
+-- The pages that a commit or checkpoint looks for, ascending.
 use mathlib.Core.Bool.{Bool, true, false, not}
 use mathlib.Core.List.{List, [], _∷_}
 use Prim.Native.Nat.{ℕ, zero, suc, _-_}
@@ -34,11 +34,11 @@ abbrev pub differs : List ℕ → World → ℕ → Bool
 differs g w n = differsIn (w .pager .staged) g (w .table) (w .log) (w .main) n
 
 -- "log pages from 1 below the page count": by the count and the page table
-unfoldable pub foldsBy : ℕ → List ℕ → ℕ → Bool
-foldsBy count t n = both (leb 1 n) (both (ltb n count) (inLog t n))
+unfoldable pub inCheckpointBy : ℕ → List ℕ → ℕ → Bool
+inCheckpointBy count t n = both (leb 1 n) (both (ltb n count) (inLog t n))
 
-abbrev pub folds : World → ℕ → Bool
-folds w n = foldsBy (countOf (headerOf (w .pager))) (w .table) n
+abbrev pub inCheckpoint : World → ℕ → Bool
+inCheckpoint w n = inCheckpointBy (countOf (headerOf (w .pager))) (w .table) n
 
 -- 14: "a page, 1 or higher, from old count to below new count isn't staged"
 unfoldable pub lacks : Staged → ℕ → ℕ → ℕ → Bool

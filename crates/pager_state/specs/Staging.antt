@@ -35,16 +35,16 @@ abbrev pub stageAnswer : Bool → Staged → List ℕ → ℕ → List ℕ → S
 stageAnswer busy s g n bytes = answered stage.Refused stage.Staged (stageRefusal busy s g n bytes)
 
 -- the slots with page n in slot i
-unfoldable pub slotted : Staged → ℕ → ℕ → Staged
-slotted s i n = record { count = max (s .count) (i + 1); pages = set (s .pages) i n }
+unfoldable pub withSlot : Staged → ℕ → ℕ → Staged
+withSlot s i n = record { count = max (s .count) (i + 1); pages = set (s .pages) i n }
 
 -- "that page is staged anew"; a refusal leaves the staged pages
 unfoldable pub stagedAfter : Bool → Staged → List ℕ → ℕ → List ℕ → Staged
-stagedAfter busy s g n bytes = pick (accepts (stageRefusal busy s g n bytes)) (slotted s (slotOf s n) n) s
+stagedAfter busy s g n bytes = pick (accepts (stageRefusal busy s g n bytes)) (withSlot s (slotOf s n) n) s
 
 -- and the staging area
-unfoldable pub stagingAfter : Bool → Staged → List ℕ → ℕ → List ℕ → List ℕ
-stagingAfter busy s g n bytes = pick (accepts (stageRefusal busy s g n bytes)) (put g (stagedAt s n) bytes) g
+unfoldable pub stagingBytes : Bool → Staged → List ℕ → ℕ → List ℕ → List ℕ
+stagingBytes busy s g n bytes = pick (accepts (stageRefusal busy s g n bytes)) (put g (stagedAt s n) bytes) g
 
 -- ---- of a store
 
@@ -56,7 +56,7 @@ stagePage p g n bytes =
     }
 
 abbrev pub stageAfter : Pager → List ℕ → ℕ → List ℕ → List ℕ
-stageAfter p g n bytes = stagingAfter (busy p) (p .staged) g n bytes
+stageAfter p g n bytes = stagingBytes (busy p) (p .staged) g n bytes
 
 -- ---- "A call that drops the staging"
 

@@ -1,4 +1,4 @@
--- Starting a commit or fold, the next step, and either in one call. g is the staging area.
+-- Starting a commit or checkpoint, the next step, and either in one call. g is the staging area.
 use mathlib.Core.Bool.{Bool, true, not}
 use mathlib.Core.List.{List, [], _∷_, _++_}
 use mathlib.Core.Option.{Option, none}
@@ -16,8 +16,8 @@ use Rattle.wal.specs.Recovery.{walArea}
 use Rattle.pager_state.specs.World.{World, world, pageLimit, countOf, headerOf, fine, stagingFine, busy, readOnly, withJob}
 use Rattle.pager_state.specs.Overlay.{stagedPages, frameOf, inLog}
 use Rattle.pager_state.specs.Stores.{Act, placeOf, inside}
-use Rattle.pager_state.specs.Pages.{pagesFrom, firstOf, differs, folds, lacks}
-use Rattle.pager_state.specs.Fold.{foldTodo, foldAdvance}
+use Rattle.pager_state.specs.Pages.{pagesFrom, firstOf, differs, inCheckpoint, lacks}
+use Rattle.pager_state.specs.Checkpoint.{checkpointTodo, checkpointAdvance}
 use Rattle.pager_state.specs.Commit.{commitTodo, commitAdvance}
 use Rattle.pager_state.specs.declared.Job.{Job}
 use Rattle.pager_state.specs.declared.Job.the-variants as job
@@ -66,7 +66,7 @@ allBefore t len (n ∷ ns) = both (standsBefore t n len) (allBefore t len ns)
 abbrev pub tableFits : World → Bool
 tableFits w = allBefore (w .table) (w .pager .wal .len) (stagedPages (w .pager .staged))
 
--- refusal 1 is of the lengths; and of the table, where nothing is part done (a fold that has emptied the log leaves its places void until
+-- refusal 1 is of the lengths; and of the table, where nothing is part done (a checkpoint that has emptied the log leaves its places void until
 -- the next store). Only a made-up table does not fit.
 abbrev pub commitFine : List ℕ → World → Bool
 commitFine g w = both (both (fine w) (stagingFine g)) (pick (busy (w .pager)) true (tableFits w))
@@ -97,8 +97,8 @@ noLogPages [] = true
 noLogPages (x ∷ xs) = both (leb x 1) (noLogPages xs)
 
 -- "with 0 frames and no log pages, 0 and no store"
-unfoldable pub nothingToFold : World → Bool
-nothingToFold w = both (eqb (w .pager .wal .«frame_count») 0) (noLogPages (w .table))
+unfoldable pub nothingToCheckpoint : World → Bool
+nothingToCheckpoint w = both (eqb (w .pager .wal .«frame_count») 0) (noLogPages (w .table))
 
 -- refusals 1, 9, 10
 unfoldable pub checkpointRefusal : List ℕ → World → Option Refusal
@@ -108,38 +108,38 @@ checkpointRefusal g w =
     (unless (not (readOnly (w .pager))) refusal.ReadOnly none))
 
 unfoldable pub checkpointStart : List ℕ → World → CheckpointStart
-checkpointStart g w = answered checkpoint.Refused (pick (nothingToFold w) checkpoint.Nothing checkpoint.Begun) (checkpointRefusal g w)
+checkpointStart g w = answered checkpoint.Refused (pick (nothingToCheckpoint w) checkpoint.Nothing checkpoint.Begun) (checkpointRefusal g w)
 
 -- stores are to be done
 abbrev pub checkpointBegins : List ℕ → World → Bool
-checkpointBegins g w = both (accepts (checkpointRefusal g w)) (not (nothingToFold w))
+checkpointBegins g w = both (accepts (checkpointRefusal g w)) (not (nothingToCheckpoint w))
 
 -- "It answers the pages written"
-unfoldable pub folding : World → ℕ
-folding w = length (pagesFrom (folds w) 0)
+unfoldable pub checkpointCount : World → ℕ
+checkpointCount w = length (pagesFrom (inCheckpoint w) 0)
 
 unfoldable pub beginCheckpoint : List ℕ → World → ℕ → CheckpointStarted
 beginCheckpoint g w salt =
     record {
       answer = checkpointStart g w;
-      pager = pick (checkpointBegins g w) (withJob (w .pager) (job.Fold salt 0 (folding w))) (w .pager);
+      pager = pick (checkpointBegins g w) (withJob (w .pager) (job.Checkpoint salt 0 (checkpointCount w))) (w .pager);
     }
 
 -- ---- the next step: "does the next store .. and no other"
 
 -- the stores left: at most one of the two is not empty
 unfoldable pub todo : List ℕ → World → List Act
-todo g w = commitTodo g (w .pager .job) w ++ foldTodo (w .pager .job) w
+todo g w = commitTodo g (w .pager .job) w ++ checkpointTodo (w .pager .job) w
 
 -- the store after the first of them: one of the two does nothing
 unfoldable pub advance : List ℕ → World → World
-advance g w = foldAdvance (w .pager .job) (commitAdvance g (w .pager .job) w)
+advance g w = checkpointAdvance (w .pager .job) (commitAdvance g (w .pager .job) w)
 
 -- the answer that the last store gives
 abbrev pub answerOf : Job → ℕ
 answerOf job.Idle = 0
 answerOf (job.Commit h salt page answer) = answer
-answerOf (job.Fold salt page answer) = answer
+answerOf (job.Checkpoint salt page answer) = answer
 answerOf (job.MainLength salt answer) = answer
 answerOf (job.LogLength salt answer) = answer
 answerOf (job.LogHeader salt answer) = answer
@@ -182,7 +182,7 @@ unfoldable pub steps : List ℕ → ℕ → World → World
 steps g zero w = w
 steps g (suc k) w = steps g k (stepped g w)
 
--- more than any commit or fold has
+-- more than any commit or checkpoint has
 abbrev pub mostSteps : ℕ
 mostSteps = 2200
 
@@ -196,7 +196,7 @@ unfoldable pub commitWorld : List ℕ → World → DbHeader → ℕ → World
 commitWorld g w h salt = pick (accepts (commitRefusal g w h)) (steps g mostSteps (onStore w (beginCommit g w h salt .pager))) w
 
 unfoldable pub checkpointAnswer : List ℕ → World → CheckpointAnswer
-checkpointAnswer g w = answered written.Refused (written.Written (pick (nothingToFold w) 0 (folding w))) (checkpointRefusal g w)
+checkpointAnswer g w = answered written.Refused (written.Written (pick (nothingToCheckpoint w) 0 (checkpointCount w))) (checkpointRefusal g w)
 
 unfoldable pub checkpointWorld : List ℕ → World → ℕ → World
 checkpointWorld g w salt = pick (checkpointBegins g w) (steps g mostSteps (onStore w (beginCheckpoint g w salt .pager))) w

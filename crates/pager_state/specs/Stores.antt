@@ -1,4 +1,4 @@
--- Files, and stores as data: document 01, "Added by design". A commit or fold is a list of these.
+-- Files, and stores as data: document 01, "Added by design". A commit or checkpoint is a list of these.
 use mathlib.Core.Bool.{Bool, true, false}
 use mathlib.Core.List.{List, [], _∷_}
 use Prim.Native.Nat.{ℕ, zero, suc, _+_, _-_, max, min}
@@ -37,9 +37,9 @@ diskOf w =
 
 -- ---- stores
 
--- what the plain book is told of a store that is whole
+-- what the model is told of a store that is whole
 pub data Kind : Type 0 where
-  Batched Sealed Emptied Other : Kind
+  Batched CommitFrame Emptied Other : Kind
 
 -- bytes at a place of a file, or a file's new length; the last is whether a flush follows
 pub data Act : Type 0 where

@@ -72,7 +72,7 @@ filesFine t la l ma m rest = both (eqb t pageLimit) (both (inArea walArea la l) 
 abbrev pub lengthsFine : ℕ → ℕ → ℕ → ℕ → ℕ → ℕ → Bool
 lengthsFine t la l ma m g = filesFine t la l ma m (eqb g stagingArea)
 
--- besides, the page count: the main file has that length once it is folded
+-- besides, the page count: the main file has that length once it is checkpointed
 abbrev pub fineIn : ℕ → ℕ → ℕ → ℕ → ℕ → ℕ → Bool
 fineIn count log main t l m = filesFine t l log m main (leb count pageLimit)
 
@@ -87,7 +87,7 @@ fine w = fineBy (w .pager) (length (w .table)) (length (w .log)) (length (w .mai
 abbrev pub busyWith : Job → Bool
 busyWith job.Idle = false
 busyWith (job.Commit h salt page answer) = true
-busyWith (job.Fold salt page answer) = true
+busyWith (job.Checkpoint salt page answer) = true
 busyWith (job.MainLength salt answer) = true
 busyWith (job.LogLength salt answer) = true
 busyWith (job.LogHeader salt answer) = true

@@ -25,7 +25,7 @@ pub const STAGED_PAGES: usize = 64;
 // The staging area: a page for each.
 pub const STAGING_AREA: usize = PAGE_SIZE * STAGED_PAGES;
 
-// Frames at which a commit folds.
+// Frames at which a commit checkpoints.
 pub const AUTO_CHECKPOINT_THRESHOLD_FRAMES: usize = 100;
 
 pub enum AccessMode {
@@ -66,7 +66,7 @@ pub enum Job {
         page: usize,
         answer: usize,
     },
-    Fold {
+    Checkpoint {
         salt: u32,
         page: usize,
         answer: usize,
@@ -205,7 +205,7 @@ pub struct Place {
     pub flush: bool,
 }
 
-// What a next step answers: Last has the answer of the commit or fold besides.
+// What a next step answers: Last has the answer of the commit or checkpoint besides.
 pub enum StepAnswer {
     Idle,
     Stored(Place),
@@ -229,7 +229,7 @@ pub struct CommitStarted {
     pub pager: Pager,
 }
 
-// What starting a fold answers; Nothing has no store to do.
+// What starting a checkpoint answers; Nothing has no store to do.
 pub enum CheckpointStart {
     Begun,
     Nothing,
@@ -252,7 +252,7 @@ pub struct Committed {
     pub pager: Pager,
 }
 
-// What a fold in one call answers: the number of pages written.
+// What a checkpoint in one call answers: the number of pages written.
 pub enum CheckpointAnswer {
     Written(usize),
     Refused(Refusal),
@@ -263,7 +263,7 @@ pub struct Checkpointed {
     pub pager: Pager,
 }
 
-// Whether a commit or fold is part done.
+// Whether a commit or checkpoint is part done.
 pub fn is_busy(job: Job) -> bool
     ensures { λ r. ⌜ r ≡ busyWith job ⌝ }
 {

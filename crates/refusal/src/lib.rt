@@ -20,9 +20,9 @@ pub enum Refusal {
     MainShort,
     // The log's page 0 has refusal 3, 4 or 5.
     PageZero,
-    // A commit or fold is part done and a call other than the next step or an opening comes.
+    // A commit or checkpoint is part done and a call other than the next step or an opening comes.
     Busy,
-    // Commit, fold, batch append or clean opening, read-only.
+    // Commit, checkpoint, batch append or clean opening, read-only.
     ReadOnly,
     // Staging above 1,023.
     Page,

@@ -9,18 +9,18 @@ use lib.ListN.{length, take, drop, take-append-drop, getD, set, length-take, len
 use lib.Seq.{take-suc, take-append-seam}
 use Rattle.le.specs.Le.{put}
 use Rattle.le.proofs.Stores.{put-more, put-all}
-use Rattle.replay.specs.Cases.{digitOf, bytesOf, Laid}
+use Rattle.replay.specs.Cases.{digitOf, hexBytes, Copied}
 use Rattle.replay.specs.Drawn.{nextNumber, numberAfter, shapeOf, drawn}
 
-pub length-bytes : (l : List ℕ) → length (bytesOf l) ≡ length l / 2
-unfolding bytesOf
+pub length-bytes : (l : List ℕ) → length (hexBytes l) ≡ length l / 2
+unfolding hexBytes
 length-bytes [] = refl
 length-bytes (a ∷ []) = refl
-length-bytes (a ∷ b ∷ l) = let r : length (bytesOf l) ≡ length l / 2 = length-bytes l in omega arith
+length-bytes (a ∷ b ∷ l) = let r : length (hexBytes l) ≡ length l / 2 = length-bytes l in omega arith
 
 -- the byte of the i-th pair of digits
-pub byte-at : (l : List ℕ) (i : ℕ) → 2 * i + 1 < length l → getD (bytesOf l) i 0 ≡ 16 * digitOf (getD l (2 * i) 0) + digitOf (getD l (2 * i + 1) 0)
-unfolding bytesOf
+pub byte-at : (l : List ℕ) (i : ℕ) → 2 * i + 1 < length l → getD (hexBytes l) i 0 ≡ 16 * digitOf (getD l (2 * i) 0) + digitOf (getD l (2 * i + 1) 0)
+unfolding hexBytes
 byte-at [] i h = absurd (omega arith)
 byte-at (a ∷ []) i h = absurd (omega arith)
 byte-at (a ∷ b ∷ l) zero h = refl
@@ -41,7 +41,7 @@ lay-more l xs i b h k e =
 fit : (m : ℕ) (xs : List ℕ) → take (length (take m xs)) xs ≡ take m xs
 fit m xs = rw (take-append-drop m xs) at (take-append-seam (take m xs) (drop m xs))
 
-pub laid : (l xs : List ℕ) (n : ℕ) {after : List ℕ} → n ≡ length (take (length l) xs) → after ≡ put l 0 (take n xs) → Laid xs l after n
+pub laid : (l xs : List ℕ) (n : ℕ) {after : List ℕ} → n ≡ length (take (length l) xs) → after ≡ put l 0 (take n xs) → Copied xs l after n
 laid l xs n e f = record { count = e; bytes = rw (e, fit (length l) xs) at f }
 
 pub fill-more : (l : List ℕ) (i b : ℕ) → i < length l → set (put l 0 (replicate i b)) i b ≡ put l 0 (replicate (i + 1) b)

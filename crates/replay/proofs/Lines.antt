@@ -13,7 +13,7 @@ use Rattle.io.specs.Digits.{digits, Fewest}
 use Rattle.le.specs.Choice.{pick}
 use Rattle.le.specs.Le.{store}
 use Rattle.replay.specs.Cases.{lineOf, restOf}
-use Rattle.replay.specs.Line.{endOf, Spelt}
+use Rattle.replay.specs.Line.{lineEnd, Spelt}
 
 -- ---- how far a line that starts at i goes
 
@@ -67,5 +67,5 @@ module _ (l : List ℕ) (at end : ℕ) (e : end ≡ at + length (lineOf (drop at
 
 -- the fewest digits of it, k, were added as a text
 pub spelt : (b least n at k : ℕ) {text before after : List ℕ} {end : ℕ} → k ≡ length text → Fewest b least n k → text ≡ digits b k n
-    → end ≡ endOf before at (length text) → after ≡ store before at text → Spelt b least n before at after end
+    → end ≡ lineEnd before at (length text) → after ≡ store before at text → Spelt b least n before at after end
 spelt b least n at k c f d e s = record { places = k; fewest = f; place = rw (← c) at e; bytes = rw d at s }

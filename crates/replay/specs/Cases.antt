@@ -22,17 +22,17 @@ unfoldable pub digitOf : ℕ → ℕ
 digitOf b = pick (ltb b 48) 0 (pick (leb b 57) (b - 48) (pick (ltb b 97) 0 (pick (leb b 102) (b - 97 + 10) 0)))
 
 -- the bytes that a line's pairs of digits stand for; a last digit without a partner stands for none
-unfoldable pub bytesOf : List ℕ → List ℕ
-bytesOf [] = []
-bytesOf (a ∷ []) = []
-bytesOf (a ∷ b ∷ l) = (16 * digitOf a + digitOf b) ∷ bytesOf l
+unfoldable pub hexBytes : List ℕ → List ℕ
+hexBytes [] = []
+hexBytes (a ∷ []) = []
+hexBytes (a ∷ b ∷ l) = (16 * digitOf a + digitOf b) ∷ hexBytes l
 
 -- the bytes of the case at `at`
 abbrev pub caseAt : ℕ → List ℕ → List ℕ
-caseAt at l = bytesOf (lineOf (drop at l))
+caseAt at l = hexBytes (lineOf (drop at l))
 
 -- the bytes xs, or as many of them as there is room for, were laid at the front of `before`: n of them
-pub record Laid (xs before after : List ℕ) (n : ℕ) : Type 0 where
+pub record Copied (xs before after : List ℕ) (n : ℕ) : Type 0 where
   pub count : n ≡ length (take (length before) xs)
   pub bytes : after ≡ put before 0 (take (length before) xs)
 

@@ -28,8 +28,8 @@ drawn kind seed zero = []
 drawn kind seed (suc n) = drawn kind seed n ++ (shapeOf kind (numberAfter seed (suc n) / 2 ^ 24) ∷ [])
 
 -- the body of a kind, made in the place of l, which is a page's zeros
-unfoldable pub bodyOf : ℕ → ℕ → List ℕ → List ℕ
-bodyOf kind seed l =
+unfoldable pub drawnBody : ℕ → ℕ → List ℕ → List ℕ
+drawnBody kind seed l =
     pick (eqb kind 0) (replicate (length l) (seed % 256))
     (pick (eqb kind 4) (store l (seed % 4096) (seed / 4096 % 256 ∷ []))
     (pick (eqb kind 5) (store (drawn 5 seed (length l)) (seed % 4097) (replicate (4096 - seed % 4097) 0))

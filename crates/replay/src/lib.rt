@@ -6,9 +6,9 @@ ghost use mathlib.Core.List.{[], _∷_};
 ghost use Prim.Native.Nat.{_+_, _<_, min, max};
 ghost use lib.ListN.{length, drop, replicate};
 ghost use Rattle.le.specs.Le.{store};
-ghost use Rattle.replay.specs.Cases.{lineOf, digitOf, bytesOf, caseAt, Laid, Next};
-ghost use Rattle.replay.specs.Line.{endOf, Spelt};
-ghost use Rattle.replay.specs.Drawn.{nextNumber, shapeOf, drawn, bodyOf};
+ghost use Rattle.replay.specs.Cases.{lineOf, digitOf, hexBytes, caseAt, Copied, Next};
+ghost use Rattle.replay.specs.Line.{lineEnd, Spelt};
+ghost use Rattle.replay.specs.Drawn.{nextNumber, shapeOf, drawn, drawnBody};
 
 // Room for the longest list of cases.
 pub const LIST_SIZE: usize = 131072;
@@ -66,7 +66,7 @@ fn digit_of(b: u8) -> u8
 
 // Lays the bytes that a line stands for at the front of `out`.
 fn decode(line: &[u8], out: &mut [u8]) -> usize
-    ensures { λ r. ⌜ Laid (bytesOf (now (line .entry))) (now (out .entry)) (now (out .exit)) r ⌝ }
+    ensures { λ r. ⌜ Copied (hexBytes (now (line .entry))) (now (out .entry)) (now (out .exit)) r ⌝ }
 {
     let n = le::min(line.len() / 2, out.len());
     let mut i = 0;
@@ -79,7 +79,7 @@ fn decode(line: &[u8], out: &mut [u8]) -> usize
 
 // Lays the bytes of the case at `at` at the front of `out`, and answers how many there are.
 pub fn read_case(list: &[u8], at: usize, out: &mut [u8]) -> usize
-    ensures { λ r. ⌜ Laid (caseAt at (now (list .entry))) (now (out .entry)) (now (out .exit)) r ⌝ }
+    ensures { λ r. ⌜ Copied (caseAt at (now (list .entry))) (now (out .entry)) (now (out .exit)) r ⌝ }
 {
     decode(line_at(list, at), out)
 }
@@ -97,7 +97,7 @@ pub fn fill(out: &mut [u8], b: u8)
 
 // Makes the body of a kind and a seed out of a page's zeros (compare/README.md, checksum_replay).
 pub fn draw_body(body: &mut [u8], kind: u8, seed: u32)
-    ensures { λ _. ⌜ now (body .exit) ≡ bodyOf kind seed (now (body .entry)) ⌝ }
+    ensures { λ _. ⌜ now (body .exit) ≡ drawnBody kind seed (now (body .entry)) ⌝ }
 {
     match kind {
         0 => fill(body, (seed % 256) as u8),
@@ -148,7 +148,8 @@ fn shape(kind: u8, top: u8) -> u8
 
 // Adds a text to a line at `at`, and answers where the next one goes.
 pub fn add_text(line: &mut [u8], at: usize, text: &[u8]) -> usize
-    ensures { λ r. ⌜ (r ≡ endOf (now (line .entry)) at (length (now (text .entry)))) × (now (line .exit) ≡ store (now (line .entry)) at (now (text .entry))) ⌝ }
+    ensures { λ r. ⌜ r ≡ lineEnd (now (line .entry)) at (length (now (text .entry))) ⌝ }
+    ensures { λ _. ⌜ now (line .exit) ≡ store (now (line .entry)) at (now (text .entry)) ⌝ }
 {
     if le::fits_in(line.len(), at, text.len()) {
         le::write_bytes(line, at, text);
@@ -177,7 +178,7 @@ pub fn add_hex(line: &mut [u8], at: usize, n: u64, width: usize) -> usize
 
 // Adds the line's end.
 pub fn end_line(line: &mut [u8], at: usize) -> usize
-    ensures { λ r. ⌜ (r ≡ endOf (now (line .entry)) at 1) × (now (line .exit) ≡ store (now (line .entry)) at (10 ∷ [])) ⌝ }
+    ensures { λ r. ⌜ (r ≡ lineEnd (now (line .entry)) at 1) × (now (line .exit) ≡ store (now (line .entry)) at (10 ∷ [])) ⌝ }
 {
     add_text(line, at, b"\n")
 }

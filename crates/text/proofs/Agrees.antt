@@ -10,7 +10,7 @@ use lib.Dec.{leb, ltb}
 use lib.ListN.{length, drop}
 use Rattle.le.specs.Choice.{pick}
 use Rattle.le.proofs.Tests.{le-or-lt}
-use Rattle.text.specs.Utf8.{continues, pair, two, three, four, size, next, after, wellFormed}
+use Rattle.text.specs.Utf8.{continues, pair, two, three, four, size, thenByte, formedBehind, wellFormed}
 use Rattle.text.specs.Table.{In, WellFormed, end, row1, row2, row3, row4, row5, row6, row7, row8, row9}
 use Rattle.text.proofs.Laws.{behind, full, size-one, size-two, size-three, size-four}
 
@@ -48,7 +48,7 @@ module _ {a : ℕ} (s : List ℕ) (t : wellFormed s ≡ true) where
       behind (a ∷ b ∷ c ∷ d ∷ s) 3 (sym (size-four (a ∷ b ∷ c ∷ d ∷ s) 0 {t = true} (omega arith) (full 4 (length (a ∷ b ∷ c ∷ d ∷ s) - 0) (omega arith) (sym e)))) ∙ t
 
 pub complete : {s : List ℕ} → WellFormed s → wellFormed s ≡ true
-unfolding wellFormed after
+unfolding wellFormed formedBehind
 complete end = refl
 complete (row1 {s = s} i t) = one-more s (complete t) (omega arith)
 complete (row2 {s = s} i j t) = two-more s (complete t) i j
@@ -145,12 +145,12 @@ first a s n e t =
     ⊎-elim (λ h. three-of a s n l (omega arith) e t) (λ l. four-of a s n l e t)
     (le-or-lt a 0xef)) (le-or-lt a 0xdf)) (le-or-lt a 0x7f)
 
-sized : (a : ℕ) (s : List ℕ) (m : ℕ) → size (a ∷ s) ≡ m → ((k : ℕ) → after s k ≡ true → WellFormed (drop k s)) → next m (after s) ≡ true → WellFormed (a ∷ s)
+sized : (a : ℕ) (s : List ℕ) (m : ℕ) → size (a ∷ s) ≡ m → ((k : ℕ) → formedBehind s k ≡ true → WellFormed (drop k s)) → thenByte m (formedBehind s) ≡ true → WellFormed (a ∷ s)
 sized a s zero e f g = absurd (false≢true g)
 sized a s (suc n) e f g = first a s n e (f n g)
 
-rest : (s : List ℕ) (k : ℕ) → after s k ≡ true → WellFormed (drop k s)
-unfolding after
+rest : (s : List ℕ) (k : ℕ) → formedBehind s k ≡ true → WellFormed (drop k s)
+unfolding formedBehind
 rest [] zero e = end
 rest [] (suc k) e = end
 rest (a ∷ s) zero e = sized a s (size (a ∷ s)) refl (rest s) e

@@ -12,7 +12,7 @@ use lib.Dec.{leb, ltb}
 use lib.ListN.{length, drop, getD, length-drop, drop-of-length-le}
 use lib.Seq.{drop-cons, drop-drop, getD-drop}
 use Rattle.le.specs.Choice.{pick}
-use Rattle.text.specs.Utf8.{two, three, four, size, whole, after, wellFormed, utf8Of}
+use Rattle.text.specs.Utf8.{two, three, four, size, sequenceSize, formedBehind, wellFormed, utf8Of}
 use Rattle.text.specs.declared.Utf8.the-variants.{WellFormed, IllFormed}
 use Rattle.text.specs.Walk.{Ascii, Passes}
 
@@ -59,7 +59,7 @@ whole-by : (s : List ℕ) (n : ℕ) (ok t : Bool) → leb n (length s) ≡ t →
 whole-by s n ok true e = pick-le ok (leb-true _ _ e) (omega arith)
 whole-by s n ok false e = omega arith
 
-whole-le : (s : List ℕ) (n : ℕ) (ok : Bool) → whole s n ok ≤ length s
+whole-le : (s : List ℕ) (n : ℕ) (ok : Bool) → sequenceSize s n ok ≤ length s
 whole-le s n ok = whole-by s n ok (leb n (length s)) refl
 
 pub size-le : (s : List ℕ) → size s ≤ length s
@@ -71,28 +71,28 @@ size-le s =
 
 -- ---- what is behind a sequence decides
 
-after-drop : (s : List ℕ) (k : ℕ) → after s k ≡ after (drop k s) zero
-unfolding after
+after-drop : (s : List ℕ) (k : ℕ) → formedBehind s k ≡ formedBehind (drop k s) zero
+unfolding formedBehind
 after-drop [] zero = refl
 after-drop [] (suc k) = refl
 after-drop (a ∷ s) zero = refl
 after-drop (a ∷ s) (suc k) = after-drop s k
 
 pub behind : (s : List ℕ) (n : ℕ) → size s ≡ suc n → wellFormed s ≡ wellFormed (drop (suc n) s)
-unfolding wellFormed after
+unfolding wellFormed formedBehind
 behind [] n e = refl
 behind (a ∷ s) n e = rw e (after-drop s n)
 
 -- where no sequence is, the text is ill-formed; at its end it is well-formed
 no-sequence-cons : (a : ℕ) (s : List ℕ) → size (a ∷ s) ≡ 0 → wellFormed (a ∷ s) ≡ false
-unfolding wellFormed after
+unfolding wellFormed formedBehind
 no-sequence-cons a s e = rw e
 
 pub no-sequence : (s : List ℕ) (i : ℕ) → i < length s → 0 ≡ size (drop i s) → wellFormed (drop i s) ≡ false
 no-sequence s i h e = rw (drop-cons s i 0) (no-sequence-cons (getD s i 0) (drop (suc i) s) (rw (← drop-cons s i 0 h) (sym e)))
 
 pub at-end : (s : List ℕ) (i : ℕ) → length s ≤ i → wellFormed (drop i s) ≡ true
-unfolding wellFormed after
+unfolding wellFormed formedBehind
 at-end s i h = rw (drop-of-length-le s h)
 
 -- ---- steps of a walk

@@ -33,35 +33,35 @@ abbrev pub byte : List ℕ → ℕ → ℕ
 byte s i = getD s i 0
 
 -- n, if s has n bytes and ok holds
-abbrev pub whole : List ℕ → ℕ → Bool → ℕ
-whole s n ok = pick (leb n (length s) && ok) n 0
+abbrev pub sequenceSize : List ℕ → ℕ → Bool → ℕ
+sequenceSize s n ok = pick (leb n (length s) && ok) n 0
 
 -- how many bytes the well-formed sequence has that s begins with; 0: s begins with none
 unfoldable pub size : List ℕ → ℕ
 size s =
-    pick (ltb (byte s 0) 0x80) (whole s 1 true)
-    (pick (ltb (byte s 0) 0xe0) (whole s 2 (two (byte s 0) (byte s 1)))
-    (pick (ltb (byte s 0) 0xf0) (whole s 3 (three (byte s 0) (byte s 1) (byte s 2)))
-    (whole s 4 (four (byte s 0) (byte s 1) (byte s 2) (byte s 3)))))
+    pick (ltb (byte s 0) 0x80) (sequenceSize s 1 true)
+    (pick (ltb (byte s 0) 0xe0) (sequenceSize s 2 (two (byte s 0) (byte s 1)))
+    (pick (ltb (byte s 0) 0xf0) (sequenceSize s 3 (three (byte s 0) (byte s 1) (byte s 2)))
+    (sequenceSize s 4 (four (byte s 0) (byte s 1) (byte s 2) (byte s 3)))))
 
 -- a sequence of n bytes, and f of what is left of it after its first byte
-abbrev pub next : ℕ → (ℕ → Bool) → Bool
-next zero f = false
-next (suc n) f = f n
+abbrev pub thenByte : ℕ → (ℕ → Bool) → Bool
+thenByte zero f = false
+thenByte (suc n) f = f n
 
 -- s after its first k bytes is a run of well-formed sequences
-unfoldable pub after : List ℕ → ℕ → Bool
-after [] k = true
-after (a ∷ s) zero = next (size (a ∷ s)) (after s)
-after (a ∷ s) (suc k) = after s k
+unfoldable pub formedBehind : List ℕ → ℕ → Bool
+formedBehind [] k = true
+formedBehind (a ∷ s) zero = thenByte (size (a ∷ s)) (formedBehind s)
+formedBehind (a ∷ s) (suc k) = formedBehind s k
 
 unfoldable pub wellFormed : List ℕ → Bool
-wellFormed s = after s 0
+wellFormed s = formedBehind s 0
 
 abbrev pub utf8Of : List ℕ → Utf8
 utf8Of s = pick (wellFormed s) WellFormed IllFormed
 
 -- document 01's number: 0 for a result, 19 for a text that is not UTF-8
-abbrev pub refusal : Utf8 → ℕ
-refusal WellFormed = 0
-refusal IllFormed = 19
+abbrev pub utf8Refusal : Utf8 → ℕ
+utf8Refusal WellFormed = 0
+utf8Refusal IllFormed = 19

@@ -1,4 +1,4 @@
--- Laws on lists of frames: the good front, the sealed front, pages and batches. Assumes nothing.
+-- Laws on lists of frames: the good front, the committed front, pages and batches. Assumes nothing.
 use mathlib.Core.Path.{_≡_, refl, sym, ap, _∙_}
 use mathlib.Core.Bool.{Bool, true, false}
 use mathlib.Core.List.{List, [], _∷_, _++_, foldl-append}
@@ -10,10 +10,10 @@ use lib.ListN.{length, take, getD}
 use lib.Seq.{take-length, take-append-le}
 use Rattle.le.specs.Choice.{pick, both}
 use Rattle.le.proofs.Compare.{no-test}
-use Rattle.frame.specs.Frame.{encodeFrame, headerOf, intact}
+use Rattle.frame.specs.Frame.{encodeFrame, frameHeader, intact}
 use Rattle.frame.proofs.RoundTrip.{whole-back, page-back, count-back, body-back, intact-back}
 use Rattle.mvcc.specs.Seen.{decodes}
-use Rattle.wal.specs.Recovery.{pageOf, countOf, seals, isBatch, readable, good, goodFront, undecodable, sealedFrom, sealed, lastCount, pageIn, batchesIn}
+use Rattle.wal.specs.Recovery.{pageOf, commitCount, isCommitFrame, isBatch, readable, good, goodFront, undecodable, committedFrom, committed, lastCount, pageIn, batchesIn}
 use Rattle.wal.specs.declared.LastCommit.the-variants as commit
 
 -- ---- the good front
@@ -149,91 +149,91 @@ good-again salt [] zero = refl
 good-again salt [] (suc k) = refl
 good-again salt (f ∷ fs) k = again-cons salt f (goodFront salt fs) (good salt f) refl (good-again salt fs) k
 
--- ---- the sealed front
+-- ---- the committed front
 
-from-snoc : (g : List ℕ) (fs : List (List ℕ)) (f : List ℕ) → sealedFrom g (fs ++ (f ∷ [])) ≡ g ∷ (fs ++ (f ∷ []))
+from-snoc : (g : List ℕ) (fs : List (List ℕ)) (f : List ℕ) → committedFrom g (fs ++ (f ∷ [])) ≡ g ∷ (fs ++ (f ∷ []))
 from-snoc g [] f = refl
 from-snoc g (h ∷ fs) f = refl
 
 from-pick : (b : Bool) (g : List ℕ) (fs s : List (List ℕ)) (f : List ℕ)
-    → sealedFrom g (pick b (fs ++ (f ∷ [])) s) ≡ pick b (g ∷ (fs ++ (f ∷ []))) (sealedFrom g s)
+    → committedFrom g (pick b (fs ++ (f ∷ [])) s) ≡ pick b (g ∷ (fs ++ (f ∷ []))) (committedFrom g s)
 from-pick true g fs s f = from-snoc g fs f
 from-pick false g fs s f = refl
 
--- one frame more: all are sealed if it seals, else what was
-pub sealed-snoc : (fs : List (List ℕ)) (f : List ℕ) → sealed (fs ++ (f ∷ [])) ≡ pick (seals f) (fs ++ (f ∷ [])) (sealed fs)
-unfolding sealed
-sealed-snoc [] f = refl
-sealed-snoc (g ∷ fs) f = rw (sealed-snoc fs f) (from-pick (seals f) g fs (sealed fs) f)
+-- one frame more: all are committed if it commits, else what was
+pub committed-snoc : (fs : List (List ℕ)) (f : List ℕ) → committed (fs ++ (f ∷ [])) ≡ pick (isCommitFrame f) (fs ++ (f ∷ [])) (committed fs)
+unfolding committed
+committed-snoc [] f = refl
+committed-snoc (g ∷ fs) f = rw (committed-snoc fs f) (from-pick (isCommitFrame f) g fs (committed fs) f)
 
-from-front : (f : List ℕ) (s fs : List (List ℕ)) → s ≡ take (length s) fs → sealedFrom f s ≡ take (length (sealedFrom f s)) (f ∷ fs)
-from-front f [] fs e = alone (seals f)
+from-front : (f : List ℕ) (s fs : List (List ℕ)) → s ≡ take (length s) fs → committedFrom f s ≡ take (length (committedFrom f s)) (f ∷ fs)
+from-front f [] fs e = alone (isCommitFrame f)
   where
     alone : (b : Bool) → pick b (f ∷ []) [] ≡ take (length (pick b (f ∷ []) [])) (f ∷ fs)
     alone true = refl
     alone false = refl
 from-front f (g ∷ s) fs e = ap (λ (x : List (List ℕ)). f ∷ x) e
 
--- the sealed frames are a front
-pub sealed-front : (fs : List (List ℕ)) → sealed fs ≡ take (length (sealed fs)) fs
-unfolding sealed
-sealed-front [] = refl
-sealed-front (f ∷ fs) = from-front f (sealed fs) fs (sealed-front fs)
+-- the committed frames are a front
+pub committed-front : (fs : List (List ℕ)) → committed fs ≡ take (length (committed fs)) fs
+unfolding committed
+committed-front [] = refl
+committed-front (f ∷ fs) = from-front f (committed fs) fs (committed-front fs)
 
-from-most : (f : List ℕ) (s : List (List ℕ)) (n : ℕ) → length s ≤ n → length (sealedFrom f s) ≤ suc n
-from-most f [] n h = alone (seals f)
+from-most : (f : List ℕ) (s : List (List ℕ)) (n : ℕ) → length s ≤ n → length (committedFrom f s) ≤ suc n
+from-most f [] n h = alone (isCommitFrame f)
   where
     alone : (b : Bool) → length (pick b (f ∷ []) []) ≤ suc n
     alone true = omega arith
     alone false = omega arith
 from-most f (g ∷ s) n h = omega arith
 
-pub sealed-most : (fs : List (List ℕ)) → length (sealed fs) ≤ length fs
-unfolding sealed
-sealed-most [] = omega arith
-sealed-most (f ∷ fs) = from-most f (sealed fs) (length fs) (sealed-most fs)
+pub committed-most : (fs : List (List ℕ)) → length (committed fs) ≤ length fs
+unfolding committed
+committed-most [] = omega arith
+committed-most (f ∷ fs) = from-most f (committed fs) (length fs) (committed-most fs)
 
-sealed-from : (f : List ℕ) (s : List (List ℕ)) → sealed s ≡ s → (b : Bool) → seals f ≡ b → sealed (sealedFrom f s) ≡ sealedFrom f s
-unfolding sealed
-sealed-from f [] e true t = rw (t, t)
-sealed-from f [] e false t = rw t
-sealed-from f (g ∷ s) e b t = rw e
+committed-from : (f : List ℕ) (s : List (List ℕ)) → committed s ≡ s → (b : Bool) → isCommitFrame f ≡ b → committed (committedFrom f s) ≡ committedFrom f s
+unfolding committed
+committed-from f [] e true t = rw (t, t)
+committed-from f [] e false t = rw t
+committed-from f (g ∷ s) e b t = rw e
 
--- of the sealed frames all are sealed
-pub sealed-again : (fs : List (List ℕ)) → sealed (sealed fs) ≡ sealed fs
-unfolding sealed
-sealed-again [] = refl
-sealed-again (f ∷ fs) = sealed-from f (sealed fs) (sealed-again fs) (seals f) refl
+-- of the committed frames all are committed
+pub committed-again : (fs : List (List ℕ)) → committed (committed fs) ≡ committed fs
+unfolding committed
+committed-again [] = refl
+committed-again (f ∷ fs) = committed-from f (committed fs) (committed-again fs) (isCommitFrame f) refl
 
--- frames that nothing seals change nothing
-pub sealed-open : (fs gs : List (List ℕ)) → sealed gs ≡ [] → sealed (fs ++ gs) ≡ sealed fs
-unfolding sealed
-sealed-open [] gs e = e
-sealed-open (f ∷ fs) gs e = rw (sealed-open fs gs e)
+-- frames that nothing commits change nothing
+pub committed-open : (fs gs : List (List ℕ)) → committed gs ≡ [] → committed (fs ++ gs) ≡ committed fs
+unfolding committed
+committed-open [] gs e = e
+committed-open (f ∷ fs) gs e = rw (committed-open fs gs e)
 
-from-more : (f : List ℕ) (fs : List (List ℕ)) (h : List ℕ) (hs : List (List ℕ)) → sealedFrom f (fs ++ (h ∷ hs)) ≡ f ∷ (fs ++ (h ∷ hs))
+from-more : (f : List ℕ) (fs : List (List ℕ)) (h : List ℕ) (hs : List (List ℕ)) → committedFrom f (fs ++ (h ∷ hs)) ≡ f ∷ (fs ++ (h ∷ hs))
 from-more f [] h hs = refl
 from-more f (g ∷ fs) h hs = refl
 
--- a seal behind some frames seals them all
-pub sealed-behind : (fs gs : List (List ℕ)) (h : List ℕ) (hs : List (List ℕ)) → sealed gs ≡ h ∷ hs → sealed (fs ++ gs) ≡ fs ++ sealed gs
-unfolding sealed
-sealed-behind [] gs h hs e = refl
-sealed-behind (f ∷ fs) gs h hs e = rw (sealed-behind fs gs h hs e, e) (from-more f fs h hs)
+-- a commit frame behind some frames commits them all
+pub committed-behind : (fs gs : List (List ℕ)) (h : List ℕ) (hs : List (List ℕ)) → committed gs ≡ h ∷ hs → committed (fs ++ gs) ≡ fs ++ committed gs
+unfolding committed
+committed-behind [] gs h hs e = refl
+committed-behind (f ∷ fs) gs h hs e = rw (committed-behind fs gs h hs e, e) (from-more f fs h hs)
 
--- what was sealed stays sealed, in front, whatever comes behind
-sealed-by : (fs gs s : List (List ℕ)) → sealed gs ≡ s → sealed fs ≡ take (length (sealed fs)) (sealed (fs ++ gs))
-sealed-by fs gs [] e = rw (sealed-open fs gs e) (sym (take-length (sealed fs)))
-sealed-by fs gs (h ∷ hs) e =
-    let t : take (length (sealed fs)) (fs ++ sealed gs) ≡ take (length (sealed fs)) fs = take-append-le (length (sealed fs)) fs (sealed gs) (sealed-most fs) in
-    rw (sealed-behind fs gs h hs e, t) (sealed-front fs)
+-- what was committed stays committed, in front, whatever comes behind
+committed-through : (fs gs s : List (List ℕ)) → committed gs ≡ s → committed fs ≡ take (length (committed fs)) (committed (fs ++ gs))
+committed-through fs gs [] e = rw (committed-open fs gs e) (sym (take-length (committed fs)))
+committed-through fs gs (h ∷ hs) e =
+    let t : take (length (committed fs)) (fs ++ committed gs) ≡ take (length (committed fs)) fs = take-append-le (length (committed fs)) fs (committed gs) (committed-most fs) in
+    rw (committed-behind fs gs h hs e, t) (committed-front fs)
 
-pub sealed-more : (fs gs : List (List ℕ)) → sealed fs ≡ take (length (sealed fs)) (sealed (fs ++ gs))
-sealed-more fs gs = sealed-by fs gs (sealed gs) refl
+pub committed-more : (fs gs : List (List ℕ)) → committed fs ≡ take (length (committed fs)) (committed (fs ++ gs))
+committed-more fs gs = committed-through fs gs (committed gs) refl
 
 -- ---- what is looked up in them
 
-pub lastCount-snoc : (fs : List (List ℕ)) (f : List ℕ) → lastCount (fs ++ (f ∷ [])) ≡ commit.Count (countOf f)
+pub lastCount-snoc : (fs : List (List ℕ)) (f : List ℕ) → lastCount (fs ++ (f ∷ [])) ≡ commit.Count (commitCount f)
 unfolding lastCount
 lastCount-snoc fs f = foldl-append _ commit.Nothing fs (f ∷ [])
 
@@ -254,11 +254,11 @@ batchesIn-append (f ∷ fs) gs = rw (batchesIn-append fs gs) (batches-pick (isBa
 
 module _ (page count salt : ℕ) (body : List ℕ) where
   pub page-encoded : page < 2 ^ 32 → pageOf (encodeFrame page count salt body) ≡ page
-  unfolding headerOf
+  unfolding frameHeader
   page-encoded h = whole-back page count salt body 0 (omega arith) ∙ page-back page count salt body h
 
-  pub count-encoded : count < 2 ^ 32 → countOf (encodeFrame page count salt body) ≡ count
-  unfolding headerOf
+  pub count-encoded : count < 2 ^ 32 → commitCount (encodeFrame page count salt body) ≡ count
+  unfolding frameHeader
   count-encoded h = whole-back page count salt body 4 (omega arith) ∙ count-back page count salt body h
 
   -- "for page 4294967295 (a batch), the body decodes"

@@ -15,7 +15,7 @@ use Rattle.le.proofs.Tests.{le-or-lt}
 use Rattle.le.proofs.Fields.{field-none, field-cons, length-leBytes, field-front, field-behind, field-part}
 use Rattle.le.proofs.Compare.{both-true, same-refl, same-equal}
 use Rattle.refusal.proofs.Headers.{read, passed}
-use Rattle.wal.specs.Header.{walMagic, encodeWalHeader, headerIn, walHeaderTests, decodeWalHeader}
+use Rattle.wal.specs.Header.{walMagic, encodeWalHeader, walHeaderIn, walHeaderTests, decodeWalHeader}
 use Rattle.wal.specs.declared.WalHeader.{WalHeader}
 use Rattle.wal.specs.declared.WalHeaderDecoded.the-variants as decoded
 use Rattle.wal.proofs.Encoding.{length-walMagic, length-encodeWalHeader}
@@ -78,8 +78,8 @@ module _ (h : WalHeader) (rest : List ℕ) where
       (field-front 8 (h .«clock_high_water») _ (omega arith))
 
   -- the header that lies in front of anything is read
-  pub header-back : Written h → headerIn (encodeWalHeader h ++ rest) ≡ h
-  unfolding headerIn
+  pub header-back : Written h → walHeaderIn (encodeWalHeader h ++ rest) ≡ h
+  unfolding walHeaderIn
   header-back p = rw (version-back, salt-back (p .salt), seq-back (p .seq), clock-back (p .clock), ← p .version)
 
   pub decode-encode : Written h → decodeWalHeader (encodeWalHeader h ++ rest) ≡ decoded.Header h
@@ -89,7 +89,7 @@ module _ (h : WalHeader) (rest : List ℕ) where
       let m : sameBytes (take 8 (encodeWalHeader h ++ rest)) walMagic ≡ true = rw (row, take-at walMagic behind 8 length-walMagic) (same-refl walMagic) in
       let low : 1 ≤ field 4 8 (encodeWalHeader h ++ rest) = rw version-back (omega arith) in
       let high : field 4 8 (encodeWalHeader h ++ rest) ≤ 3 = rw version-back (omega arith) in
-      sym (read decoded.Refused (decoded.Header (headerIn (encodeWalHeader h ++ rest))) (walHeaderTests (encodeWalHeader h ++ rest)) (le-leb _ _ n) m
+      sym (read decoded.Refused (decoded.Header (walHeaderIn (encodeWalHeader h ++ rest))) (walHeaderTests (encodeWalHeader h ++ rest)) (le-leb _ _ n) m
       (rw (le-leb _ _ low, le-leb _ _ high)) (eq-eqb _ _ size-back)) ∙ ap decoded.Header (header-back p)
 
 -- ---- what a header that was decoded says of the bytes
@@ -100,14 +100,14 @@ pub record Read (l : List ℕ) (h : WalHeader) : Type 0 where
   pub low : 1 ≤ field 4 8 l
   pub high : field 4 8 l ≤ 3
   pub paged : field 4 12 l ≡ 4096
-  pub fields : headerIn l ≡ h
+  pub fields : walHeaderIn l ≡ h
 
 pub decoded-as : (l : List ℕ) (h : WalHeader) → decodeWalHeader l ≡ decoded.Header h → Read l h
 unfolding decodeWalHeader
 decoded-as l h e =
-    let p = passed decoded.Refused (decoded.Header (headerIn l)) (decoded.Header h) (λ r f. let z : _≡_ {A = ℕ} 0 1 = cc in absurd (omega arith)) (walHeaderTests l) e in
+    let p = passed decoded.Refused (decoded.Header (walHeaderIn l)) (decoded.Header h) (λ r f. let z : _≡_ {A = ℕ} 0 1 = cc in absurd (omega arith)) (walHeaderTests l) e in
     let w = both-true (leb 1 (field 4 8 l)) (leb (field 4 8 l) 3) (p .version) in
-    let d : decoded.Header (headerIn l) ≡ decoded.Header h = p .same in
+    let d : decoded.Header (walHeaderIn l) ≡ decoded.Header h = p .same in
     record {
       long = leb-true _ _ (p .long);
       leading = same-equal (take 8 l) walMagic (p .leading);
@@ -122,8 +122,8 @@ decoded-as l h e =
 inside : (a b : List ℕ) → take 32 a ≡ take 32 b → (w k : ℕ) → k + w ≤ 32 → field w k a ≡ field w k b
 inside a b e w k h = rw zero-add at (sym (field-part w k 32 0 a h) ∙ ap (λ (l : List ℕ). field w k l) e ∙ field-part w k 32 0 b h)
 
-pub header-front : (a b : List ℕ) → take 32 a ≡ take 32 b → headerIn a ≡ headerIn b
-unfolding headerIn
+pub header-front : (a b : List ℕ) → take 32 a ≡ take 32 b → walHeaderIn a ≡ walHeaderIn b
+unfolding walHeaderIn
 header-front a b e =
     let f = inside a b e in
     rw (f 4 8 (omega arith), f 4 16 (omega arith), f 4 20 (omega arith), f 8 24 (omega arith))
@@ -137,14 +137,14 @@ decode-front a b na nb e =
 
 -- a longer log, and a cut one
 module _ (l : List ℕ) where
-  pub header-append : (t : List ℕ) → 32 ≤ length l → headerIn (l ++ t) ≡ headerIn l
+  pub header-append : (t : List ℕ) → 32 ≤ length l → walHeaderIn (l ++ t) ≡ walHeaderIn l
   header-append t h = header-front (l ++ t) l (take-append-le 32 l t h)
 
   pub decode-append : (t : List ℕ) → 32 ≤ length l → decodeWalHeader (l ++ t) ≡ decodeWalHeader l
   decode-append t h =
       decode-front (l ++ t) l (simp length-append (omega arith)) h (take-append-le 32 l t h)
 
-  pub header-take : (m : ℕ) → 32 ≤ m → headerIn (take m l) ≡ headerIn l
+  pub header-take : (m : ℕ) → 32 ≤ m → walHeaderIn (take m l) ≡ walHeaderIn l
   header-take m h = header-front (take m l) l (take-take 32 m l h)
 
   pub decode-take : (m : ℕ) → 32 ≤ m → 32 ≤ length l → decodeWalHeader (take m l) ≡ decodeWalHeader l
@@ -171,7 +171,7 @@ pub record Fits (h : WalHeader) : Type 0 where
   pub seq : h .«checkpoint_seq» < 2 ^ 32
   pub clock : h .«clock_high_water» < 2 ^ 64
 
-pub header-fits : (l : List ℕ) → Bytes l → Fits (headerIn l)
-unfolding headerIn
+pub header-fits : (l : List ℕ) → Bytes l → Fits (walHeaderIn l)
+unfolding walHeaderIn
 header-fits l b =
     record { version = field-fits 4 8 l b; salt = field-fits 4 16 l b; seq = field-fits 4 20 l b; clock = field-fits 8 24 l b }

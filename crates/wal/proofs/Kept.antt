@@ -13,30 +13,30 @@ use Rattle.le.proofs.Compare.{both-true}
 use Rattle.frame.specs.Frame.{encodeFrame, bodyOf}
 use Rattle.frame.proofs.Stores.{length-encodeFrame}
 use Rattle.frame.proofs.RoundTrip.{body-back}
-use Rattle.wal.specs.Header.{headerIn}
-use Rattle.wal.specs.Recovery.{chunks, chunkAt, countOf, readableAs, good, goodFront, sealed, pageIn, Recovered, recovered, sealedFrames, goodEnd, commitPoint, walOf}
-use Rattle.wal.specs.Read.{committed, readPage, batchFrom, nextBatch}
+use Rattle.wal.specs.Header.{walHeaderIn}
+use Rattle.wal.specs.Recovery.{chunks, chunkAt, commitCount, readableAs, good, goodFront, committed, pageIn, Recovered, recovered, committedFrames, goodEnd, commitPoint, walOf}
+use Rattle.wal.specs.Read.{committedChunks, readLogPage, batchFrom, nextBatch}
 use Rattle.wal.specs.Write.{longer, joins, withFrame, withClock}
 use Rattle.wal.specs.declared.Wal.{Wal}
 use Rattle.wal.proofs.HeaderRoundTrip.{Fits, header-append}
 use Rattle.wal.proofs.Places.{length-chunks, chunks-append, chunks-cut, runs-one}
-use Rattle.wal.proofs.Frames.{good-append, good-again, good-each, undecodable-none, sealed-snoc, sealed-front, sealed-most, sealed-more, pageIn-snoc, page-encoded, count-encoded, good-encoded, good-page}
+use Rattle.wal.proofs.Frames.{good-append, good-again, good-each, undecodable-none, committed-snoc, committed-front, committed-most, committed-more, pageIn-snoc, page-encoded, count-encoded, good-encoded, good-page}
 use Rattle.wal.proofs.Recovered.{frames-front, frames-most}
 use Rattle.wal.proofs.Opening.{known-header, known-len, known-good, known-commit}
 
 -- the frames that the log knows to be good
 abbrev pub keptFrames : List ℕ → Wal → List (List ℕ)
-keptFrames l w = committed (w .«good_end») l
+keptFrames l w = committedChunks (w .«good_end») l
 
--- the numbers of an open log of bytes l: its good frames and the seals among them end where these say
+-- the numbers of an open log of bytes l: its good frames and the commits among them end where these say
 pub record Kept (l : List ℕ) (w : Wal) : Type 0 where
   pub len : w .len ≡ length l
   pub header : Fits (w .header)
-  pub salt : w .header .salt ≡ headerIn l .salt
+  pub salt : w .header .salt ≡ walHeaderIn l .salt
   pub all-good : goodFront (w .header .salt) (keptFrames l w) ≡ keptFrames l w
   pub end : w .«good_end» ≡ chunkAt (length (keptFrames l w))
   pub inside : w .«good_end» ≤ length l
-  pub commit : w .«last_commit_offset» ≡ chunkAt (length (sealed (keptFrames l w)))
+  pub commit : w .«last_commit_offset» ≡ chunkAt (length (committed (keptFrames l w)))
 
 -- ---- as it was opened
 
@@ -47,16 +47,16 @@ good-within l h = omega (arith, frames-most l, length-chunks l)
 known-frames-kept : (l : List ℕ) → chunks (take (goodEnd (recovered l)) l) ≡ recovered l .frames
 known-frames-kept l = chunks-cut (length (recovered l .frames)) l (frames-most l) ∙ sym (frames-front l)
 
-frames-good : (l : List ℕ) → goodFront (headerIn l .salt) (recovered l .frames) ≡ recovered l .frames
+frames-good : (l : List ℕ) → goodFront (walHeaderIn l .salt) (recovered l .frames) ≡ recovered l .frames
 unfolding recovered
 frames-good l =
-    let fs : List (List ℕ) = goodFront (headerIn l .salt) (chunks l) in
+    let fs : List (List ℕ) = goodFront (walHeaderIn l .salt) (chunks l) in
     let t : take (length fs) fs ≡ fs = take-length fs in
-    rw t at (good-again (headerIn l .salt) (chunks l) (length fs))
+    rw t at (good-again (walHeaderIn l .salt) (chunks l) (length fs))
 
 pub kept-known : (l : List ℕ) (w : Wal) → 32 ≤ length l → w ≡ walOf (length l) (recovered l) → Fits (w .header) → Kept l w
 kept-known l w h k f =
-    let s : w .header .salt ≡ headerIn l .salt = rw (known-header l w k) in
+    let s : w .header .salt ≡ walHeaderIn l .salt = rw (known-header l w k) in
     let c : keptFrames l w ≡ recovered l .frames = rw (known-good l w k) (known-frames-kept l) in
     record {
       len = known-len l w k;
@@ -74,7 +74,7 @@ module _ (l : List ℕ) (w : Wal) (k : Kept l w) where
   pub kept-long : 32 ≤ length l
   kept-long = omega (arith, k .inside, k .end)
 
-  salt-kept : (t : List ℕ) → w .header .salt ≡ headerIn (l ++ t) .salt
+  salt-kept : (t : List ℕ) → w .header .salt ≡ walHeaderIn (l ++ t) .salt
   salt-kept t = k .salt ∙ rw (header-append l t kept-long)
 
   -- it joins nothing
@@ -114,12 +114,12 @@ module _ (l : List ℕ) (w : Wal) (k : Kept l w) where
     count-more : length (keptFrames l w ++ (f ∷ [])) ≡ length (keptFrames l w) + 1
     count-more = simp length-append
 
-    commit-more : (b : Bool) → eqb (countOf f) 0 ≡ b
-        → pick (not b) (w .len + 4112) (w .«last_commit_offset») ≡ chunkAt (length (sealed (keptFrames l w ++ (f ∷ []))))
-    commit-more true c = rw (sealed-snoc (keptFrames l w) f, c) (k .commit)
-    commit-more false c = rw (sealed-snoc (keptFrames l w) f, c, count-more) (omega (arith, k .end, e))
+    commit-more : (b : Bool) → eqb (commitCount f) 0 ≡ b
+        → pick (not b) (w .len + 4112) (w .«last_commit_offset») ≡ chunkAt (length (committed (keptFrames l w ++ (f ∷ []))))
+    commit-more true c = rw (committed-snoc (keptFrames l w) f, c) (k .commit)
+    commit-more false c = rw (committed-snoc (keptFrames l w) f, c, count-more) (omega (arith, k .end, e))
 
-    kept-joined : Kept (l ++ f) (longer true w (countOf f))
+    kept-joined : Kept (l ++ f) (longer true w (commitCount f))
     unfolding longer
     kept-joined =
         record {
@@ -129,7 +129,7 @@ module _ (l : List ℕ) (w : Wal) (k : Kept l w) where
           all-good = rw kept-more good-more;
           end = rw (kept-more, count-more) (omega (arith, k .end, e));
           inside = rw length-more (omega (arith, k .len));
-          commit = rw kept-more (commit-more (eqb (countOf f) 0) refl);
+          commit = rw kept-more (commit-more (eqb (commitCount f) 0) refl);
         }
 
   -- a frame as it is appended, good or not
@@ -144,7 +144,7 @@ module _ (l : List ℕ) (w : Wal) (k : Kept l w) where
     joined-or-aside true j =
         let p = both-true (readableAs page body) (eqb (w .len) (w .«good_end»)) j in
         let g : good (w .header .salt) added ≡ true = good-encoded page count (w .header .salt) body hp (k .header .salt) ∙ p .0 in
-        let c : countOf added ≡ count = count-encoded page count (w .header .salt) body hc in
+        let c : commitCount added ≡ count = count-encoded page count (w .header .salt) body hc in
         rw c at (kept-joined added length-added g (eqb-true _ _ (p .1)))
     joined-or-aside false j = kept-aside added count length-added
 
@@ -170,72 +170,72 @@ module _ (l : List ℕ) (w : Wal) (k : Kept l w) where
   kept-front : keptFrames l w ≡ take (length (keptFrames l w)) (chunks l)
   kept-front =
       let n : length (keptFrames l w) ≤ length (chunks l) = omega (arith, k .end, k .inside, length-chunks l) in
-      ap (λ (m : ℕ). committed m l) (k .end) ∙ chunks-cut (length (keptFrames l w)) l n
+      ap (λ (m : ℕ). committedChunks m l) (k .end) ∙ chunks-cut (length (keptFrames l w)) l n
 
-  -- reads go through the sealed ones of the kept frames
-  pub kept-committed : committed (w .«last_commit_offset») l ≡ sealed (keptFrames l w)
+  -- reads go through the committed ones of the kept frames
+  pub kept-committed : committedChunks (w .«last_commit_offset») l ≡ committed (keptFrames l w)
   kept-committed =
       let fs : List (List ℕ) = keptFrames l w in
-      let m : length (sealed fs) ≤ length (chunks l) = omega (arith, sealed-most fs, k .end, k .inside, length-chunks l) in
-      let t : take (length (sealed fs)) (take (length fs) (chunks l)) ≡ take (length (sealed fs)) (chunks l) = take-take (length (sealed fs)) (length fs) (chunks l) (sealed-most fs) in
-      rw (k .commit) (chunks-cut (length (sealed fs)) l m) ∙ sym t ∙ ap (take (length (sealed fs))) (sym kept-front) ∙ sym (sealed-front fs)
+      let m : length (committed fs) ≤ length (chunks l) = omega (arith, committed-most fs, k .end, k .inside, length-chunks l) in
+      let t : take (length (committed fs)) (take (length fs) (chunks l)) ≡ take (length (committed fs)) (chunks l) = take-take (length (committed fs)) (length fs) (chunks l) (committed-most fs) in
+      rw (k .commit) (chunks-cut (length (committed fs)) l m) ∙ sym t ∙ ap (take (length (committed fs))) (sym kept-front) ∙ sym (committed-front fs)
 
   -- .. so each is good
-  sealed-good : goodFront (w .header .salt) (sealed (keptFrames l w)) ≡ sealed (keptFrames l w)
-  sealed-good =
+  committed-good : goodFront (w .header .salt) (committed (keptFrames l w)) ≡ committed (keptFrames l w)
+  committed-good =
       let fs : List (List ℕ) = keptFrames l w in
-      rw (sealed-front fs) (rw (k .all-good) at (good-again (w .header .salt) fs (length (sealed fs))))
+      rw (committed-front fs) (rw (k .all-good) at (good-again (w .header .salt) fs (length (committed fs))))
 
-  pub kept-good : (i : ℕ) → i < length (committed (w .«last_commit_offset») l) → good (w .header .salt) (getD (committed (w .«last_commit_offset») l) i []) ≡ true
+  pub kept-good : (i : ℕ) → i < length (committedChunks (w .«last_commit_offset») l) → good (w .header .salt) (getD (committedChunks (w .«last_commit_offset») l) i []) ≡ true
   kept-good i h =
-      let n : i < length (sealed (keptFrames l w)) = rw kept-committed at h in
-      rw kept-committed (rw sealed-good at (good-each (w .header .salt) (sealed (keptFrames l w)) i (rw sealed-good n)))
+      let n : i < length (committed (keptFrames l w)) = rw kept-committed at h in
+      rw kept-committed (rw committed-good at (good-each (w .header .salt) (committed (keptFrames l w)) i (rw committed-good n)))
 
   -- the good frames that an opening finds begin with the kept ones
   abbrev later : List (List ℕ)
-  later = goodFront (headerIn l .salt) (drop (length (keptFrames l w)) (chunks l))
+  later = goodFront (walHeaderIn l .salt) (drop (length (keptFrames l w)) (chunks l))
 
   pub kept-read : recovered l .frames ≡ keptFrames l w ++ later
   unfolding recovered
   kept-read =
       let fs : List (List ℕ) = keptFrames l w in
       let d : chunks l ≡ fs ++ drop (length fs) (chunks l) = sym (take-append-drop (length fs) (chunks l)) ∙ ap (_++ drop (length fs) (chunks l)) (sym kept-front) in
-      ap (goodFront (headerIn l .salt)) d ∙ good-append (headerIn l .salt) fs (drop (length fs) (chunks l)) (rw (k .salt) at (k .all-good))
+      ap (goodFront (walHeaderIn l .salt)) d ∙ good-append (walHeaderIn l .salt) fs (drop (length fs) (chunks l)) (rw (k .salt) at (k .all-good))
 
-  -- .. and its sealed frames with those that reads go through
-  pub kept-sealed : committed (w .«last_commit_offset») l ≡ take (length (committed (w .«last_commit_offset») l)) (sealedFrames (recovered l))
-  kept-sealed = rw (kept-committed, kept-read) (sealed-more (keptFrames l w) later)
+  -- .. and its committed frames with those that reads go through
+  pub kept-committed-front : committedChunks (w .«last_commit_offset») l ≡ take (length (committedChunks (w .«last_commit_offset») l)) (committedFrames (recovered l))
+  kept-committed-front = rw (kept-committed, kept-read) (committed-more (keptFrames l w) later)
 
   -- "Per page the last sealed frame counts"
-  pub kept-page : (p : ℕ) → (p ≡ 4294967295 → ⊥) → readPage l (w .«last_commit_offset») p ≡ bodyOf (pageIn p (sealed (keptFrames l w)))
-  unfolding readPage
+  pub kept-page : (p : ℕ) → (p ≡ 4294967295 → ⊥) → readLogPage l (w .«last_commit_offset») p ≡ bodyOf (pageIn p (committed (keptFrames l w)))
+  unfolding readLogPage
   kept-page p n = rw (ne-eqb p 4294967295 n, kept-committed)
 
   -- "batches come in log order"
-  pub kept-batch : (i : ℕ) → nextBatch l (w .«last_commit_offset») i ≡ batchFrom i (drop i (sealed (keptFrames l w)))
+  pub kept-batch : (i : ℕ) → nextBatch l (w .«last_commit_offset») i ≡ batchFrom i (drop i (committed (keptFrames l w)))
   unfolding nextBatch
   kept-batch i = rw kept-committed
 
   -- where nothing stands behind the good frames, all that an opening finds is kept
-  pub kept-whole : w .len ≡ w .«good_end» → recovered l ≡ record { header = headerIn l; frames = keptFrames l w; stopped = false }
+  pub kept-whole : w .len ≡ w .«good_end» → recovered l ≡ record { header = walHeaderIn l; frames = keptFrames l w; stopped = false }
   unfolding recovered
   kept-whole e =
       let fs : List (List ℕ) = keptFrames l w in
       let c : chunks l ≡ fs = kept-all e in
-      let g : goodFront (headerIn l .salt) fs ≡ fs = rw (k .salt) at (k .all-good) in
-      rw (c, g, undecodable-none (headerIn l .salt) fs g)
+      let g : goodFront (walHeaderIn l .salt) fs ≡ fs = rw (k .salt) at (k .all-good) in
+      rw (c, g, undecodable-none (walHeaderIn l .salt) fs g)
 
   pub kept-commit : w .len ≡ w .«good_end» → w .«last_commit_offset» ≡ commitPoint (recovered l)
   kept-commit e = k .commit ∙ ap (λ (r : Recovered). commitPoint r) (sym (kept-whole e))
 
   -- a frame that joins nothing changes no read
-  pub aside-same : (t : List ℕ) (count : ℕ) → committed (longer false w count .«last_commit_offset») (l ++ t) ≡ committed (w .«last_commit_offset») l
+  pub aside-same : (t : List ℕ) (count : ℕ) → committedChunks (longer false w count .«last_commit_offset») (l ++ t) ≡ committedChunks (w .«last_commit_offset») l
   unfolding longer
   aside-same t count =
-      let h : w .«last_commit_offset» ≤ length l = omega (arith, k .commit, k .end, k .inside, sealed-most (keptFrames l w)) in
+      let h : w .«last_commit_offset» ≤ length l = omega (arith, k .commit, k .end, k .inside, committed-most (keptFrames l w)) in
       rw (take-append-le (w .«last_commit_offset») l t h)
 
--- a page that is sealed where it joins reads as its bytes
+-- a page that is committed where it joins reads as its bytes
 module _ (l : List ℕ) (w : Wal) (k : Kept l w) (page count : ℕ) (body : List ℕ) (nb : length body ≡ 4096) (hp : page < 2 ^ 32) (hc : count < 2 ^ 32)
     (np : page ≡ 4294967295 → ⊥) (e : w .len ≡ w .«good_end») where
   abbrev page-frame : List ℕ
@@ -250,12 +250,12 @@ module _ (l : List ℕ) (w : Wal) (k : Kept l w) (page count : ℕ) (body : List
       let g : good (w .header .salt) page-frame ≡ true = good-page page count (w .header .salt) body hp (k .header .salt) np in
       rw (eq-eqb _ _ e) (kept-more l w k page-frame (length-encodeFrame page count (w .header .salt) body nb) g e)
 
-  pub joined-shown : (count ≡ 0 → ⊥) → readPage (l ++ page-frame) (withFrame w count .«last_commit_offset») page ≡ body
+  pub joined-shown : (count ≡ 0 → ⊥) → readLogPage (l ++ page-frame) (withFrame w count .«last_commit_offset») page ≡ body
   joined-shown nc =
       kept-page (l ++ page-frame) (withFrame w count) page-kept page np
       ∙ rw (
         page-joined,
-        sealed-snoc (keptFrames l w) page-frame,
+        committed-snoc (keptFrames l w) page-frame,
         count-encoded page count (w .header .salt) body hc,
         ne-eqb count 0 nc,
         pageIn-snoc page (keptFrames l w) page-frame,

@@ -11,7 +11,7 @@ use lib.Seq.{take-at, drop-at, take-add, drop-drop}
 use Rattle.le.specs.Choice.{pick}
 use Rattle.le.proofs.Tests.{le-or-lt}
 use Rattle.frame.specs.Frame.{frameAt, intactAt}
-use Rattle.wal.specs.Header.{headerIn}
+use Rattle.wal.specs.Header.{walHeaderIn}
 use Rattle.wal.specs.Recovery.{runs, wholeRuns, chunks, chunkAt, good, goodAt, goodFront, recovered}
 use Rattle.wal.proofs.HeaderRoundTrip.{header-append}
 use Rattle.wal.proofs.Places.{length-chunks, chunk-there, take-runs, runs-front}
@@ -57,11 +57,11 @@ module _ (head : List ℕ) (fs : List (List ℕ)) (t : List ℕ) (n : length hea
   laid-chunks = rw (drop-at head (joined fs ++ t) 32 n) (joined-runs t w)
 
   -- a log of that shape is read as those frames
-  pub laid-recovered : goodFront (headerIn head .salt) fs ≡ fs → goodAt t 0 (headerIn head .salt) ≡ false
-      → recovered (head ++ (joined fs ++ t)) ≡ record { header = headerIn head; frames = fs; stopped = intactAt t 0 (headerIn head .salt) }
+  pub laid-recovered : goodFront (walHeaderIn head .salt) fs ≡ fs → goodAt t 0 (walHeaderIn head .salt) ≡ false
+      → recovered (head ++ (joined fs ++ t)) ≡ record { header = walHeaderIn head; frames = fs; stopped = intactAt t 0 (walHeaderIn head .salt) }
   unfolding recovered
   laid-recovered g b =
-      let s : ℕ = headerIn head .salt in
+      let s : ℕ = walHeaderIn head .salt in
       let p = no-front s t b in
       rw (header-append head (joined fs ++ t) (omega arith), laid-chunks, good-append s fs (wholeRuns t) g, undecodable-append s fs (wholeRuns t) g, p .0, p .1, append-nil)
 
@@ -121,14 +121,14 @@ module _ (l : List ℕ) (h : 32 ≤ length l) where
       sym (rw (j, d, take-append-drop (4112 * read-count) (drop 32 l), take-append-drop 32 l))
 
   next-bad : drop read-count (chunks l) ≡ frameAt (chunkAt read-count) l ∷ drop (suc read-count) (chunks l)
-      → good (headerIn l .salt) (frameAt (chunkAt read-count) l) ≡ false
+      → good (walHeaderIn l .salt) (frameAt (chunkAt read-count) l) ≡ false
   unfolding recovered
-  next-bad d = stop-bad (headerIn l .salt) (chunks l) _ _ d
+  next-bad d = stop-bad (walHeaderIn l .salt) (chunks l) _ _ d
 
-  pub laid-rest : goodAt rest-of 0 (headerIn l .salt) ≡ false
+  pub laid-rest : goodAt rest-of 0 (walHeaderIn l .salt) ≡ false
   unfolding goodAt intactAt
   laid-rest =
       ⊎-elim
-      (λ k. front-good (headerIn l .salt) rest-of k ∙ next-bad (chunk-there read-count l (omega (arith, length-drop (chunkAt read-count) l))))
+      (λ k. front-good (walHeaderIn l .salt) rest-of k ∙ next-bad (chunk-there read-count l (omega (arith, length-drop (chunkAt read-count) l))))
       (λ k. rw (lt-leb 4112 (length rest-of) k))
       (le-or-lt 4112 (length rest-of))

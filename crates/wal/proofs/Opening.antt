@@ -10,8 +10,8 @@ use lib.ListN.{length, take, length-append}
 use lib.Seq.{length-take-le}
 use Rattle.le.specs.Choice.{pick}
 use Rattle.refusal.specs.declared.Refusal.the-variants as refusal
-use Rattle.wal.specs.Header.{headerIn, decodeWalHeader}
-use Rattle.wal.specs.Recovery.{chunks, countOf, sealed, lastCount, Recovered, recovered, sealedFrames, goodEnd, commitPoint, lastCommit, frameCount, walOf, walArea, openedBy, openLog}
+use Rattle.wal.specs.Header.{walHeaderIn, decodeWalHeader}
+use Rattle.wal.specs.Recovery.{chunks, commitCount, committed, lastCount, Recovered, recovered, committedFrames, goodEnd, commitPoint, lastCommit, frameCount, walOf, walArea, openedBy, openLog}
 use Rattle.wal.specs.Write.{emptyWal, longer, withFrame}
 use Rattle.wal.specs.declared.WalHeader.{WalHeader}
 use Rattle.wal.specs.declared.WalHeaderDecoded.{WalHeaderDecoded}
@@ -21,20 +21,20 @@ use Rattle.wal.specs.declared.WalOpened.{WalOpened}
 use Rattle.wal.specs.declared.WalOpened.the-variants as opened
 use Rattle.wal.proofs.HeaderRoundTrip.{decoded-as}
 use Rattle.wal.proofs.Places.{length-chunks}
-use Rattle.wal.proofs.Frames.{count-most, sealed-snoc, sealed-again, lastCount-snoc}
+use Rattle.wal.proofs.Frames.{count-most, committed-snoc, committed-again, lastCount-snoc}
 use Rattle.wal.proofs.Recovered.{extended, commit-within, recovered-cut}
 
 -- ---- one frame more
 
 -- without frames
 pub wal-empty : (h : WalHeader) → walOf 32 (record { header = h; frames = []; stopped = false }) ≡ emptyWal h
-unfolding walOf emptyWal sealed lastCount
+unfolding walOf emptyWal committed lastCount
 wal-empty h = refl
 
 module _ (n : ℕ) (r : Recovered) (f : List ℕ) where
-  extended-sealed : (b : Bool) → eqb (countOf f) 0 ≡ b → sealedFrames (extended r f) ≡ pick b (sealedFrames r) (r .frames ++ (f ∷ []))
-  extended-sealed true e = sealed-snoc (r .frames) f ∙ rw e
-  extended-sealed false e = sealed-snoc (r .frames) f ∙ rw e
+  extended-committed : (b : Bool) → eqb (commitCount f) 0 ≡ b → committedFrames (extended r f) ≡ pick b (committedFrames r) (r .frames ++ (f ∷ []))
+  extended-committed true e = committed-snoc (r .frames) f ∙ rw e
+  extended-committed false e = committed-snoc (r .frames) f ∙ rw e
 
   frames-one : length (r .frames ++ (f ∷ [])) ≡ length (r .frames) + 1
   frames-one = simp length-append
@@ -48,16 +48,16 @@ module _ (n : ℕ) (r : Recovered) (f : List ℕ) where
   at-end : 32 + 4112 * length (r .frames) ≡ n → eqb n (32 + 4112 * length (r .frames)) ≡ true
   at-end k = eq-eqb _ _ (sym k)
 
-  with-frame : (b : Bool) → eqb (countOf f) 0 ≡ b → 32 + 4112 * length (r .frames) ≡ n → r .stopped ≡ false → length (r .frames) + 1 < 2 ^ 64
-      → walOf (n + 4112) (extended r f) ≡ withFrame (walOf n r) (countOf f)
+  with-frame : (b : Bool) → eqb (commitCount f) 0 ≡ b → 32 + 4112 * length (r .frames) ≡ n → r .stopped ≡ false → length (r .frames) + 1 < 2 ^ 64
+      → walOf (n + 4112) (extended r f) ≡ withFrame (walOf n r) (commitCount f)
   unfolding walOf longer
-  with-frame true e k s h = rw (extended-sealed true e, frames-one, e, s, count-one h, end-one k, at-end k)
-  with-frame false e k s h = rw (extended-sealed false e, frames-one, e, s, count-one h, end-one k, at-end k, lastCount-snoc (r .frames) f)
+  with-frame true e k s h = rw (extended-committed true e, frames-one, e, s, count-one h, end-one k, at-end k)
+  with-frame false e k s h = rw (extended-committed false e, frames-one, e, s, count-one h, end-one k, at-end k, lastCount-snoc (r .frames) f)
 
   -- a good frame read or appended at the log's length, behind frames only
   pub wal-append : 32 + 4112 * length (r .frames) ≡ n → r .stopped ≡ false → length (r .frames) + 1 < 2 ^ 64
-      → walOf (n + 4112) (extended r f) ≡ withFrame (walOf n r) (countOf f)
-  wal-append k s h = with-frame (eqb (countOf f) 0) refl k s h
+      → walOf (n + 4112) (extended r f) ≡ withFrame (walOf n r) (commitCount f)
+  wal-append k s h = with-frame (eqb (commitCount f) 0) refl k s h
 
 -- ---- what an open log is
 
@@ -87,7 +87,7 @@ open-known l w e =
     let a = area-of (leb (length l) walArea) _ w e in
     let b = opened-by (decodeWalHeader l) (walOf (length l) (recovered l)) w (a .1) in
     let r = decoded-as l (b .found) (b .header) in
-    let h : headerIn l ≡ w .header = ap (λ (x : Wal). x .header) (b .same) in
+    let h : walHeaderIn l ≡ w .header = ap (λ (x : Wal). x .header) (b .same) in
     record {
       area = leb-true _ _ (a .0);
       long = r .long;
@@ -111,10 +111,10 @@ opens l h a d = sym (opened-as l a d)
 -- the counted frames are among the chunks
 pub frameCount-most : (l : List ℕ) → frameCount (recovered l) ≤ (length l - 32) / 4112
 unfolding recovered
-frameCount-most l = omega (arith, count-most (headerIn l .salt) (chunks l), length-chunks l)
+frameCount-most l = omega (arith, count-most (walHeaderIn l .salt) (chunks l), length-chunks l)
 
 module _ (l : List ℕ) (w : Wal) (k : w ≡ walOf (length l) (recovered l)) where
-  pub known-header : w .header ≡ headerIn l
+  pub known-header : w .header ≡ walHeaderIn l
   unfolding walOf recovered
   known-header = ap (λ (x : Wal). x .header) k
 
@@ -157,12 +157,12 @@ pub cut-known : (l : List ℕ) → walOf (commitPoint (recovered l)) (recovered 
       «good_end» = commitPoint (recovered l);
       «last_commit_offset» = commitPoint (recovered l);
       «last_commit_page_count» = lastCommit (recovered l);
-      «frame_count» = length (sealedFrames (recovered l));
+      «frame_count» = length (committedFrames (recovered l));
     }
 unfolding walOf
 cut-known l =
-    let z : length (sealedFrames (recovered l)) + 0 ≡ length (sealedFrames (recovered l)) = omega arith in
-    rw (recovered-cut l, sealed-again (recovered l .frames), z)
+    let z : length (committedFrames (recovered l)) + 0 ≡ length (committedFrames (recovered l)) = omega arith in
+    rw (recovered-cut l, committed-again (recovered l .frames), z)
 
 pub length-cut : (l : List ℕ) → 32 ≤ length l → length (take (commitPoint (recovered l)) l) ≡ commitPoint (recovered l)
 length-cut l h = length-take-le (commitPoint (recovered l)) l (commit-within l h)

@@ -12,10 +12,10 @@ use lib.ListN.{length, take, drop, getD, length-take}
 use lib.Seq.{take-all, take-take, getD-drop, drop-drop}
 use Rattle.le.proofs.Fields.{drop-take}
 use Rattle.le.specs.Choice.{pick}
-use Rattle.frame.specs.Frame.{frameAt, headerOf, bodyOf}
+use Rattle.frame.specs.Frame.{frameAt, frameHeader, bodyOf}
 use Rattle.frame.proofs.Places.{body-there}
-use Rattle.wal.specs.Recovery.{chunks, chunkAt, pageOf, batchPage, isBatch, pageIn, batchesIn, recovered, sealedFrames, walOf}
-use Rattle.wal.specs.Read.{committed, readPage, bodyAt, unlessLater, placeFrom, findPage, pageAt, frameIn, batchFrom, nextBatch}
+use Rattle.wal.specs.Recovery.{chunks, chunkAt, pageOf, batchPage, isBatch, pageIn, batchesIn, recovered, committedFrames, walOf}
+use Rattle.wal.specs.Read.{committedChunks, readLogPage, bodyAt, unlessLater, pagePlaceFrom, findLogPage, pageAt, frameIn, batchFrom, nextBatch}
 use Rattle.wal.specs.declared.Wal.{Wal}
 use Rattle.wal.specs.declared.PagePlace.{PagePlace}
 use Rattle.wal.specs.declared.PagePlace.the-variants as place
@@ -24,7 +24,7 @@ use Rattle.wal.specs.declared.BatchFound.{BatchFound}
 use Rattle.wal.specs.declared.BatchFound.the-variants as batch
 use Rattle.wal.proofs.Places.{length-chunks, chunk-gone, chunk-there, get-chunk, take-chunk}
 use Rattle.wal.proofs.Frames.{pageIn-snoc}
-use Rattle.wal.proofs.Recovered.{committed-sealed}
+use Rattle.wal.proofs.Recovered.{committed-committed}
 use Rattle.wal.proofs.Opening.{known-commit}
 
 -- ---- a page's place, from the last chunk back
@@ -34,8 +34,8 @@ place-pick true at r here = refl
 place-pick false at r here = refl
 
 place-snoc : (p i : ℕ) (fs : List (List ℕ)) (f : List ℕ)
-    → placeFrom p i (fs ++ (f ∷ [])) ≡ pick (eqb (pageOf f) p) (place.At (bodyAt (i + length fs))) (placeFrom p i fs)
-unfolding placeFrom
+    → pagePlaceFrom p i (fs ++ (f ∷ [])) ≡ pick (eqb (pageOf f) p) (place.At (bodyAt (i + length fs))) (pagePlaceFrom p i fs)
+unfolding pagePlaceFrom
 place-snoc p i [] f = rw add-zero
 place-snoc p i (g ∷ gs) f =
     let e : i + 1 + length gs ≡ i + length (g ∷ gs) = omega arith in
@@ -44,17 +44,17 @@ place-snoc p i (g ∷ gs) f =
 module _ (l : List ℕ) (p : ℕ) where
   -- one chunk more
   more : (i : ℕ) → i < (length l - 32) / 4112
-      → placeFrom p 0 (take (suc i) (chunks l)) ≡ pick (eqb (pageOf (frameAt (chunkAt i) l)) p) (place.At (bodyAt i)) (placeFrom p 0 (take i (chunks l)))
+      → pagePlaceFrom p 0 (take (suc i) (chunks l)) ≡ pick (eqb (pageOf (frameAt (chunkAt i) l)) p) (place.At (bodyAt i)) (pagePlaceFrom p 0 (take i (chunks l)))
   more i h =
       let n : 0 + length (take i (chunks l)) ≡ i = rw (length-take, length-chunks) (omega arith) in
       let e = place-snoc p 0 (take i (chunks l)) (frameAt (chunkAt i) l) in
       rw (take-chunk i l (omega arith)) (rw n at e)
 
-  pub place-start : (n : ℕ) → n ≡ (length l - 32) / 4112 → placeFrom p 0 (take n (chunks l)) ≡ placeFrom p 0 (chunks l)
+  pub place-start : (n : ℕ) → n ≡ (length l - 32) / 4112 → pagePlaceFrom p 0 (take n (chunks l)) ≡ pagePlaceFrom p 0 (chunks l)
   place-start n e = rw (take-all n (chunks l) (omega (arith, length-chunks l)))
 
   pub place-here : (i : ℕ) → 0 < i → i ≤ (length l - 32) / 4112 → pageOf (frameAt (chunkAt (i - 1)) l) ≡ p
-      → place.At (chunkAt (i - 1) + 16) ≡ placeFrom p 0 (take i (chunks l))
+      → place.At (chunkAt (i - 1) + 16) ≡ pagePlaceFrom p 0 (take i (chunks l))
   place-here zero h k e = absurd (omega arith)
   place-here (suc i) h k e =
       let m : suc i - 1 ≡ i = omega arith in
@@ -62,15 +62,15 @@ module _ (l : List ℕ) (p : ℕ) where
       rw (m, more i (omega arith), eq-eqb _ _ f)
 
   pub place-before : (i : ℕ) → 0 < i → i ≤ (length l - 32) / 4112 → (pageOf (frameAt (chunkAt (i - 1)) l) ≡ p → ⊥)
-      → placeFrom p 0 (take (i - 1) (chunks l)) ≡ placeFrom p 0 (take i (chunks l))
+      → pagePlaceFrom p 0 (take (i - 1) (chunks l)) ≡ pagePlaceFrom p 0 (take i (chunks l))
   place-before zero h k e = absurd (omega arith)
   place-before (suc i) h k e =
       let m : suc i - 1 ≡ i = omega arith in
       let f : pageOf (frameAt (chunkAt i) l) ≡ p → ⊥ = rw m at e in
       rw (m, more i (omega arith), ne-eqb _ _ f)
 
-  pub place-none : (i : ℕ) → i ≡ 0 → place.Nothing ≡ placeFrom p 0 (take i (chunks l))
-  unfolding placeFrom
+  pub place-none : (i : ℕ) → i ≡ 0 → place.Nothing ≡ pagePlaceFrom p 0 (take i (chunks l))
+  unfolding pagePlaceFrom
   place-none i e = rw e
 
 -- ---- the page there
@@ -91,24 +91,24 @@ module _ (l : List ℕ) (end p : ℕ) where
       rw (body-there (chunkAt i) (take end l), d) (take-take 4096 (end - (chunkAt i + 16)) (drop (chunkAt i + 16) l) (omega arith))
 
   up-to : (i : ℕ) → i ≤ (length (take end l) - 32) / 4112
-      → bodyOf (pageIn p (take i (committed end l))) ≡ pageAt l (placeFrom p 0 (take i (committed end l)))
-  unfolding pageIn placeFrom bodyOf
+      → bodyOf (pageIn p (take i (committedChunks end l))) ≡ pageAt l (pagePlaceFrom p 0 (take i (committedChunks end l)))
+  unfolding pageIn pagePlaceFrom bodyOf
   up-to zero h = refl
   up-to (suc i) h =
       let s = take end l in
       rw (more s p i (omega arith), take-chunk i s (omega arith), pageIn-snoc p (take i (chunks s)) (frameAt (chunkAt i) s))
-      (one-more l (frameAt (chunkAt i) s) (pageIn p (take i (chunks s))) (bodyAt i) (placeFrom p 0 (take i (chunks s))) (eqb (pageOf (frameAt (chunkAt i) s)) p) (body-same i (omega arith)) (up-to i (omega arith)))
+      (one-more l (frameAt (chunkAt i) s) (pageIn p (take i (chunks s))) (bodyAt i) (pagePlaceFrom p 0 (take i (chunks s))) (eqb (pageOf (frameAt (chunkAt i) s)) p) (body-same i (omega arith)) (up-to i (omega arith)))
 
-  judged : (b : Bool) → pick b [] (bodyOf (pageIn p (committed end l))) ≡ pageAt l (pick b place.Nothing (placeFrom p 0 (committed end l)))
+  judged : (b : Bool) → pick b [] (bodyOf (pageIn p (committedChunks end l))) ≡ pageAt l (pick b place.Nothing (pagePlaceFrom p 0 (committedChunks end l)))
   judged true = refl
   judged false =
       let n = (length (take end l) - 32) / 4112 in
-      let t : take n (committed end l) ≡ committed end l = take-all n (committed end l) (omega (arith, length-chunks (take end l))) in
+      let t : take n (committedChunks end l) ≡ committedChunks end l = take-all n (committedChunks end l) (omega (arith, length-chunks (take end l))) in
       rw t at (up-to n (omega arith))
 
   -- a page's bytes are those at its place
-  pub read-found : readPage l end p ≡ pageAt l (findPage l end p)
-  unfolding readPage findPage
+  pub read-found : readLogPage l end p ≡ pageAt l (findLogPage l end p)
+  unfolding readLogPage findLogPage
   read-found = judged (eqb p batchPage)
 
 -- ---- a batch
@@ -131,7 +131,7 @@ module _ (l : List ℕ) (i : ℕ) where
 -- ---- a frame at an index
 
 module _ (l : List ℕ) (i : ℕ) where
-  pub frame-there : i < (length l - 32) / 4112 → found.Frame (chunkAt i) (headerOf (frameAt (chunkAt i) l)) ≡ frameIn l i
+  pub frame-there : i < (length l - 32) / 4112 → found.Frame (chunkAt i) (frameHeader (frameAt (chunkAt i) l)) ≡ frameIn l i
   unfolding frameIn
   frame-there h = rw (length-chunks l, lt-ltb _ _ h, get-chunk i l (omega arith))
 
@@ -142,17 +142,17 @@ module _ (l : List ℕ) (i : ℕ) where
 -- ---- an open log
 
 module _ (l : List ℕ) (w : Wal) (k : w ≡ walOf (length l) (recovered l)) where
-  -- the chunks that reads go through are the sealed frames
-  pub known-committed : committed (w .«last_commit_offset») l ≡ sealedFrames (recovered l)
-  known-committed = rw (known-commit l w k) (committed-sealed l)
+  -- the chunks that reads go through are the committed frames
+  pub known-committed : committedChunks (w .«last_commit_offset») l ≡ committedFrames (recovered l)
+  known-committed = rw (known-commit l w k) (committed-committed l)
 
   -- "Per page the last sealed frame counts"
-  pub known-page : (p : ℕ) → (p ≡ 4294967295 → ⊥) → readPage l (w .«last_commit_offset») p ≡ bodyOf (pageIn p (sealedFrames (recovered l)))
-  unfolding readPage
+  pub known-page : (p : ℕ) → (p ≡ 4294967295 → ⊥) → readLogPage l (w .«last_commit_offset») p ≡ bodyOf (pageIn p (committedFrames (recovered l)))
+  unfolding readLogPage
   known-page p n = rw (ne-eqb p 4294967295 n, known-committed)
 
   -- "batches come in log order"
-  pub known-batch : (i : ℕ) → nextBatch l (w .«last_commit_offset») i ≡ batchFrom i (drop i (sealedFrames (recovered l)))
+  pub known-batch : (i : ℕ) → nextBatch l (w .«last_commit_offset») i ≡ batchFrom i (drop i (committedFrames (recovered l)))
   unfolding nextBatch
   known-batch i = rw known-committed
 

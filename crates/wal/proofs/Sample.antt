@@ -7,14 +7,14 @@ use native.Mathlib.Omega.{arith}
 use lib.ListN.{length, length-append, replicate, length-replicate}
 use Rattle.frame.specs.Frame.{encodeFrame, intactAt}
 use Rattle.frame.proofs.Stores.{length-encodeFrame}
-use Rattle.wal.specs.Header.{encodeWalHeader, headerIn}
-use Rattle.wal.specs.Recovery.{countOf, good, goodAt, goodFront, sealed, lastCount, recovered, walOf, openLog}
+use Rattle.wal.specs.Header.{encodeWalHeader, walHeaderIn}
+use Rattle.wal.specs.Recovery.{commitCount, good, goodAt, goodFront, committed, lastCount, recovered, walOf, openLog}
 use Rattle.wal.specs.Write.{createdHeader}
 use Rattle.wal.specs.declared.LastCommit.the-variants as commit
 use Rattle.wal.specs.declared.WalOpened.the-variants as opened
 use Rattle.wal.proofs.Encoding.{length-encodeWalHeader}
 use Rattle.wal.proofs.HeaderRoundTrip.{header-back, decode-encode}
-use Rattle.wal.proofs.Frames.{good-page, count-encoded, sealed-snoc, lastCount-snoc}
+use Rattle.wal.proofs.Frames.{good-page, count-encoded, committed-snoc, lastCount-snoc}
 use Rattle.wal.proofs.Laid.{Whole, none, more, joined, length-joined, laid-recovered}
 use Rattle.wal.proofs.Opening.{opens}
 use Rattle.wal.proofs.Writing.{created-written}
@@ -37,7 +37,7 @@ frames-whole : Whole frames
 unfolding frames
 frames-whole = more (whole 0) (more (whole 2) none)
 
-salt-zero : headerIn (encodeWalHeader (createdHeader 0)) ≡ createdHeader 0
+salt-zero : walHeaderIn (encodeWalHeader (createdHeader 0)) ≡ createdHeader 0
 salt-zero = rw append-nil at (header-back (createdHeader 0) [] (created-written 0 (omega arith)))
 
 frame-good : (count : ℕ) → good 0 (page-frame count) ≡ true
@@ -52,17 +52,17 @@ frames-good = rw (frame-good 0, frame-good 2)
 pub sample-read : recovered sample ≡ record { header = createdHeader 0; frames = frames; stopped = false }
 unfolding sample createdHeader goodAt intactAt
 sample-read =
-    let g : goodFront (headerIn (encodeWalHeader (createdHeader 0)) .salt) frames ≡ frames = rw salt-zero frames-good in
+    let g : goodFront (walHeaderIn (encodeWalHeader (createdHeader 0)) .salt) frames ≡ frames = rw salt-zero frames-good in
     laid-recovered (encodeWalHeader (createdHeader 0)) frames [] (length-encodeWalHeader (createdHeader 0)) frames-whole g refl ∙ rw salt-zero
 
--- the second seals both
-count-two : countOf (page-frame 2) ≡ 2
+-- the second commits both
+count-two : commitCount (page-frame 2) ≡ 2
 unfolding page-frame
 count-two = count-encoded 1 2 0 (replicate 4096 0) (omega arith)
 
-sealed-both : sealed frames ≡ frames
+committed-both : committed frames ≡ frames
 unfolding frames
-sealed-both = sealed-snoc (page-frame 0 ∷ []) (page-frame 2) ∙ rw count-two
+committed-both = committed-snoc (page-frame 0 ∷ []) (page-frame 2) ∙ rw count-two
 
 last-two : lastCount frames ≡ commit.Count 2
 unfolding frames
@@ -85,4 +85,4 @@ pub sample-opens : openLog sample
 unfolding sample walOf frames
 sample-opens =
     opens sample (createdHeader 0) (rw length-sample (omega arith)) (decode-encode (createdHeader 0) (joined frames ++ []) (created-written 0 (omega arith)))
-    ∙ rw (length-sample, sample-read, sealed-both, last-two)
+    ∙ rw (length-sample, sample-read, committed-both, last-two)

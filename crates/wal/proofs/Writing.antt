@@ -12,9 +12,9 @@ use Rattle.le.proofs.Stores.{store-put}
 use Rattle.frame.specs.Frame.{encodeFrame, frameAfter}
 use Rattle.frame.proofs.Stores.{length-encodeFrame}
 use Rattle.refusal.specs.declared.Refusal.the-variants as refusal
-use Rattle.wal.specs.Header.{encodeWalHeader, headerIn, decodeWalHeader}
-use Rattle.wal.specs.Recovery.{chunks, readableAs, good, goodFront, undecodable, countOf, Recovered, recovered, walOf}
-use Rattle.wal.specs.Write.{emptyWal, headed, createdHeader, truncatedHeader, longer, joins, withFrame, appendAnswer, appendAfter}
+use Rattle.wal.specs.Header.{encodeWalHeader, walHeaderIn, decodeWalHeader}
+use Rattle.wal.specs.Recovery.{chunks, readableAs, good, goodFront, undecodable, commitCount, Recovered, recovered, walOf}
+use Rattle.wal.specs.Write.{emptyWal, withHeader, createdHeader, truncatedHeader, longer, joins, withFrame, appendFrameAnswer, appendFrameAfter}
 use Rattle.wal.specs.declared.WalHeader.{WalHeader}
 use Rattle.wal.specs.declared.WalHeaderDecoded.the-variants as decoded
 use Rattle.wal.specs.declared.Wal.{Wal}
@@ -29,43 +29,43 @@ use Rattle.wal.proofs.Opening.{wal-append, wal-empty}
 -- ---- the header
 
 module _ (l : List ℕ) (h : WalHeader) where
-  pub headed-done : {m : List ℕ} → length l ≡ 4210720 → m ≡ store l 0 (encodeWalHeader h) → m ≡ headed l h
-  unfolding headed
+  pub headed-done : {m : List ℕ} → length l ≡ 4210720 → m ≡ store l 0 (encodeWalHeader h) → m ≡ withHeader l h
+  unfolding withHeader
   headed-done n e =
       let k : 0 + length (encodeWalHeader h) ≤ length l = rw (length-encodeWalHeader h) (omega arith) in
       e ∙ rw (eq-eqb (length l) 4210720 n, store-put l 0 (encodeWalHeader h) k)
 
-  pub headed-refused : (length l ≡ 4210720 → ⊥) → l ≡ headed l h
-  unfolding headed
+  pub headed-refused : (length l ≡ 4210720 → ⊥) → l ≡ withHeader l h
+  unfolding withHeader
   headed-refused n = rw (ne-eqb (length l) 4210720 n)
 
 -- ---- a frame
 
 module _ (l : List ℕ) (w : Wal) (page : ℕ) (body : List ℕ) (count : ℕ) where
-  pub body-refused : (length body ≡ 4096 → ⊥) → (appended.Refused refusal.Area ≡ appendAnswer l w page body count) × (l ≡ appendAfter l w page body count)
-  unfolding appendAnswer appendAfter
+  pub body-refused : (length body ≡ 4096 → ⊥) → (appended.Refused refusal.Area ≡ appendFrameAnswer l w page body count) × (l ≡ appendFrameAfter l w page body count)
+  unfolding appendFrameAnswer appendFrameAfter
   body-refused n = (rw (ne-eqb _ _ n), rw (ne-eqb _ _ n))
 
   module _ (nb : length body ≡ 4096) where
-    pub area-refused : (length l ≡ 4210720 → ⊥) → (appended.Refused refusal.Area ≡ appendAnswer l w page body count) × (l ≡ appendAfter l w page body count)
-    unfolding appendAnswer appendAfter
+    pub area-refused : (length l ≡ 4210720 → ⊥) → (appended.Refused refusal.Area ≡ appendFrameAnswer l w page body count) × (l ≡ appendFrameAfter l w page body count)
+    unfolding appendFrameAnswer appendFrameAfter
     area-refused n = (rw (eq-eqb _ _ nb, ne-eqb _ _ n), rw (eq-eqb _ _ nb, ne-eqb _ _ n))
 
     pub length-refused : length l ≡ 4210720 → 4210720 < w .len
-        → (appended.Refused refusal.Area ≡ appendAnswer l w page body count) × (l ≡ appendAfter l w page body count)
-    unfolding appendAnswer appendAfter
+        → (appended.Refused refusal.Area ≡ appendFrameAnswer l w page body count) × (l ≡ appendFrameAfter l w page body count)
+    unfolding appendFrameAnswer appendFrameAfter
     length-refused n h = (rw (eq-eqb _ _ nb, eq-eqb _ _ n, lt-leb _ _ h), rw (eq-eqb _ _ nb, eq-eqb _ _ n, lt-leb _ _ h))
 
     pub log-full : length l ≡ 4210720 → w .len ≤ 4210720 → 4210720 < w .len + 4112
-        → (appended.Refused refusal.LogFull ≡ appendAnswer l w page body count) × (l ≡ appendAfter l w page body count)
-    unfolding appendAnswer appendAfter
+        → (appended.Refused refusal.LogFull ≡ appendFrameAnswer l w page body count) × (l ≡ appendFrameAfter l w page body count)
+    unfolding appendFrameAnswer appendFrameAfter
     log-full n h k =
         (rw (eq-eqb _ _ nb, eq-eqb _ _ n, le-leb _ _ h, lt-leb _ _ k), rw (eq-eqb _ _ nb, eq-eqb _ _ n, le-leb _ _ h, lt-leb _ _ k))
 
     pub frame-appended : {m : List ℕ} {v : Wal} → length l ≡ 4210720 → w .len + 4112 ≤ 4210720
         → m ≡ frameAfter l (w .len) page count (w .header .salt) body → v ≡ longer (joins w (readableAs page body)) w count
-        → (appended.Appended v ≡ appendAnswer l w page body count) × (m ≡ appendAfter l w page body count)
-    unfolding appendAnswer appendAfter frameAfter
+        → (appended.Appended v ≡ appendFrameAnswer l w page body count) × (m ≡ appendFrameAfter l w page body count)
+    unfolding appendFrameAnswer appendFrameAfter frameAfter
     frame-appended n k e f =
         let h : w .len ≤ 4210720 = omega arith in
         let j : w .len + length (encodeFrame page count (w .header .salt) body) ≤ length l =
@@ -84,8 +84,8 @@ file-longer n l at xs e h =
     rw (← append-assoc) (take-at (take at l ++ xs) (drop (at + length xs) l) (at + n) k)
 
 -- after a creation or a truncation the file is its header
-pub file-headed : (l : List ℕ) (h : WalHeader) → length l ≡ 4210720 → take 32 (headed l h) ≡ encodeWalHeader h
-unfolding headed
+pub file-headed : (l : List ℕ) (h : WalHeader) → length l ≡ 4210720 → take 32 (withHeader l h) ≡ encodeWalHeader h
+unfolding withHeader
 file-headed l h n = rw (eq-eqb (length l) 4210720 n) (file-longer 32 l 0 (encodeWalHeader h) (length-encodeWalHeader h) (omega arith))
 
 pub created-written : (salt : ℕ) → salt < 2 ^ 32 → Written (createdHeader salt)
@@ -98,7 +98,7 @@ truncated-written h salt s k = record { version = refl; salt = s; seq = omega ar
 
 -- a header alone: no frame, and the empty log's numbers
 module _ (h : WalHeader) (p : Written h) where
-  header-alone : headerIn (encodeWalHeader h) ≡ h
+  header-alone : walHeaderIn (encodeWalHeader h) ≡ h
   header-alone = rw append-nil at (header-back h [] p)
 
   pub alone-decodes : decodeWalHeader (encodeWalHeader h) ≡ decoded.Header h
@@ -117,26 +117,26 @@ module _ (h : WalHeader) (p : Written h) where
 
 -- a frame appended behind good frames only: the log's numbers are those that opening would find
 module _ (n : ℕ) (l : List ℕ) (e : length l ≡ 32 + 4112 * n) (a : recovered l .frames ≡ chunks l) (page count : ℕ) (body : List ℕ) (nb : length body ≡ 4096)
-    (g : good (headerIn l .salt) (encodeFrame page count (headerIn l .salt) body) ≡ true) where
-  pub longer-recovered : recovered (l ++ encodeFrame page count (headerIn l .salt) body)
-      ≡ extended (recovered l) (encodeFrame page count (headerIn l .salt) body)
+    (g : good (walHeaderIn l .salt) (encodeFrame page count (walHeaderIn l .salt) body) ≡ true) where
+  pub longer-recovered : recovered (l ++ encodeFrame page count (walHeaderIn l .salt) body)
+      ≡ extended (recovered l) (encodeFrame page count (walHeaderIn l .salt) body)
   longer-recovered =
-      recovered-append n l e (encodeFrame page count (headerIn l .salt) body) a (length-encodeFrame page count (headerIn l .salt) body nb) g
+      recovered-append n l e (encodeFrame page count (walHeaderIn l .salt) body) a (length-encodeFrame page count (walHeaderIn l .salt) body nb) g
 
   -- again all chunks are good frames
-  pub longer-good : recovered (l ++ encodeFrame page count (headerIn l .salt) body) .frames ≡ chunks (l ++ encodeFrame page count (headerIn l .salt) body)
+  pub longer-good : recovered (l ++ encodeFrame page count (walHeaderIn l .salt) body) .frames ≡ chunks (l ++ encodeFrame page count (walHeaderIn l .salt) body)
   longer-good =
-      let f : List ℕ = encodeFrame page count (headerIn l .salt) body in
+      let f : List ℕ = encodeFrame page count (walHeaderIn l .salt) body in
       ap (λ (r : Recovered). r .frames) longer-recovered
-      ∙ rw (chunks-append n l f e, runs-one f (length-encodeFrame page count (headerIn l .salt) body nb), a)
+      ∙ rw (chunks-append n l f e, runs-one f (length-encodeFrame page count (walHeaderIn l .salt) body nb), a)
 
   pub longer-known : {w : Wal} → n + 1 < 2 ^ 64 → count < 2 ^ 32 → w ≡ walOf (length l) (recovered l)
-      → walOf (length l + 4112) (recovered (l ++ encodeFrame page count (headerIn l .salt) body)) ≡ withFrame w count
+      → walOf (length l + 4112) (recovered (l ++ encodeFrame page count (walHeaderIn l .salt) body)) ≡ withFrame w count
   longer-known small hc k =
-      let f : List ℕ = encodeFrame page count (headerIn l .salt) body in
+      let f : List ℕ = encodeFrame page count (walHeaderIn l .salt) body in
       let m : length (recovered l .frames) ≡ n = rw (a, length-chunks l) (omega arith) in
       let p : 32 + 4112 * length (recovered l .frames) ≡ length l = rw m (sym e) in
-      let c : countOf f ≡ count = count-encoded page count (headerIn l .salt) body hc in
+      let c : commitCount f ≡ count = count-encoded page count (walHeaderIn l .salt) body hc in
       ap (walOf (length l + 4112)) longer-recovered
       ∙ wal-append (length l) (recovered l) f p (all-good l a) (rw m small)
       ∙ rw (c, k)

@@ -37,8 +37,8 @@ encodeWalHeader h =
 -- ---- reading
 
 -- the fields as they lie there, the clock's bytes in every version
-unfoldable pub headerIn : List ℕ → WalHeader
-headerIn l =
+unfoldable pub walHeaderIn : List ℕ → WalHeader
+walHeaderIn l =
     record { version = field 4 8 l; salt = field 4 16 l; «checkpoint_seq» = field 4 20 l; «clock_high_water» = field 8 24 l }
 
 -- "version (4) 1 to 3"
@@ -56,4 +56,4 @@ walHeaderTests l =
     }
 
 unfoldable pub decodeWalHeader : List ℕ → WalHeaderDecoded
-decodeWalHeader l = answered decoded.Refused (decoded.Header (headerIn l)) (headerRefusal (walHeaderTests l))
+decodeWalHeader l = answered decoded.Refused (decoded.Header (walHeaderIn l)) (headerRefusal (walHeaderTests l))

@@ -8,7 +8,7 @@ use Prim.Native.Nat.{ℕ, _^_, _<_}
 use lib.ListN.{take}
 use Rattle.le.specs.Le.{Bytes}
 use Rattle.wal.specs.Recovery.{openLog}
-use Rattle.wal.specs.Write.{emptyWal, createAnswer, createAfter, truncateAnswer, truncateAfter, appendAnswer, appendAfter, clockAnswer}
+use Rattle.wal.specs.Write.{emptyWal, createAnswer, createAfter, truncateAnswer, truncateAfter, appendFrameAnswer, appendFrameAfter, clockAnswer}
 use Rattle.wal.specs.declared.Wal.{Wal}
 use Rattle.wal.specs.declared.WalOpened.the-variants as opened
 use Rattle.wal.specs.declared.WalCreated.the-variants as created
@@ -17,8 +17,8 @@ use Rattle.wal.specs.declared.FrameAppended.the-variants as appended
 use Rattle.wal.specs.declared.ClockSet.the-variants as clock
 
 -- the log's bytes
-abbrev pub fileOf : List ℕ → Wal → List ℕ
-fileOf area w = take (w .len) area
+abbrev pub logFile : List ℕ → Wal → List ℕ
+logFile area w = take (w .len) area
 
 pub data Reached : List ℕ → Wal → Type 0 where
   -- the area's first n bytes, whatever they are
@@ -27,7 +27,7 @@ pub data Reached : List ℕ → Wal → Type 0 where
   by-truncate : {area : List ℕ} {w v : Wal} (salt : ℕ) → salt < 2 ^ 32 → Reached area w → truncateAnswer area w salt ≡ truncated.Truncated v
       → Reached (truncateAfter area w salt) v
   by-append : {area : List ℕ} {w v : Wal} (page : ℕ) (body : List ℕ) (count : ℕ) → page < 2 ^ 32 → count < 2 ^ 32 → Reached area w
-      → appendAnswer area w page body count ≡ appended.Appended v → Reached (appendAfter area w page body count) v
+      → appendFrameAnswer area w page body count ≡ appended.Appended v → Reached (appendFrameAfter area w page body count) v
   by-clock : {area : List ℕ} {w v : Wal} (value : ℕ) → value < 2 ^ 64 → Reached area w → clockAnswer w value ≡ clock.Set v → Reached area v
-  -- the log cut to its header, as a fold's "log length 32" leaves it
+  -- the log cut to its header, as a checkpoint's "log length 32" leaves it
   by-empty : {area : List ℕ} {w : Wal} → Reached area w → Reached area (emptyWal (w .header))

@@ -4,7 +4,7 @@ use Prim.Native.Nat.{ℕ, _+_}
 use lib.Dec.{ltb, eqb}
 use lib.ListN.{length, take, drop, getD}
 use Rattle.le.specs.Choice.{pick}
-use Rattle.frame.specs.Frame.{headerOf, bodyOf}
+use Rattle.frame.specs.Frame.{frameHeader, bodyOf}
 use Rattle.page.specs.Page.{pageSize}
 use Rattle.wal.specs.Recovery.{chunks, chunkAt, pageOf, batchPage, isBatch, pageIn}
 use Rattle.wal.specs.declared.PagePlace.{PagePlace}
@@ -14,13 +14,13 @@ use Rattle.wal.specs.declared.FrameFound.the-variants as found
 use Rattle.wal.specs.declared.BatchFound.{BatchFound}
 use Rattle.wal.specs.declared.BatchFound.the-variants as batch
 
--- the chunks within the first `end` bytes; for an open log's commit point, its sealed frames
-abbrev pub committed : ℕ → List ℕ → List (List ℕ)
-committed end l = chunks (take end l)
+-- the chunks within the first `end` bytes; for an open log's commit point, its committed frames
+abbrev pub committedChunks : ℕ → List ℕ → List (List ℕ)
+committedChunks end l = chunks (take end l)
 
 -- "Per page the last sealed frame counts": the page's bytes, or none; a batch is no page
-unfoldable pub readPage : List ℕ → ℕ → ℕ → List ℕ
-readPage l end p = pick (eqb p batchPage) [] (bodyOf (pageIn p (committed end l)))
+unfoldable pub readLogPage : List ℕ → ℕ → ℕ → List ℕ
+readLogPage l end p = pick (eqb p batchPage) [] (bodyOf (pageIn p (committedChunks end l)))
 
 -- "page number, commit count, salt, checksum (4 each), body": where the body of the chunk at an index begins
 abbrev pub bodyAt : ℕ → ℕ
@@ -32,15 +32,15 @@ unlessLater place.Nothing here = here
 unlessLater (place.At at) here = place.At at
 
 -- the place of a page's bytes among some frames, of which the first has index i: in the last that is the page's
-unfoldable pub placeFrom : ℕ → ℕ → List (List ℕ) → PagePlace
-placeFrom p i [] = place.Nothing
-placeFrom p i (f ∷ fs) =
-    let later = placeFrom p (i + 1) fs in
+unfoldable pub pagePlaceFrom : ℕ → ℕ → List (List ℕ) → PagePlace
+pagePlaceFrom p i [] = place.Nothing
+pagePlaceFrom p i (f ∷ fs) =
+    let later = pagePlaceFrom p (i + 1) fs in
     unlessLater later (pick (eqb (pageOf f) p) (place.At (bodyAt i)) place.Nothing)
 
 -- "Per page the last sealed frame counts": the place of the page's bytes, or none; a batch is no page
-unfoldable pub findPage : List ℕ → ℕ → ℕ → PagePlace
-findPage l end p = pick (eqb p batchPage) place.Nothing (placeFrom p 0 (committed end l))
+unfoldable pub findLogPage : List ℕ → ℕ → ℕ → PagePlace
+findLogPage l end p = pick (eqb p batchPage) place.Nothing (pagePlaceFrom p 0 (committedChunks end l))
 
 -- the page at a place
 abbrev pub pageAt : List ℕ → PagePlace → List ℕ
@@ -49,7 +49,7 @@ pageAt l place.Nothing = []
 
 -- the chunk at an index, with its place, good or not
 unfoldable pub frameIn : List ℕ → ℕ → FrameFound
-frameIn l i = pick (ltb i (length (chunks l))) (found.Frame (chunkAt i) (headerOf (getD (chunks l) i []))) found.Nothing
+frameIn l i = pick (ltb i (length (chunks l))) (found.Frame (chunkAt i) (frameHeader (getD (chunks l) i []))) found.Nothing
 
 -- the first batch of some frames, of which the first has index i
 unfoldable pub batchFrom : ℕ → List (List ℕ) → BatchFound
@@ -60,4 +60,4 @@ batchFrom i (f ∷ fs) =
 
 -- "batches come in log order": the first at or behind an index
 unfoldable pub nextBatch : List ℕ → ℕ → ℕ → BatchFound
-nextBatch l end i = batchFrom i (drop i (committed end l))
+nextBatch l end i = batchFrom i (drop i (committedChunks end l))

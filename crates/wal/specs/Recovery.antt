@@ -6,10 +6,10 @@ use Prim.Native.Nat.{ℕ, zero, suc, _+_, _*_, _/_}
 use lib.Dec.{leb, eqb}
 use lib.ListN.{length, take, drop}
 use Rattle.le.specs.Choice.{pick, both}
-use Rattle.frame.specs.Frame.{frameSize, frameAt, headerOf, bodyOf, isCommit, intact, intactAt}
+use Rattle.frame.specs.Frame.{frameSize, frameAt, frameHeader, bodyOf, isCommit, intact, intactAt}
 use Rattle.mvcc.specs.Seen.{decodes}
 use Rattle.refusal.specs.declared.Refusal.the-variants as refusal
-use Rattle.wal.specs.Header.{headerSize, headerIn, decodeWalHeader}
+use Rattle.wal.specs.Header.{headerSize, walHeaderIn, decodeWalHeader}
 use Rattle.wal.specs.declared.WalHeader.{WalHeader}
 use Rattle.wal.specs.declared.WalHeaderDecoded.{WalHeaderDecoded}
 use Rattle.wal.specs.declared.WalHeaderDecoded.the-variants as decoded
@@ -41,14 +41,14 @@ chunkAt i = headerSize + frameSize * i
 -- ---- one frame
 
 abbrev pub pageOf : List ℕ → ℕ
-pageOf f = headerOf f .«page_num»
+pageOf f = frameHeader f .«page_num»
 
-abbrev pub countOf : List ℕ → ℕ
-countOf f = headerOf f .«commit_page_count»
+abbrev pub commitCount : List ℕ → ℕ
+commitCount f = frameHeader f .«commit_page_count»
 
 -- "A nonzero commit count seals"
-abbrev pub seals : List ℕ → Bool
-seals f = isCommit (headerOf f)
+abbrev pub isCommitFrame : List ℕ → Bool
+isCommitFrame f = isCommit (frameHeader f)
 
 -- "page 4294967295 (a batch)"
 abbrev pub batchPage : ℕ
@@ -88,19 +88,19 @@ undecodable salt (f ∷ fs) =
     let rest = undecodable salt fs in
     pick (good salt f) rest (intact salt f)
 
--- f before some sealed frames; where there are none, f if it seals
-abbrev pub sealedFrom : List ℕ → List (List ℕ) → List (List ℕ)
-sealedFrom f [] = pick (seals f) (f ∷ []) []
-sealedFrom f (g ∷ gs) = f ∷ g ∷ gs
+-- f before some committed frames; where there are none, f if it commits
+abbrev pub committedFrom : List ℕ → List (List ℕ) → List (List ℕ)
+committedFrom f [] = pick (isCommitFrame f) (f ∷ []) []
+committedFrom f (g ∷ gs) = f ∷ g ∷ gs
 
--- the longest front part that ends in a seal
-unfoldable pub sealed : List (List ℕ) → List (List ℕ)
-sealed [] = []
-sealed (f ∷ fs) = sealedFrom f (sealed fs)
+-- the longest front part that ends in a commit frame
+unfoldable pub committed : List (List ℕ) → List (List ℕ)
+committed [] = []
+committed (f ∷ fs) = committedFrom f (committed fs)
 
 -- the commit count of the last frame
 unfoldable pub lastCount : List (List ℕ) → LastCommit
-lastCount fs = foldl (λ (found : LastCommit) (f : List ℕ). commit.Count (countOf f)) commit.Nothing fs
+lastCount fs = foldl (λ (found : LastCommit) (f : List ℕ). commit.Count (commitCount f)) commit.Nothing fs
 
 -- "Per page the last sealed frame counts": the last frame of the page, or no byte
 unfoldable pub pageIn : ℕ → List (List ℕ) → List ℕ
@@ -123,11 +123,11 @@ pub record Recovered : Type 0 where
 
 unfoldable pub recovered : List ℕ → Recovered
 recovered l =
-    let salt = headerIn l .salt in
-    record { header = headerIn l; frames = goodFront salt (chunks l); stopped = undecodable salt (chunks l) }
+    let salt = walHeaderIn l .salt in
+    record { header = walHeaderIn l; frames = goodFront salt (chunks l); stopped = undecodable salt (chunks l) }
 
-abbrev pub sealedFrames : Recovered → List (List ℕ)
-sealedFrames r = sealed (r .frames)
+abbrev pub committedFrames : Recovered → List (List ℕ)
+committedFrames r = committed (r .frames)
 
 -- where the good frames end
 abbrev pub goodEnd : Recovered → ℕ
@@ -135,11 +135,11 @@ goodEnd r = chunkAt (length (r .frames))
 
 -- "The commit point is the end of the last seal, else 32"
 abbrev pub commitPoint : Recovered → ℕ
-commitPoint r = chunkAt (length (sealedFrames r))
+commitPoint r = chunkAt (length (committedFrames r))
 
--- the last seal's count, or none
+-- the last commit frame's count, or none
 abbrev pub lastCommit : Recovered → LastCommit
-lastCommit r = lastCount (sealedFrames r)
+lastCommit r = lastCount (committedFrames r)
 
 -- "The frame count includes an unsealed good frame and a final undecodable batch frame"
 abbrev pub frameCount : Recovered → ℕ

@@ -38,8 +38,8 @@ emptyWal h =
     }
 
 -- the area with the header stored in front, where its length is the log area's; the bytes behind stay
-unfoldable pub headed : List ℕ → WalHeader → List ℕ
-headed l h = pick (eqb (length l) walArea) (put l 0 (encodeWalHeader h)) l
+unfoldable pub withHeader : List ℕ → WalHeader → List ℕ
+withHeader l h = pick (eqb (length l) walArea) (put l 0 (encodeWalHeader h)) l
 
 -- "Salts come from the caller": a new log's header
 unfoldable pub createdHeader : ℕ → WalHeader
@@ -50,7 +50,7 @@ unfoldable pub createAnswer : List ℕ → ℕ → WalCreated
 createAnswer l salt = pick (eqb (length l) walArea) (created.Created (emptyWal (createdHeader salt))) (created.Refused refusal.Area)
 
 abbrev pub createAfter : List ℕ → ℕ → List ℕ
-createAfter l salt = headed l (createdHeader salt)
+createAfter l salt = withHeader l (createdHeader salt)
 
 -- refusal 1 of a log that is lent with its area: "a wrong area length, or a file length above its area"
 abbrev pub areaFine : List ℕ → Wal → Bool
@@ -71,7 +71,7 @@ truncateAnswer l w salt =
     pick (areaFine l w) (truncated.Truncated (emptyWal (truncatedHeader (w .header) salt))) (truncated.Refused refusal.Area)
 
 unfoldable pub truncateAfter : List ℕ → Wal → ℕ → List ℕ
-truncateAfter l w salt = pick (areaFine l w) (headed l (truncatedHeader (w .header) salt)) l
+truncateAfter l w salt = pick (areaFine l w) (withHeader l (truncatedHeader (w .header) salt)) l
 
 -- ---- one frame more
 
@@ -107,8 +107,8 @@ abbrev pub hasRoom : Wal → Bool
 hasRoom w = leb (w .len + frameSize) walArea
 
 -- refusals in the order of their numbers; a frame that is written is good unless it is "a batch" whose body does not decode
-unfoldable pub appendAnswer : List ℕ → Wal → ℕ → List ℕ → ℕ → FrameAppended
-appendAnswer l w page body count =
+unfoldable pub appendFrameAnswer : List ℕ → Wal → ℕ → List ℕ → ℕ → FrameAppended
+appendFrameAnswer l w page body count =
     pick (appendable l w body)
     (pick (hasRoom w)
     (appended.Appended (longer (joins w (readableAs page body)) w count))
@@ -116,8 +116,8 @@ appendAnswer l w page body count =
     (appended.Refused refusal.Area)
 
 -- "An added frame lands at the log's length, even where a torn tail leaves that off the frame places"
-unfoldable pub appendAfter : List ℕ → Wal → ℕ → List ℕ → ℕ → List ℕ
-appendAfter l w page body count =
+unfoldable pub appendFrameAfter : List ℕ → Wal → ℕ → List ℕ → ℕ → List ℕ
+appendFrameAfter l w page body count =
     pick (both (appendable l w body) (hasRoom w)) (put l (w .len) (encodeFrame page count (w .header .salt) body)) l
 
 -- ---- the clock

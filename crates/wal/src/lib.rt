@@ -9,10 +9,10 @@ ghost use Rattle.le.specs.Answers.{storedOf};
 ghost use Rattle.le.specs.Le.{store};
 ghost use Rattle.page.specs.Page.{frontPage};
 ghost use Rattle.frame.specs.Frame.{frameAt};
-ghost use Rattle.wal.specs.Header.{encodeWalHeader, headerIn, decodeWalHeader};
+ghost use Rattle.wal.specs.Header.{encodeWalHeader, walHeaderIn, decodeWalHeader};
 ghost use Rattle.wal.specs.Recovery.{readableAs, readable, chunks, recovered, walOf, openLog};
-ghost use Rattle.wal.specs.Read.{frameIn, readPage, placeFrom, findPage, batchFrom, nextBatch};
-ghost use Rattle.wal.specs.Write.{emptyWal, createAnswer, createAfter, truncateAnswer, truncateAfter, longer, joins, withFrame, hasRoom, appendAnswer, appendAfter, clockAnswer};
+ghost use Rattle.wal.specs.Read.{frameIn, readLogPage, pagePlaceFrom, findLogPage, batchFrom, nextBatch};
+ghost use Rattle.wal.specs.Write.{emptyWal, createAnswer, createAfter, truncateAnswer, truncateAfter, longer, joins, withFrame, hasRoom, appendFrameAnswer, appendFrameAfter, clockAnswer};
 use frame::FRAME_HEADER_SIZE;
 use frame::FRAME_SIZE;
 use frame::FrameHeader;
@@ -92,7 +92,7 @@ pub fn decode_wal_header(log: &[u8]) -> WalHeaderDecoded
     })
 }
 
-// The last seal's page count.
+// The last commit frame's page count.
 pub enum LastCommit {
     Nothing,
     Count(u32),
@@ -105,10 +105,10 @@ pub struct Wal {
     pub len: usize,
     // Where the good frames end: an added frame joins them only where the length stood right there.
     pub good_end: usize,
-    // The commit point: the end of the last seal among the good frames.
+    // The commit point: the end of the last commit frame among the good frames.
     pub last_commit_offset: usize,
     pub last_commit_page_count: LastCommit,
-    // Good frames, sealed or not, a last batch frame that did not decode, and every frame added since.
+    // Good frames, committed or not, a last batch frame that did not decode, and every frame added since.
     pub frame_count: usize,
 }
 
@@ -124,7 +124,7 @@ fn choose(first: bool, a: usize, b: usize) -> usize
     if first { a } else { b }
 }
 
-// The last seal's count, after a frame's.
+// The last commit frame's count, after a frame's.
 fn counted(last: LastCommit, commit_page_count: u32) -> LastCommit
     ensures { λ r. ⌜ r ≡ pick (eqb «commit_page_count» 0) last (LastCommit.Count «commit_page_count») ⌝ }
 {
@@ -150,7 +150,7 @@ impl Wal {
     }
 
     // The log one frame longer. A good frame joins the good ones only where the length stood right at their end,
-    // and then a nonzero count seals.
+    // and then a nonzero count commits.
     fn with_frame(self, good: bool, commit_page_count: u32) -> Wal
         requires { ⌜ self .len + 4112 < 2 ^ 64 ⌝ }
         ensures { λ r. ⌜ r ≡ longer (joins self good) self «commit_page_count» ⌝ }
@@ -159,18 +159,18 @@ impl Wal {
         let last_commit_page_count = self.last_commit_page_count;
         let end = self.len + FRAME_SIZE;
         let joins = le::both(good, self.len == self.good_end);
-        let seals = le::both(joins, commit_page_count != 0);
+        let commits = le::both(joins, commit_page_count != 0);
         Wal {
             header,
             len: end,
             good_end: choose(joins, end, self.good_end),
-            last_commit_offset: choose(seals, end, self.last_commit_offset),
+            last_commit_offset: choose(commits, end, self.last_commit_offset),
             last_commit_page_count: counted(last_commit_page_count, commit_page_count),
             frame_count: std::num::wrapping_add_usize(self.frame_count, 1),
         }
     }
 
-    // The log one good frame longer, which does not seal; as it was where there is no room for one.
+    // The log one good frame longer, which does not commit; as it was where there is no room for one.
     // For a caller that has just stored such a frame at the log's length; of any other log these numbers are made up.
     pub fn longer(self) -> Wal
         ensures { λ r. ⌜ r ≡ pick (hasRoom self) (withFrame self 0) self ⌝ }
@@ -215,7 +215,7 @@ pub fn is_readable(file: &[u8], at: usize) -> bool
 
 // Reads frames up to the first that is not good.
 fn replay_frames(file: &[u8], header: WalHeader) -> Wal
-    requires { ⌜ header ≡ headerIn (now file) ⌝ }
+    requires { ⌜ header ≡ walHeaderIn (now file) ⌝ }
     ensures { λ r. ⌜ r ≡ walOf (length (now (file .entry))) (recovered (now (file .entry))) ⌝ }
 {
     let salt = header.salt;
@@ -271,7 +271,7 @@ pub enum PagePlace {
 
 // The place of the bytes of a page's last frame.
 fn last_place(file: &[u8], page_num: u32) -> PagePlace
-    ensures { λ r. ⌜ r ≡ placeFrom «page_num» 0 (chunks (now (file .entry))) ⌝ }
+    ensures { λ r. ⌜ r ≡ pagePlaceFrom «page_num» 0 (chunks (now (file .entry))) ⌝ }
 {
     let mut i = chunk_count(file.len());
     while 0 < i {
@@ -286,9 +286,9 @@ fn last_place(file: &[u8], page_num: u32) -> PagePlace
 }
 
 // The place of a page's bytes in its last frame up to the commit point.
-// The frames up to there are sealed good ones, also in a log that was appended to behind a torn tail.
+// The frames up to there are committed good ones, also in a log that was appended to behind a torn tail.
 pub fn find_page(file: &[u8], wal: Wal, page_num: u32) -> PagePlace
-    ensures { λ r. ⌜ r ≡ findPage (now (file .entry)) (wal .«last_commit_offset») «page_num» ⌝ }
+    ensures { λ r. ⌜ r ≡ findLogPage (now (file .entry)) (wal .«last_commit_offset») «page_num» ⌝ }
 {
     if page_num == MVCC_FRAME_MARKER {
         return PagePlace::Nothing;
@@ -298,7 +298,7 @@ pub fn find_page(file: &[u8], wal: Wal, page_num: u32) -> PagePlace
 
 // A page's own bytes inside the log, where `find_page` finds them; no byte if there is none.
 pub fn read_page(file: &[u8], wal: Wal, page_num: u32) -> &[u8]
-    ensures { λ r. ⌜ now r ≡ readPage (now (file .entry)) (wal .«last_commit_offset») «page_num» ⌝ }
+    ensures { λ r. ⌜ now r ≡ readLogPage (now (file .entry)) (wal .«last_commit_offset») «page_num» ⌝ }
 {
     match find_page(file, wal, page_num) {
         PagePlace::At(at) => le::part(file, at, PAGE_SIZE),
@@ -392,7 +392,7 @@ pub enum FrameAppended {
     Refused(Refusal),
 }
 
-// Stores a frame at the log's length; a nonzero count seals.
+// Stores a frame at the log's length; a nonzero count commits.
 pub fn append_frame(
     log: &mut [u8],
     wal: Wal,
@@ -400,7 +400,8 @@ pub fn append_frame(
     content: &[u8],
     commit_page_count: u32,
 ) -> FrameAppended
-    ensures { λ r. ⌜ (r ≡ appendAnswer (now (log .entry)) wal «page_num» (now (content .entry)) «commit_page_count») × (now (log .exit) ≡ appendAfter (now (log .entry)) wal «page_num» (now (content .entry)) «commit_page_count») ⌝ }
+    ensures { λ r. ⌜ r ≡ appendFrameAnswer (now (log .entry)) wal «page_num» (now (content .entry)) «commit_page_count» ⌝ }
+    ensures { λ _. ⌜ now (log .exit) ≡ appendFrameAfter (now (log .entry)) wal «page_num» (now (content .entry)) «commit_page_count» ⌝ }
 {
     if content.len() != PAGE_SIZE {
         return FrameAppended::Refused(Refusal::Area);
@@ -427,14 +428,15 @@ pub fn append_frame(
     FrameAppended::Appended(wal.with_frame(good, commit_page_count))
 }
 
-// Stores page 0's frame: a header's 32 bytes, and zeros behind. A nonzero count seals.
+// Stores page 0's frame: a header's 32 bytes, and zeros behind. A nonzero count commits.
 pub fn append_page_zero(
     log: &mut [u8],
     wal: Wal,
     front: &[u8],
     commit_page_count: u32,
 ) -> FrameAppended
-    ensures { λ r. ⌜ (r ≡ appendAnswer (now (log .entry)) wal 0 (frontPage (now (front .entry))) «commit_page_count») × (now (log .exit) ≡ appendAfter (now (log .entry)) wal 0 (frontPage (now (front .entry))) «commit_page_count») ⌝ }
+    ensures { λ r. ⌜ r ≡ appendFrameAnswer (now (log .entry)) wal 0 (frontPage (now (front .entry))) «commit_page_count» ⌝ }
+    ensures { λ _. ⌜ now (log .exit) ≡ appendFrameAfter (now (log .entry)) wal 0 (frontPage (now (front .entry))) «commit_page_count» ⌝ }
 {
     if front.len() != 32 {
         return FrameAppended::Refused(Refusal::Area);

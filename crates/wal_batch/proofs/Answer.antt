@@ -15,7 +15,7 @@ use Rattle.refusal.proofs.Judged.{met, resulted, first-none}
 use Rattle.mvcc.specs.Seen.{headingRefusal, decodes, canonical}
 use Rattle.mvcc.proofs.Canonical.{decodes-none, none-decodes, canonical-decodes}
 use Rattle.mvcc.proofs.Heading.{decodes-heading}
-use Rattle.wal.specs.Write.{withFrame, hasRoom, appendAnswer, appendAfter}
+use Rattle.wal.specs.Write.{withFrame, hasRoom, appendFrameAnswer, appendFrameAfter}
 use Rattle.wal.specs.Reached.{Reached, by-append}
 use Rattle.wal.specs.declared.Wal.{Wal}
 use Rattle.wal.specs.declared.FrameAppended.the-variants as appended
@@ -60,15 +60,15 @@ module _ (l : List ℕ) (w : Wal) (s : List ℕ) where
     paged : length (canonical s) ≡ 4096
     paged = canonical-page s (record { bytes = sb; small = done .small; decoded = done .decoded })
 
-    -- it is an append of a frame: of page 4294967295, the canonical form, unsealed
-    pub batch-append : appendAnswer l w 4294967295 (canonical s) 0 ≡ appended.Appended v
-    unfolding appendAnswer
+    -- it is an append of a frame: of page 4294967295, the canonical form, uncommitted
+    pub batch-append : appendFrameAnswer l w 4294967295 (canonical s) 0 ≡ appended.Appended v
+    unfolding appendFrameAnswer
     batch-append =
         let n : w .len ≤ 4210720 = omega (arith, done .room) in
         rw (eq-eqb _ _ paged, eq-eqb _ _ (done .area), le-leb _ _ n, le-leb _ _ (done .room), canonical-decodes s sb (done .decoded), done .is)
 
-    pub batch-stored : appendAfter l w 4294967295 (canonical s) 0 ≡ batchAfter l w s
-    unfolding appendAfter
+    pub batch-stored : appendFrameAfter l w 4294967295 (canonical s) 0 ≡ batchAfter l w s
+    unfolding appendFrameAfter
     batch-stored =
         let n : w .len ≤ 4210720 = omega (arith, done .room) in
         rw (done .bytes, eq-eqb _ _ paged, eq-eqb _ _ (done .area), le-leb _ _ n, le-leb _ _ (done .room))

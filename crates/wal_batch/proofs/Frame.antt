@@ -1,4 +1,4 @@
--- The frame of an appended batch: good, unsealed, and saying what the body said. Assumes nothing.
+-- The frame of an appended batch: good, uncommitted, and saying what the body said. Assumes nothing.
 use mathlib.Core.Path.{_≡_, ap, _∙_}
 use mathlib.Core.Bool.{true, false}
 use mathlib.Core.List.{List, [], _∷_, _++_}
@@ -11,11 +11,11 @@ use Rattle.frame.proofs.Stores.{length-encodeFrame}
 use Rattle.frame.proofs.RoundTrip.{body-back}
 use Rattle.mvcc.specs.Seen.{decodes, commitTs, records, canonical}
 use Rattle.mvcc.proofs.Canonical.{canonical-decodes, canonical-commitTs, canonical-records, canonical-length}
-use Rattle.wal.specs.Header.{headerIn}
-use Rattle.wal.specs.Recovery.{chunks, seals, isBatch, good, batchesIn, Recovered, recovered, sealedFrames, walOf}
+use Rattle.wal.specs.Header.{walHeaderIn}
+use Rattle.wal.specs.Recovery.{chunks, isCommitFrame, isBatch, good, batchesIn, Recovered, recovered, committedFrames, walOf}
 use Rattle.wal.specs.Write.{withFrame}
 use Rattle.wal.specs.declared.Wal.{Wal}
-use Rattle.wal.proofs.Frames.{page-encoded, count-encoded, good-batch, sealed-snoc, batchesIn-append}
+use Rattle.wal.proofs.Frames.{page-encoded, count-encoded, good-batch, committed-snoc, batchesIn-append}
 use Rattle.wal.proofs.Recovered.{extended}
 use Rattle.wal.proofs.Writing.{longer-recovered, longer-good, longer-known}
 
@@ -35,11 +35,11 @@ module _ (s : List ℕ) (b : Body s) (salt : ℕ) where
   pub frame-length : length (batchFrame salt s) ≡ 4112
   frame-length = length-encodeFrame 4294967295 0 salt (canonical s) (canonical-page s b)
 
-  -- it is a batch's, and unsealed
+  -- it is a batch's, and uncommitted
   pub frame-batch : isBatch (batchFrame salt s) ≡ true
   frame-batch = rw (page-encoded 4294967295 0 salt (canonical s) (omega arith))
 
-  pub frame-open : seals (batchFrame salt s) ≡ false
+  pub frame-open : isCommitFrame (batchFrame salt s) ≡ false
   frame-open = rw (count-encoded 4294967295 0 salt (canonical s) (omega arith))
 
   -- its body decodes to the same commit time and the same records
@@ -57,28 +57,28 @@ module _ (s : List ℕ) (b : Body s) (salt : ℕ) where
 
 -- ---- behind good frames
 
-module _ (n : ℕ) (l : List ℕ) (e : length l ≡ 32 + 4112 * n) (a : recovered l .frames ≡ chunks l) (s : List ℕ) (b : Body s) (h : headerIn l .salt < 2 ^ 32) where
+module _ (n : ℕ) (l : List ℕ) (e : length l ≡ 32 + 4112 * n) (a : recovered l .frames ≡ chunks l) (s : List ℕ) (b : Body s) (h : walHeaderIn l .salt < 2 ^ 32) where
   abbrev added : List ℕ
-  added = batchFrame (headerIn l .salt) s
+  added = batchFrame (walHeaderIn l .salt) s
 
   -- what is read afterwards is what was, and the batch behind it
   pub batch-recovered : recovered (l ++ added) ≡ extended (recovered l) added
-  batch-recovered = longer-recovered n l e a 4294967295 0 (canonical s) (canonical-page s b) (frame-good s b (headerIn l .salt) h)
+  batch-recovered = longer-recovered n l e a 4294967295 0 (canonical s) (canonical-page s b) (frame-good s b (walHeaderIn l .salt) h)
 
   -- again all chunks are good frames
   pub batch-chunks : recovered (l ++ added) .frames ≡ chunks (l ++ added)
-  batch-chunks = longer-good n l e a 4294967295 0 (canonical s) (canonical-page s b) (frame-good s b (headerIn l .salt) h)
+  batch-chunks = longer-good n l e a 4294967295 0 (canonical s) (canonical-page s b) (frame-good s b (walHeaderIn l .salt) h)
 
-  -- nothing more is sealed
-  pub batch-sealed : sealedFrames (recovered (l ++ added)) ≡ sealedFrames (recovered l)
-  batch-sealed = ap sealedFrames batch-recovered ∙ sealed-snoc (recovered l .frames) added ∙ rw (frame-open s b (headerIn l .salt))
+  -- nothing more is committed
+  pub batch-committed : committedFrames (recovered (l ++ added)) ≡ committedFrames (recovered l)
+  batch-committed = ap committedFrames batch-recovered ∙ committed-snoc (recovered l .frames) added ∙ rw (frame-open s b (walHeaderIn l .salt))
 
   -- the batch is the last
   pub batch-last : batchesIn (recovered (l ++ added) .frames) ≡ batchesIn (recovered l .frames) ++ (added ∷ [])
   unfolding batchesIn
   batch-last =
-      ap (λ (r : Recovered). batchesIn (r .frames)) batch-recovered ∙ batchesIn-append (recovered l .frames) (added ∷ []) ∙ rw (frame-batch s b (headerIn l .salt))
+      ap (λ (r : Recovered). batchesIn (r .frames)) batch-recovered ∙ batchesIn-append (recovered l .frames) (added ∷ []) ∙ rw (frame-batch s b (walHeaderIn l .salt))
 
   -- the log's numbers are those that an opening finds
   pub batch-known : {w : Wal} → n + 1 < 2 ^ 64 → w ≡ walOf (length l) (recovered l) → walOf (length l + 4112) (recovered (l ++ added)) ≡ withFrame w 0
-  batch-known small k = longer-known n l e a 4294967295 0 (canonical s) (canonical-page s b) (frame-good s b (headerIn l .salt) h) small (omega arith) k
+  batch-known small k = longer-known n l e a 4294967295 0 (canonical s) (canonical-page s b) (frame-good s b (walHeaderIn l .salt) h) small (omega arith) k

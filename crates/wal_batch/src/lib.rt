@@ -1,5 +1,5 @@
 // A batch appended to the log: its canonical form is written straight behind the heading's place at the log's length,
-// and becomes an unsealed frame there.
+// and becomes an uncommitted frame there.
 ghost use mathlib.Core.Path.{_≡_};
 ghost use Rattle.refusal.specs.Refusal.{answered};
 ghost use Rattle.mvcc.specs.Seen.{headingRefusal};
@@ -31,9 +31,10 @@ fn full(body: &[u8]) -> BatchAppended
     }
 }
 
-// Appends a batch, as `encode` writes it, unsealed: the body that is lent may have any bools and any bytes behind its records.
+// Appends a batch, as `encode` writes it, uncommitted: the body that is lent may have any bools and any bytes behind its records.
 pub fn append_mvcc_batch(log: &mut [u8], wal: Wal, body: &[u8]) -> BatchAppended
-    ensures { λ r. ⌜ (r ≡ batchAnswer (now (log .entry)) wal (now (body .entry))) × (now (log .exit) ≡ batchAfter (now (log .entry)) wal (now (body .entry))) ⌝ }
+    ensures { λ r. ⌜ r ≡ batchAnswer (now (log .entry)) wal (now (body .entry)) ⌝ }
+    ensures { λ _. ⌜ now (log .exit) ≡ batchAfter (now (log .entry)) wal (now (body .entry)) ⌝ }
 {
     if log.len() != WAL_AREA {
         return BatchAppended::Refused(Refusal::Area);

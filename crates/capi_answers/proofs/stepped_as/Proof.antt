@@ -8,10 +8,10 @@ returns : tie.Need-returns
 returns c = c .no-step .ensures ∙ ap (λ a. steppedAs a (c .before .before .before .before .args .call .pager)) (sym (c .before .enum-told .given .1))
 
 returns-2 : tie.Need-returns-2
-returns-2 c = c .stored .ensures ∙ ap (λ a. steppedAs a (c .before .before .before .before .before .args .call .pager)) (sym (c .before .before .a .given .1))
+returns-2 c = c .step-stored .ensures ∙ ap (λ a. steppedAs a (c .before .before .before .before .before .args .call .pager)) (sym (c .before .before .a .given .1))
 
 returns-3 : tie.Need-returns-3
-returns-3 c = c .stored2 .ensures ∙ ap (λ a. steppedAs a (c .before .before .before .before .before .args .call .pager)) (sym (c .before .before .a2 .given .1))
+returns-3 c = c .step-stored2 .ensures ∙ ap (λ a. steppedAs a (c .before .before .before .before .before .args .call .pager)) (sym (c .before .before .a2 .given .1))
 
 returns-4 : tie.Need-returns-4
 returns-4 c = rw (c .before .number .ensures) at (c .no-step2 .ensures) ∙ ap (λ a. steppedAs a (c .before .before .before .before .before .before .args .call .pager)) (sym (c .before .before .before .a3 .given .1))

@@ -3,7 +3,7 @@ use native.Mathlib.Omega.{arith}
 use denote.Ref.{now}
 use borrow.Author.Needs.{needs}
 use borrow.Author.Tests.{not-true, not-false, leb-true}
-use Rattle.frame.specs.Frame.{headerOf}
+use Rattle.frame.specs.Frame.{frameHeader}
 use Rattle.frame.specs.declared.FrameHeader.{FrameHeader}
 use Rattle.frame.proofs.Places.{field-inside, outside, other-salt, by-sum}
 use Rattle.frame.proofs.is_intact.Statement.{statement}
@@ -15,7 +15,7 @@ returns c =
     outside (now (a .log)) (a .at) (a .salt) (sym (c .before .fits-in .ensures) ∙ not-true _ (c .if1 .taken))
 
 returns-2 : tie.Need-returns-2
-unfolding headerOf
+unfolding frameHeader
 returns-2 c =
     let h = c .before .before in
     let d = h .before in
@@ -25,7 +25,7 @@ returns-2 c =
     other-salt (now (a .log)) (a .at) (a .salt) t (λ s. c .if2 .taken (e ∙ s))
 
 returns-3 : tie.Need-returns-3
-unfolding headerOf
+unfolding frameHeader
 returns-3 c =
     let h = c .before .before .before .before in
     let d = h .before in

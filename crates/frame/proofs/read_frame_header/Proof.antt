@@ -4,13 +4,13 @@ use denote.Ref.{now}
 use borrow.Author.Needs.{needs}
 use Prim.Native.Nat.{ℕ, _+_, _≤_}
 use Rattle.le.specs.Le.{wholeField}
-use Rattle.frame.specs.Frame.{frameAt, headerOf}
+use Rattle.frame.specs.Frame.{frameAt, frameHeader}
 use Rattle.frame.proofs.Places.{heading-field}
 use Rattle.frame.proofs.read_frame_header.Statement.{statement}
 use Rattle.frame.proofs.read_frame_header.Tie as tie
 
 returns : tie.Need-returns
-unfolding headerOf
+unfolding frameHeader
 returns c =
     let p = c .before .before .before .before in
     let a = p .before .before .args in

@@ -1,12 +1,12 @@
 use native.Mathlib.Omega.{arith}
 use Rattle.log_listing.proofs.Pieces.{added-next}
-use Rattle.log_listing.specs.Listing.{number}
+use Rattle.log_listing.specs.Listing.{numberText}
 use borrow.Author.Needs.{needs}
 use Rattle.log_listing.proofs.add_number.Statement.{statement}
 use Rattle.log_listing.proofs.add_number.Tie as tie
 
 returns : tie.Need-returns
-unfolding number
+unfolding numberText
 returns c =
     let c₂ = c .before .before in
     let c₁ = c₂ .before .before .before .before in

@@ -37,7 +37,7 @@ returns-3 c =
     let k = c .before .before .before in
     let l = k .before in
     let a = l .before .before .before .before .args in
-    way-refused (a .body .now) (a .out .now) (l .before .if1 .left) (l .if2 .left) (k .decode .ensures) (c .before .enum-told .given .1) (c .told-of .ensures)
+    way-refused (a .body .now) (a .out .now) (l .before .if1 .left) (l .if2 .left) (k .decode .ensures) (c .before .enum-told .given .1) (c .canonical-answer .ensures)
 
 sub-write-zeros : tie.Need-sub-write-zeros
 sub-write-zeros c =

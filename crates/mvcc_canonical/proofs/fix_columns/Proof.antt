@@ -8,7 +8,7 @@ use lib.ListN.{length}
 use Rattle.mvcc_canonical.proofs.Walk.{end-on, end-off, end-done, fix-on, fix-off, fix-done, column-did}
 use Rattle.mvcc.specs.Decode.{columnAt}
 use Rattle.mvcc.specs.Answer.{taken, many}
-use Rattle.mvcc_canonical.specs.Canonical.{endOf, fixAll, columnStep}
+use Rattle.mvcc_canonical.specs.Canonical.{answerEnd, fixAll, columnStep}
 use Rattle.mvcc.specs.Fields.{columnAnswer}
 use Rattle.mvcc.proofs.Laws.{told}
 use Rattle.mvcc_canonical.proofs.fix_columns.Statement.{statement}
@@ -16,7 +16,7 @@ use Rattle.mvcc_canonical.proofs.fix_columns.Tie as tie
 
 abbrev Inv-loop : tie.InvT-loop
 Inv-loop body out₀ n first at₀ left₀ out at left =
-    (endOf (many (columnAt body) left at) ≡ endOf (many (columnAt body) n first))
+    (answerEnd (many (columnAt body) left at) ≡ answerEnd (many (columnAt body) n first))
     × ((fixAll (columnAt body) columnStep left at out ≡ fixAll (columnAt body) columnStep n first out₀) × (length out ≡ length out₀))
 
 abbrev μ-loop : tie.MeasureT-loop

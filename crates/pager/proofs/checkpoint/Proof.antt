@@ -2,7 +2,7 @@ use Prim.Native.Nat.{_-_}
 use denote.Ref.{now}
 use borrow.Author.Needs.{needs}
 use Rattle.pager_state.specs.World.{world}
-use Rattle.pager.proofs.Whole.{fold-told, fold-refused, fold-run}
+use Rattle.pager.proofs.Whole.{checkpoint-told, checkpoint-refused, checkpoint-run}
 use Rattle.pager.proofs.checkpoint.Statement.{statement}
 use Rattle.pager.proofs.checkpoint.Tie as tie
 
@@ -14,7 +14,7 @@ returns c =
     let g = now (S .args .staging) in
     let w = world (S .args .pager) (now (S .args .table)) (now (S .args .log)) (now (S .args .main)) in
     let k = b .begin-checkpoint .ensures in
-    (fold-told g w (S .args .salt) k (a .answer-of .ensures) (c .before .written-as .ensures), fold-refused g w (S .args .salt) k (c .match .keys2))
+    (checkpoint-told g w (S .args .salt) k (a .answer-of .ensures) (c .before .written-as .ensures), checkpoint-refused g w (S .args .salt) k (c .match .keys2))
 
 returns-2 : tie.Need-returns-2
 returns-2 c =
@@ -26,7 +26,7 @@ returns-2 c =
     let g = now (S .args .staging) in
     let w = world (S .args .pager) (now (S .args .table)) (now (S .args .log)) (now (S .args .main)) in
     let k = b .begin-checkpoint .ensures in
-    (fold-told g w (S .args .salt) k (a .answer-of .ensures) (t .before .before .written-as .ensures), fold-run g w (S .args .salt) k (t .enum-told .given .1) (r .run-steps .ensures))
+    (checkpoint-told g w (S .args .salt) k (a .answer-of .ensures) (t .before .before .written-as .ensures), checkpoint-run g w (S .args .salt) k (t .enum-told .given .1) (r .run-steps .ensures))
 
 pub checkpoint-spec : {M : Type 1} → statement M
 checkpoint-spec = tie.close (tie.spec (search needs) (search needs) (search needs) (search needs) (search needs) (search needs) (search needs) returns (search needs) (search needs) (search needs) (search needs) returns-2)

@@ -23,7 +23,7 @@ returns c =
     let s = S .args .salt in
     (commit-told g w h s (e .0) (e .1 .0) (e .1 .1) (a .committed-as .ensures), commit-refused g w h s (e .0) (e .1 .0) (e .1 .1) (c .enum-told2 .given .1))
 
--- no fold follows: the steps that are left change nothing
+-- no checkpoint follows: the steps that are left change nothing
 returns-2 : tie.Need-returns-2
 returns-2 c =
     let t = c .before .before in

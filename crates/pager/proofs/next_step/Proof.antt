@@ -5,7 +5,7 @@ use denote.Ref.{now}
 use borrow.Author.Tests.{not-true, not-false}
 use Rattle.pager_state.specs.World.{world, fine}
 use Rattle.pager_state.specs.Steps.{stepFine}
-use Rattle.pager.proofs.Steps.{no-step, by-commit, by-fold}
+use Rattle.pager.proofs.Steps.{no-step, by-commit, by-checkpoint}
 use borrow.Author.Needs.{needs}
 use Rattle.pager.proofs.next_step.Statement.{statement}
 use Rattle.pager.proofs.next_step.Tie as tie
@@ -34,8 +34,8 @@ returns-3 c =
     let g = now (S .args .staging) in
     let W = world (S .args .pager) (now (S .args .table)) (now (S .args .log)) (now (S .args .main)) in
     let k : stepFine g W ≡ true = sym (f .before .are-fine .ensures) ∙ not-false _ (f .if1 .left) in
-    let l = by-fold g W k (sym (e .before .is-commit .ensures) ∙ e .if2 .left) in
-    (d .fold-step .ensures .0 ∙ l .0, d .fold-step .ensures .1 ∙ l .1)
+    let l = by-checkpoint g W k (sym (e .before .is-commit .ensures) ∙ e .if2 .left) in
+    (d .checkpoint-step .ensures .0 ∙ l .0, d .checkpoint-step .ensures .1 ∙ l .1)
 
 pub next-step-spec : {M : Type 1} → statement M
 next-step-spec =

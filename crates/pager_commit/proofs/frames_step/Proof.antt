@@ -11,7 +11,7 @@ use Rattle.pager_state.specs.World.{world, pageLimit}
 use Rattle.pager_state.specs.Pages.{differs}
 use Rattle.pager_state.proofs.Searches.{lowest}
 use Rattle.pager_state.proofs.Walks.{none-found}
-use Rattle.pager_commit.proofs.Step.{frame-refused, frame-stepped, seal-refused, seal-stepped}
+use Rattle.pager_commit.proofs.Step.{frame-refused, frame-stepped, commit-frame-refused, commit-frame-stepped}
 use Rattle.pager_commit.proofs.frames_step.Statement.{statement}
 use Rattle.pager_commit.proofs.frames_step.Tie as tie
 
@@ -27,7 +27,7 @@ returns c =
     let s = d .next-differing .result in
     let o : hasRoom (a .pager .wal) ≡ false = sym (c .before .fits-in .ensures) ∙ not-true _ (c .if1 .taken) in
     ⊎-elim
-    (λ (h : pageLimit ≤ s .page). seal-refused g (a .header) (a .salt) (a .answer) (a .page) w (none-found (differs g w) (a .page) (s .page) (f .0) h) o)
+    (λ (h : pageLimit ≤ s .page). commit-frame-refused g (a .header) (a .salt) (a .answer) (a .page) w (none-found (differs g w) (a .page) (s .page) (f .0) h) o)
     (λ (h : s .page < pageLimit). frame-refused g (a .header) (a .salt) (a .answer) (a .page) w s (lowest (differs g w) (a .page) (s .page) (f .0) h .split) (f .1 h .0) (f .1 h .1) (S .pre .1) o)
     (le-or-lt pageLimit (s .page))
 
@@ -58,8 +58,8 @@ returns-2 c =
     let q = k .frame-step .ensures in
     frame-stepped g (a .header) (a .salt) (a .answer) (a .page) w s (lowest (differs g w) (a .page) (s .page) (f .0) h .split) (f .1 h .0) (f .1 h .1) (S .pre .1) (room e) (q .0) (q .1 .0) (q .1 .1 .0) (q .1 .1 .1)
 
-seal-step-requires : tie.Need-seal-step-requires
-seal-step-requires c κs =
+commit-frame-step-requires : tie.Need-commit-frame-step-requires
+commit-frame-step-requires c κs =
     let e = c .before .before .before .before in
     let S = e .before .before .before .before .before .before .before .before .before .before .before in
     (S .pre .0, room e)
@@ -74,8 +74,8 @@ returns-3 c =
     let w = world (a .pager) (now (a .table)) (now (a .log)) (now (a .main)) in
     let f = d .next-differing .ensures in
     let s = d .next-differing .result in
-    let q = k .seal-step .ensures in
-    seal-stepped g (a .header) (a .salt) (a .answer) (a .page) w (none-found (differs g w) (a .page) (s .page) (f .0) (k .before .before .before .if2 .left)) (room e) (q .0) (q .1 .0) (q .1 .1 .0) (q .1 .1 .1)
+    let q = k .commit-frame-step .ensures in
+    commit-frame-stepped g (a .header) (a .salt) (a .answer) (a .page) w (none-found (differs g w) (a .page) (s .page) (f .0) (k .before .before .before .if2 .left)) (room e) (q .0) (q .1 .0) (q .1 .1 .0) (q .1 .1 .1)
 
 pub frames-step-spec : {M : Type 1} → statement M
-frames-step-spec = tie.close (tie.spec (search needs) (search needs) (search needs) (search needs) returns frame-step-requires (search needs) (search needs) returns-2 seal-step-requires (search needs) (search needs) returns-3)
+frames-step-spec = tie.close (tie.spec (search needs) (search needs) (search needs) (search needs) returns frame-step-requires (search needs) (search needs) returns-2 commit-frame-step-requires (search needs) (search needs) returns-3)

@@ -24,8 +24,8 @@ loop-holds : tie.Need-loop-holds Inv-loop μ-loop
 unfolding allBefore
 loop-holds c = (c .min .ensures, (omega arith, refl))
 
-element-copy-out-wide : tie.Need-element-copy-out-wide Inv-loop μ-loop
-element-copy-out-wide c = omega arith
+element-copy-out-widen-u16 : tie.Need-element-copy-out-widen-u16 Inv-loop μ-loop
+element-copy-out-widen-u16 c = omega arith
 
 add-i : tie.Need-add-i Inv-loop μ-loop
 add-i c = omega arith
@@ -61,4 +61,4 @@ returns c =
 pub all-stand-before-spec : {M : Type 1} → statement M
 all-stand-before-spec =
     tie.close
-    (tie.spec Inv-loop μ-loop (search needs) loop-holds (search needs) element-copy-out-wide (search needs) (search needs) (search needs) add-i loop-less loop-again returns)
+    (tie.spec Inv-loop μ-loop (search needs) loop-holds (search needs) element-copy-out-widen-u16 (search needs) (search needs) (search needs) add-i loop-less loop-again returns)

@@ -10,7 +10,7 @@ use Rattle.frame.specs.Frame.{frameAt}
 use Rattle.frame.specs.declared.FrameHeader.{FrameHeader}
 use Rattle.header.specs.declared.DbHeader.{DbHeader}
 use Rattle.wal.specs.Recovery.{pageOf}
-use Rattle.pager_state.specs.Commit.{entered}
+use Rattle.pager_state.specs.Commit.{withEntry}
 use Rattle.pager_state.specs.Opening.{tableOf}
 use Rattle.pager_open.proofs.Table.{Entering, entering-starts, entering-long, entering-on, entering-ends}
 use Rattle.pager_open.proofs.fill_table.Statement.{statement}
@@ -46,7 +46,7 @@ loop-again c =
     let v = c .before .before .before .before .before .before .before .loop in
     let l : List ℕ = now (c .before .before .before .before .before .before .before .before .before .before .before .before .before .before .args .file) in
     let n : c .before .before .before .before .read-frame-header .result .«page_num» ≡ pageOf (frameAt (v .at) l) = ap (λ (x : FrameHeader). x .«page_num») (c .before .before .before .before .read-frame-header .ensures) in
-    λ h e. entering-on h l (v .table) (v .at) (v .inv h e) (inside (c .before .before .before .before .before)) (c .before .before .enter-frame .ensures ∙ ap (λ (p : ℕ). entered (v .table) p (v .at)) n)
+    λ h e. entering-on h l (v .table) (v .at) (v .inv h e) (inside (c .before .before .before .before .before)) (c .before .before .enter-frame .ensures ∙ ap (λ (p : ℕ). withEntry (v .table) p (v .at)) n)
 
 same-length : tie.Need-same-length Inv-loop μ-loop
 same-length c =

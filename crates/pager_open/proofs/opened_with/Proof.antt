@@ -22,7 +22,7 @@ returns-2 c =
     let a = d₃ .before .args in
     let how : How = howOf (a .options) in
     let k = sym (d₃ .covers .ensures) ∙ not-false _ (d₂ .if1 .left) in
-    c .refused2 .ensures ∙ ap openedAnswer (read-only how (a .main-len) (a .main-header) (a .wal) (a .header) k (sym (d₁ .is-barred .ensures) ∙ c .before .if2 .taken))
+    c .refused2 .ensures ∙ ap openedAnswer (read-only how (a .main-len) (a .main-header) (a .wal) (a .header) k (sym (d₁ .is-clean-read-only .ensures) ∙ c .before .if2 .taken))
 
 returns-3 : tie.Need-returns-3
 returns-3 c =
@@ -33,7 +33,7 @@ returns-3 c =
     let a = d₄ .before .args in
     let how : How = howOf (a .options) in
     let k = sym (d₄ .covers .ensures) ∙ not-false _ (d₃ .if1 .left) in
-    rw (c .open-store .ensures, c .before .opening-of .ensures) (ap openedAnswer (opens-with how (a .main-len) (a .main-header) (a .wal) (a .header) k (sym (d₂ .is-barred .ensures) ∙ d₁ .if2 .left)))
+    rw (c .open-store .ensures, c .before .opening-of .ensures) (ap openedAnswer (opens-with how (a .main-len) (a .main-header) (a .wal) (a .header) k (sym (d₂ .is-clean-read-only .ensures) ∙ d₁ .if2 .left)))
 
 pub opened-with-spec : {M : Type 1} → statement M
 opened-with-spec = tie.close (tie.spec (search needs) (search needs) returns (search needs) (search needs) returns-2 (search needs) (search needs) returns-3)

@@ -8,7 +8,7 @@ use Rattle.le.proofs.Stores.{store-put}
 use Rattle.refusal.specs.declared.Refusal.the-variants as refusal
 use Rattle.pager_state.specs.World.{stagedLimit}
 use Rattle.pager_state.specs.Overlay.{slots, slotOf}
-use Rattle.pager_state.specs.Staging.{stageRefusal, slotted}
+use Rattle.pager_state.specs.Staging.{stageRefusal, withSlot}
 use Rattle.pager_stage.proofs.Staging.{refuses, stages}
 use borrow.Author.Needs.{needs}
 use Rattle.pager_stage.proofs.stage.Statement.{statement}
@@ -56,7 +56,7 @@ returns-5 c =
     (c .refused-in5 .ensures .0) (rw (c .refused-in5 .ensures .1))
 
 returns-6 : tie.Need-returns-6
-unfolding stageRefusal slotOf slotted
+unfolding stageRefusal slotOf withSlot
 returns-6 c =
     let W = c .before .before .before in
     let S = W .before .before .before in

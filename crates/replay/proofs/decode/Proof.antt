@@ -5,14 +5,14 @@ use borrow.Author.Needs.{needs}
 use Prim.Native.Nat.{_+_, _-_, _*_, _≤_, _<_}
 use lib.ListN.{length, take, length-set, length-take}
 use Rattle.replay.proofs.Bytes.{length-bytes, byte-at, lay-more, laid}
-use Rattle.replay.specs.Cases.{bytesOf}
+use Rattle.replay.specs.Cases.{hexBytes}
 use Rattle.le.specs.Le.{put}
 use Rattle.le.proofs.Stores.{put-none}
 use Rattle.replay.proofs.decode.Statement.{statement}
 use Rattle.replay.proofs.decode.Tie as tie
 
 abbrev Inv-loop : tie.InvT-loop
-Inv-loop line out₀ n i₀ out i = (i ≤ n) × (out ≡ put out₀ 0 (take i (bytesOf line))) × (length out ≡ length out₀)
+Inv-loop line out₀ n i₀ out i = (i ≤ n) × (out ≡ put out₀ 0 (take i (hexBytes line))) × (length out ≡ length out₀)
 
 abbrev μ-loop : tie.MeasureT-loop
 μ-loop line out₀ n i₀ out i = n - i
@@ -31,10 +31,10 @@ loop-again c =
     let a = c .before .before .before .before .before .before .before .before .before .args in
     let v = c .before .before .before .before .before .loop in
     let h : 2 * v .i + 1 < length (now (a .line)) = omega arith in
-    let k : v .i < length (bytesOf (now (a .line))) = rw length-bytes (omega arith) in (
+    let k : v .i < length (hexBytes (now (a .line))) = rw length-bytes (omega arith) in (
       omega arith,
       rw (v .inv .1, c .before .before .digit-of .ensures .0, c .digit-of2 .ensures .0)
-          (lay-more (now (a .out)) (bytesOf (now (a .line))) (v .i) _ (omega arith) k (sym (byte-at (now (a .line)) (v .i) h))),
+          (lay-more (now (a .out)) (hexBytes (now (a .line))) (v .i) _ (omega arith) k (sym (byte-at (now (a .line)) (v .i) h))),
       simp length-set (v .inv .2),
     )
 
@@ -42,9 +42,9 @@ returns : tie.Need-returns Inv-loop μ-loop
 returns c =
     let a = c .before .before .before .before .before .args in
     let v = c .before .loop in
-    let e : v .i ≡ length (take (length (now (a .out))) (bytesOf (now (a .line)))) = simp (length-take, length-bytes) (omega arith) in
+    let e : v .i ≡ length (take (length (now (a .out))) (hexBytes (now (a .line)))) = simp (length-take, length-bytes) (omega arith) in
     let k : v .i ≡ c .before .before .min .result = omega arith in
-    rw k at (laid (now (a .out)) (bytesOf (now (a .line))) (v .i) e (v .inv .1))
+    rw k at (laid (now (a .out)) (hexBytes (now (a .line))) (v .i) e (v .inv .1))
 
 pub decode-spec : {M : Type 1} → statement M
 decode-spec =

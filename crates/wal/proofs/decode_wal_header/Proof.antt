@@ -10,7 +10,7 @@ use lib.ListN.{length, take}
 use Rattle.le.specs.Le.{field, wholeField, sameBytes}
 use Rattle.le.proofs.Fields.{field-whole}
 use Rattle.refusal.proofs.Headers.{short, foreign, other-version, other-size, read}
-use Rattle.wal.specs.Header.{walMagic, headerIn, isWalVersion, walHeaderTests, decodeWalHeader}
+use Rattle.wal.specs.Header.{walMagic, walHeaderIn, isWalVersion, walHeaderTests, decodeWalHeader}
 use Rattle.wal.specs.declared.WalHeaderDecoded.the-variants as decoded
 use Rattle.wal.proofs.decode_wal_header.Statement.{statement}
 use Rattle.wal.proofs.decode_wal_header.Tie as tie
@@ -74,7 +74,7 @@ returns-5 c =
     (ne-eqb _ _ (rw (c .before .read-u322 .ensures ∙ inside l (d .if1 .left) 4 12 (omega arith)) at (c .if5 .taken)))
 
 returns-6 : tie.Need-returns-6
-unfolding headerIn decodeWalHeader
+unfolding walHeaderIn decodeWalHeader
 returns-6 c =
     let z = c .before .before .before in
     let v = z .before .before .before .before in

@@ -1,15 +1,15 @@
 use borrow.Author.Needs.{needs}
 use borrow.Author.Tests.{eq-eqb, ne-eqb}
-use Rattle.wal.specs.Read.{findPage}
+use Rattle.wal.specs.Read.{findLogPage}
 use Rattle.wal.proofs.find_page.Statement.{statement}
 use Rattle.wal.proofs.find_page.Tie as tie
 
 returns : tie.Need-returns
-unfolding findPage
+unfolding findLogPage
 returns c = rw (eq-eqb _ _ (c .if1 .taken))
 
 returns-2 : tie.Need-returns-2
-unfolding findPage
+unfolding findLogPage
 returns-2 c = rw (ne-eqb _ _ (c .before .before .if1 .left)) (rw (c .before .part .ensures) at (c .last-place .ensures))
 
 pub find-page-spec : {M : Type 1} → statement M

@@ -7,13 +7,13 @@ use lib.ListN.{length, take}
 use Rattle.frame.specs.Frame.{frameAt}
 use Rattle.frame.specs.declared.FrameHeader.{FrameHeader}
 use Rattle.wal.specs.Recovery.{chunks, chunkAt, pageOf}
-use Rattle.wal.specs.Read.{placeFrom}
+use Rattle.wal.specs.Read.{pagePlaceFrom}
 use Rattle.wal.proofs.Reading.{place-start, place-here, place-before, place-none}
 use Rattle.wal.proofs.last_place.Statement.{statement}
 use Rattle.wal.proofs.last_place.Tie as tie
 
 abbrev Inv-loop : tie.InvT-loop
-Inv-loop file page-num i₀ i = (i ≤ (length file - 32) / 4112) × (placeFrom page-num 0 (take i (chunks file)) ≡ placeFrom page-num 0 (chunks file))
+Inv-loop file page-num i₀ i = (i ≤ (length file - 32) / 4112) × (pagePlaceFrom page-num 0 (take i (chunks file)) ≡ pagePlaceFrom page-num 0 (chunks file))
 
 abbrev μ-loop : tie.MeasureT-loop
 μ-loop file page-num i₀ i = i

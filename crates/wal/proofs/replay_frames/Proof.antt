@@ -8,8 +8,8 @@ use borrow.Author.Tests.{not-true, not-false}
 use lib.ListN.{length}
 use Rattle.frame.specs.Frame.{frameAt, intactAt}
 use Rattle.frame.specs.declared.FrameHeader.{FrameHeader}
-use Rattle.wal.specs.Header.{headerIn}
-use Rattle.wal.specs.Recovery.{countOf}
+use Rattle.wal.specs.Header.{walHeaderIn}
+use Rattle.wal.specs.Recovery.{commitCount}
 use Rattle.wal.specs.Write.{emptyWal, withFrame}
 use Rattle.wal.specs.declared.WalHeader.{WalHeader}
 use Rattle.wal.proofs.Replay.{Reading, reading-starts, reading-len, reading-count, reading-fits, reading-on, reading-stops, reading-ends}
@@ -29,10 +29,10 @@ loop-holds c =
 
 -- in a turn an intact frame stands at `at`
 intact-there : (c : tie.Then1 Inv-loop μ-loop)
-    → intactAt (now (c .before .before .before .before .before .args .file)) (c .before .before .loop .at) (headerIn (now (c .before .before .before .before .before .args .file)) .salt) ≡ true
+    → intactAt (now (c .before .before .before .before .before .args .file)) (c .before .before .loop .at) (walHeaderIn (now (c .before .before .before .before .before .args .file)) .salt) ≡ true
 intact-there c =
     let s = c .before .before .before .before .before in
-    let e : s .args .header .salt ≡ headerIn (now (s .args .file)) .salt = ap (λ (h : WalHeader). h .salt) (s .pre) in
+    let e : s .args .header .salt ≡ walHeaderIn (now (s .args .file)) .salt = ap (λ (h : WalHeader). h .salt) (s .pre) in
     rw e at (sym (c .before .is-intact .ensures) ∙ c .if1 .taken)
 
 fits : (c : tie.Then1 Inv-loop μ-loop) → c .before .before .loop .at + 4112 ≤ length (now (c .before .before .before .before .before .args .file))
@@ -70,7 +70,7 @@ loop-again c =
     let d = c .before .before .before .before in
     let v = d .before .before .loop in
     let s = d .before .before .before .before .before in
-    let k : c .before .read-frame-header .result .«commit_page_count» ≡ countOf (frameAt (v .at) (now (s .args .file))) =
+    let k : c .before .read-frame-header .result .«commit_page_count» ≡ commitCount (frameAt (v .at) (now (s .args .file))) =
     ap (λ (h : FrameHeader). h .«commit_page_count») (c .before .read-frame-header .ensures) in
     reading-on (now (s .args .file)) (v .wal) (v .at) (v .inv) (intact-there d)
     (sym (c .before .before .before .is-readable .ensures) ∙ not-false _ (c .before .before .if2 .left)) (search needs)
@@ -80,7 +80,7 @@ returns-2 : tie.Need-returns-2 Inv-loop μ-loop
 returns-2 c =
     let v = c .before .before .loop in
     let s = c .before .before .before .before .before in
-    let e : s .args .header .salt ≡ headerIn (now (s .args .file)) .salt = ap (λ (h : WalHeader). h .salt) (s .pre) in
+    let e : s .args .header .salt ≡ walHeaderIn (now (s .args .file)) .salt = ap (λ (h : WalHeader). h .salt) (s .pre) in
     reading-ends (now (s .args .file)) (v .wal) (v .at) (v .inv) (rw e at (sym (c .before .is-intact .ensures) ∙ c .if1 .left))
 
 pub replay-frames-spec : {M : Type 1} → statement M

@@ -1,6 +1,6 @@
 use mathlib.Core.Path.{ap, _∙_}
 use borrow.Author.Needs.{needs}
-use Rattle.capi.specs.Batch.{toldAs}
+use Rattle.capi.specs.Batch.{addedNumbers}
 use Rattle.capi.proofs.batch.lateenbael_mvcc_add_text.Statement.{statement}
 use Rattle.capi.proofs.batch.lateenbael_mvcc_add_text.Tie as tie
 
@@ -8,7 +8,7 @@ returns : tie.Need-returns
 returns c =
     let d = c .before .before .before in
     let h = rw (d .before .builder-in .ensures) at (d .add-text .ensures) in
-    (c .told .ensures ∙ ap toldAs (h .0), h .1)
+    (c .added-numbers .ensures ∙ ap addedNumbers (h .0), h .1)
 
 pub lateenbael-mvcc-add-text-spec : {M : Type 1} → statement M
 lateenbael-mvcc-add-text-spec =

@@ -2,7 +2,7 @@ use mir.ValLaws.{toZ-ofZ}
 use mir.Syntax.{w64}
 use mathlib.Core.Path.{ap, _∙_}
 use borrow.Author.Needs.{needs}
-use Rattle.capi.specs.Batch.{toldAs}
+use Rattle.capi.specs.Batch.{addedNumbers}
 use Rattle.capi.proofs.batch.lateenbael_mvcc_add_tombstone.Statement.{statement}
 use Rattle.capi.proofs.batch.lateenbael_mvcc_add_tombstone.Tie as tie
 
@@ -12,7 +12,7 @@ returns c =
     let o = d .before .before .before .before .before in
     let f = toZ-ofZ w64 (o .args .rowid) (o .fits .rowid) in
     let h = rw (d .before .builder-in .ensures, f) at (d .add-tombstone .ensures) in
-    (c .told .ensures ∙ ap toldAs (h .0), h .1)
+    (c .added-numbers .ensures ∙ ap addedNumbers (h .0), h .1)
 
 pub lateenbael-mvcc-add-tombstone-spec : {M : Type 1} → statement M
 lateenbael-mvcc-add-tombstone-spec =

@@ -2,7 +2,7 @@ use mathlib.Core.Path.{_≡_, refl, sym, _∙_}
 use borrow.Author.Needs.{needs}
 use Rattle.mvcc.specs.Answer.{many}
 use Rattle.mvcc.specs.Fields.{recordAnswer}
-use Rattle.mvcc.specs.Decode.{recordAt, magic}
+use Rattle.mvcc.specs.Decode.{recordAt, batchMagic}
 use Rattle.le.specs.Le.{leOf}
 use Rattle.mvcc.proofs.Laws.{ends, told, passed, many-on, many-off, many-done, batch-short, batch-alien, batch-good, batch-bad}
 use Rattle.mvcc.proofs.MvccCommitBatch.decode.Statement.{statement}
@@ -18,7 +18,7 @@ returns : tie.Need-returns Inv-loop μ-loop
 returns c = batch-short (c .before .before .args .body .now) (c .if1 .taken)
 
 returns-2 : tie.Need-returns-2 Inv-loop μ-loop
-unfolding magic leOf
+unfolding batchMagic leOf
 returns-2 c =
     let h = c .before .before in
     batch-alien (h .before .before .args .body .now) (h .if1 .left) (λ e. c .if2 .taken (c .before .read-u64 .ensures ∙ e))
@@ -27,7 +27,7 @@ loop-holds : tie.Need-loop-holds Inv-loop μ-loop
 loop-holds c = refl
 
 returns-3 : tie.Need-returns-3 Inv-loop μ-loop
-unfolding magic leOf
+unfolding batchMagic leOf
 returns-3 c =
     let t = c .before .before .before .before in
     let l = t .before .loop in
@@ -46,7 +46,7 @@ loop-again c =
     (told recordAnswer (c .before .before .before .decode-record .ensures) (c .before .r .given .1)) (l .inv)
 
 returns-4 : tie.Need-returns-4 Inv-loop μ-loop
-unfolding magic leOf
+unfolding batchMagic leOf
 returns-4 c =
     let l = c .before .loop in
     let n = c .before .before in

@@ -2,7 +2,7 @@ use mathlib.Core.Path.{_≡_, sym, _∙_}
 use denote.Ref.{now}
 use borrow.Author.Needs.{needs}
 use borrow.Author.Tests.{lt-leb}
-use Rattle.wal.specs.Header.{headerIn}
+use Rattle.wal.specs.Header.{walHeaderIn}
 use Rattle.wal.specs.Recovery.{openLog}
 use Rattle.wal.proofs.HeaderRoundTrip.{decoded-as}
 use Rattle.wal.proofs.Opening.{opened-as}
@@ -14,7 +14,7 @@ unfolding openLog
 returns c = rw (lt-leb _ _ (c .if1 .taken))
 
 -- the header that was decoded is the one that lies there
-header-there : (c : tie.After-known-told) → c .before .header .given .0 .0 ≡ headerIn (now (c .before .before .before .before .before .before .args .file))
+header-there : (c : tie.After-known-told) → c .before .header .given .0 .0 ≡ walHeaderIn (now (c .before .before .before .before .before .before .args .file))
 header-there c =
     let d = c .before .before .before in
     sym (decoded-as (now (d .before .before .before .args .file)) _ (sym (d .decode-wal-header .ensures) ∙ c .before .header .given .1) .fields)

@@ -1,0 +1,2 @@
+-- The root of the definitions of a checkpoint's steps.
+pub mod CheckpointStep
