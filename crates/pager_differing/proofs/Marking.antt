@@ -31,8 +31,8 @@ module _ (s : Staged) (g t l m : List ℕ) where
     pub long : length marks ≡ stagedLimit
     pub front : (j : ℕ) → j < i → getD marks j 0 ≡ markAt j
 
-  pub marks-none : Front 0 (replicate {A = ℕ} 64 65535)
-  marks-none = record { long = length-replicate {A = ℕ} 64 65535; front = λ j h. absurd (omega (arith, h)) }
+  pub marks-none : Front 0 (replicate {A = ℕ} stagedLimit 65535)
+  marks-none = record { long = length-replicate {A = ℕ} stagedLimit 65535; front = λ j h. absurd (omega (arith, h)) }
 
   module _ (i : ℕ) {marks : List ℕ} {mark : ℕ} (k : Front i marks) (h : i < stagedLimit) (e : mark ≡ markAt i) where
     same-mark : (j : ℕ) → (j ≡ i → ⊥) → getD (set marks i mark) j 0 ≡ getD marks j 0

@@ -6,6 +6,7 @@ use lib.ListN.{length, take, length-map, length-take}
 use mir.Val.{Val}
 use denote.Laws.{Is}
 use denote.Struct.Declared.{row}
+use Rattle.pager_state.specs.World.{stagedLimit}
 use Rattle.pager_state.specs.declared.Staged.{Staged}
 use Rattle.pager_state.proofs.Staged as S
 
@@ -13,5 +14,5 @@ same : {A : Type 0} (xs : List A) {n : ℕ} → length (map (λ (v : A). v) xs) 
 same xs p = sym (length-map xs (λ v. v)) ∙ p
 
 -- `pages` is field 1
-pub slots : (s : Staged) (vs : List Val) → Is (row S.the-type) s vs → length (s .pages) ≡ 64
+pub slots : (s : Staged) (vs : List Val) → Is (row S.the-type) s vs → length (s .pages) ≡ stagedLimit
 slots s vs p = same (s .pages) (p .1 .1 .1 .0 .1 .0 .1)

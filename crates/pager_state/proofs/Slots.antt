@@ -10,6 +10,7 @@ use lib.Dec.{eqb}
 use lib.ListN.{length, getD, take, drop, drop-of-length-le}
 use lib.Seq.{drop-cons}
 use borrow.Author.Tests.{eq-eqb, ne-eqb, eqb-true, eqb-false}
+use Rattle.pager_state.specs.World.{stagedLimit}
 use Rattle.le.specs.Choice.{pick}
 use Rattle.pager_state.specs.Overlay.{findIn}
 
@@ -71,9 +72,9 @@ find-take (x ∷ l) (suc n) p = next n (findIn (take n l) p) (findIn l p) (eqb x
 
 -- b is 0 if the first i lack p, else 64 less the index of the first that is p
 abbrev pub Best : List ℕ → ℕ → ℕ → ℕ → Type 0
-Best l p i b = ((b ≡ 0) × (findIn l p ≡ i + findIn (drop i l) p)) ⊎ ((64 < b + i) × (findIn l p + b ≡ 64))
+Best l p i b = ((b ≡ 0) × (findIn l p ≡ i + findIn (drop i l) p)) ⊎ ((stagedLimit < b + i) × (findIn l p + b ≡ stagedLimit))
 
-module _ (l : List ℕ) (p i b w : ℕ) {c d : ℕ} (n : length l ≡ 64) (h : i < 64) (k : w + i ≡ 64) where
+module _ (l : List ℕ) (p i b w : ℕ) {c d : ℕ} (n : length l ≡ stagedLimit) (h : i < stagedLimit) (k : w + i ≡ stagedLimit) where
   best-by : (t : Bool) → eqb (getD l i 0) p ≡ t → d ≡ pick t w 0 → c ≡ max b d → Best l p i b → Best l p (i + 1) c
   best-by true t g e (inl q) =
       let z = find-hit l i p (omega arith) (eqb-true _ _ t) in
@@ -88,7 +89,7 @@ module _ (l : List ℕ) (p i b w : ℕ) {c d : ℕ} (n : length l ≡ 64) (h : i
   pub best-next : d ≡ pick (eqb (getD l i 0) p) w 0 → c ≡ max b d → Best l p i b → Best l p (i + 1) c
   best-next g e = best-by (eqb (getD l i 0) p) refl g e
 
-pub best-end : (l : List ℕ) (p i b : ℕ) → length l ≡ 64 → 64 ≤ i → i ≤ 64 → Best l p i b → findIn l p + b ≡ 64
+pub best-end : (l : List ℕ) (p i b : ℕ) → length l ≡ stagedLimit → stagedLimit ≤ i → i ≤ stagedLimit → Best l p i b → findIn l p + b ≡ stagedLimit
 best-end l p i b n h k (inl q) =
     let z = find-end l i p (omega arith) in
     omega (arith, q, z)

@@ -23,7 +23,7 @@ use Rattle.wal.specs.declared.WalHeaderDecoded.the-variants as log
 use Rattle.wal.specs.declared.LastCommit.{LastCommit}
 use Rattle.wal.specs.declared.LastCommit.the-variants as commit
 use Rattle.wal.specs.declared.Wal.{Wal}
-use Rattle.pager_state.specs.World.{pageLimit, countOf, lengthsFine}
+use Rattle.pager_state.specs.World.{pageLimit, countOf, lengthsFine, stagedLimit}
 use Rattle.pager_state.specs.Overlay.{entry}
 use Rattle.pager_state.specs.Stores.{File, Disk, content, Act, Put, SetLen, Other, storedAll}
 use Rattle.pager_state.specs.declared.AccessMode.{AccessMode}
@@ -66,7 +66,7 @@ tableOf h fs = tabulate (λ (n : ℕ). entry (placeFrom n 0 fs) (hasPage h n)) 0
 -- ---- the store
 
 unfoldable pub emptyStaged : Staged
-emptyStaged = record { count = 0; pages = replicate 64 0 }
+emptyStaged = record { count = 0; pages = replicate stagedLimit 0 }
 
 -- an open store with nothing staged and nothing part done; mh is the main file's own header
 unfoldable pub opensAs : DbHeader → DbHeader → ℕ → Wal → ℕ → Opening → Pager

@@ -2,57 +2,44 @@
 use mathlib.Core.Bool.{Bool, true, false}
 use mathlib.Core.Option.{Option, none, some}
 use Prim.Native.Nat.{ℕ}
+use Rattle.refusal.specs.declared.Row.{Row}
 use Rattle.refusal.specs.declared.Refusal.{Refusal}
 use Rattle.refusal.specs.declared.Refusal.the-variants as refusal
 
 -- ---- the table
 
-abbrev pub number : Refusal → ℕ
-number refusal.Area = 1
-number refusal.Short = 2
-number refusal.Magic = 3
-number refusal.Version = 4
-number refusal.PageSize = 5
-number refusal.Limit = 6
-number refusal.MainShort = 7
-number refusal.PageZero = 8
-number refusal.Busy = 9
-number refusal.ReadOnly = 10
-number refusal.Page = 11
-number refusal.Staging = 12
-number refusal.NewHeader = 13
-number (refusal.Joining n) = 14
-number refusal.LogFull = 15
-number refusal.Clock = 16
-number refusal.Truncated = 17
-number refusal.Tag = 18
-number refusal.Text = 19
-number refusal.Fit = 20
-number refusal.NoRecord = 21
+-- a row's number; 14 has the "lowest page" besides, the others 0
+abbrev pub plain : ℕ → Row
+plain n = record { number = n; page = 0 }
 
--- "Joining, lowest page": beside every other number 0
+abbrev pub rowOf : Refusal → Row
+rowOf refusal.Area = plain 1
+rowOf refusal.Short = plain 2
+rowOf refusal.Magic = plain 3
+rowOf refusal.Version = plain 4
+rowOf refusal.PageSize = plain 5
+rowOf refusal.Limit = plain 6
+rowOf refusal.MainShort = plain 7
+rowOf refusal.PageZero = plain 8
+rowOf refusal.Busy = plain 9
+rowOf refusal.ReadOnly = plain 10
+rowOf refusal.Page = plain 11
+rowOf refusal.Staging = plain 12
+rowOf refusal.NewHeader = plain 13
+rowOf (refusal.Joining n) = record { number = 14; page = n }
+rowOf refusal.LogFull = plain 15
+rowOf refusal.Clock = plain 16
+rowOf refusal.Truncated = plain 17
+rowOf refusal.Tag = plain 18
+rowOf refusal.Text = plain 19
+rowOf refusal.Fit = plain 20
+rowOf refusal.NoRecord = plain 21
+
+abbrev pub number : Refusal → ℕ
+number r = rowOf r .number
+
 abbrev pub lowestPage : Refusal → ℕ
-lowestPage refusal.Area = 0
-lowestPage refusal.Short = 0
-lowestPage refusal.Magic = 0
-lowestPage refusal.Version = 0
-lowestPage refusal.PageSize = 0
-lowestPage refusal.Limit = 0
-lowestPage refusal.MainShort = 0
-lowestPage refusal.PageZero = 0
-lowestPage refusal.Busy = 0
-lowestPage refusal.ReadOnly = 0
-lowestPage refusal.Page = 0
-lowestPage refusal.Staging = 0
-lowestPage refusal.NewHeader = 0
-lowestPage (refusal.Joining n) = n
-lowestPage refusal.LogFull = 0
-lowestPage refusal.Clock = 0
-lowestPage refusal.Truncated = 0
-lowestPage refusal.Tag = 0
-lowestPage refusal.Text = 0
-lowestPage refusal.Fit = 0
-lowestPage refusal.NoRecord = 0
+lowestPage r = rowOf r .page
 
 -- ---- judging: none is no refusal
 

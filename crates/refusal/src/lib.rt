@@ -1,7 +1,7 @@
 // Document 01's table of refusals. Every answer that can be one has it as `Refused(Refusal)`.
-// A new refusal is a row here, one in `number`, and one in the definition.
+// A new refusal is a row of the enum, one of `row_of`, and one of the definition.
 ghost use mathlib.Core.Path.{_≡_};
-ghost use Rattle.refusal.specs.Refusal.{number, lowestPage};
+ghost use Rattle.refusal.specs.Refusal.{plain, rowOf, number, lowestPage};
 
 pub enum Refusal {
     // A wrong area length, or a file length above its area.
@@ -48,41 +48,56 @@ pub enum Refusal {
     NoRecord,
 }
 
-// The number that the table gives it.
-pub fn number(row: Refusal) -> u32
-    ensures { λ r. ⌜ r ≡ number row ⌝ }
+// What the table gives a refusal: its number, and beside 14 the lowest page; beside every other 0.
+pub struct Row {
+    pub number: u32,
+    pub page: usize,
+}
+
+fn plain(number: u32) -> Row
+    ensures { λ r. ⌜ r ≡ plain number ⌝ }
 {
-    match row {
-        Refusal::Area => 1,
-        Refusal::Short => 2,
-        Refusal::Magic => 3,
-        Refusal::Version => 4,
-        Refusal::PageSize => 5,
-        Refusal::Limit => 6,
-        Refusal::MainShort => 7,
-        Refusal::PageZero => 8,
-        Refusal::Busy => 9,
-        Refusal::ReadOnly => 10,
-        Refusal::Page => 11,
-        Refusal::Staging => 12,
-        Refusal::NewHeader => 13,
-        Refusal::Joining(_) => 14,
-        Refusal::LogFull => 15,
-        Refusal::Clock => 16,
-        Refusal::Truncated => 17,
-        Refusal::Tag => 18,
-        Refusal::Text => 19,
-        Refusal::Fit => 20,
-        Refusal::NoRecord => 21,
+    Row { number, page: 0 }
+}
+
+fn row_of(refusal: Refusal) -> Row
+    ensures { λ r. ⌜ r ≡ rowOf refusal ⌝ }
+{
+    match refusal {
+        Refusal::Area => plain(1),
+        Refusal::Short => plain(2),
+        Refusal::Magic => plain(3),
+        Refusal::Version => plain(4),
+        Refusal::PageSize => plain(5),
+        Refusal::Limit => plain(6),
+        Refusal::MainShort => plain(7),
+        Refusal::PageZero => plain(8),
+        Refusal::Busy => plain(9),
+        Refusal::ReadOnly => plain(10),
+        Refusal::Page => plain(11),
+        Refusal::Staging => plain(12),
+        Refusal::NewHeader => plain(13),
+        Refusal::Joining(page) => Row { number: 14, page },
+        Refusal::LogFull => plain(15),
+        Refusal::Clock => plain(16),
+        Refusal::Truncated => plain(17),
+        Refusal::Tag => plain(18),
+        Refusal::Text => plain(19),
+        Refusal::Fit => plain(20),
+        Refusal::NoRecord => plain(21),
     }
 }
 
-// What the table gives beside 14, the lowest page; 0 beside every other.
-pub fn lowest_page(row: Refusal) -> usize
-    ensures { λ r. ⌜ r ≡ lowestPage row ⌝ }
+pub fn number(refusal: Refusal) -> u32
+    ensures { λ r. ⌜ r ≡ number refusal ⌝ }
 {
-    match row {
-        Refusal::Joining(page) => page,
-        _ => 0,
-    }
+    let found = row_of(refusal);
+    found.number
+}
+
+pub fn lowest_page(refusal: Refusal) -> usize
+    ensures { λ r. ⌜ r ≡ lowestPage refusal ⌝ }
+{
+    let found = row_of(refusal);
+    found.page
 }

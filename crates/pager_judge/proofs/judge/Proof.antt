@@ -6,7 +6,7 @@ use denote.Ref.{now}
 use borrow.Author.Tests.{not-true, not-false}
 use Prim.Native.Nat.{ℕ, _-_, _≤_}
 use Rattle.header.specs.declared.DbHeader.{DbHeader}
-use Rattle.pager_state.specs.World.{World, world, fine, busy, readOnly}
+use Rattle.pager_state.specs.World.{World, world, fine, busy, readOnly, stagedLimit}
 use Rattle.pager_state.specs.Steps.{stepFine, tableFits, headerGood}
 use Rattle.pager_state.proofs.Made.{ready-fine}
 use Rattle.pager_judge.proofs.Judging.{start-area, start-busy, start-table, areas, start-read-only, start-header, start-joining, Passed, start-full, start-begun}
@@ -104,7 +104,7 @@ returns-6 c =
 
 -- ---- room
 
-few : (c : tie.After-mark-differing) → c .mark-differing .result .count ≤ 64
+few : (c : tie.After-mark-differing) → c .mark-differing .result .count ≤ stagedLimit
 few c = c .mark-differing .ensures .1 .0 .0
 
 add-if7 : tie.Need-add-if7
