@@ -23,7 +23,7 @@ use header::HeaderDecoded;
 use header::HeaderEncoded;
 use le::Stored;
 use log_listing::Listed;
-use storedRefusal::Refusal;
+use refusal::Refusal;
 use wal::BatchFound;
 use wal::ClockSet;
 use wal::FrameAppended;
@@ -40,13 +40,13 @@ use wal_batch::BatchAppended;
 // What a call answers that gives an open log: where it is refused, the log's numbers are 0.
 #[repr(C)]
 pub struct WalAnswer {
-    pub storedRefusal: u32,
+    pub refusal: u32,
     pub wal: WalNumbers,
 }
 
 #[repr(C)]
 pub struct WalHeaderAnswer {
-    pub storedRefusal: u32,
+    pub refusal: u32,
     pub header: WalHeader,
 }
 
@@ -61,7 +61,7 @@ pub struct FrameAnswer {
 // How many bytes a listing has.
 #[repr(C)]
 pub struct ListAnswer {
-    pub storedRefusal: u32,
+    pub refusal: u32,
     pub len: usize,
 }
 
@@ -80,7 +80,7 @@ fn refused(row: Refusal) -> WalAnswer
     ensures { λ r. ⌜ r ≡ logRefused row ⌝ }
 {
     WalAnswer {
-        storedRefusal: storedRefusal::number(row),
+        refusal: refusal::number(row),
         wal: WalNumbers {
             header: no_wal_header(),
             len: 0,
@@ -97,7 +97,7 @@ fn given(wal: Wal) -> WalAnswer
     ensures { λ r. ⌜ r ≡ logGiven wal ⌝ }
 {
     WalAnswer {
-        storedRefusal: 0,
+        refusal: 0,
         wal: wal_of(wal),
     }
 }
@@ -209,12 +209,12 @@ pub extern "C" fn lateenbael_wal_find_page(
 {
     match wal::find_page(file, wal_in(wal), page_num) {
         PagePlace::At(at) => PageAnswer {
-            storedRefusal: 0,
+            refusal: 0,
             area: 1,
             at,
         },
         PagePlace::Nothing => PageAnswer {
-            storedRefusal: 0,
+            refusal: 0,
             area: 0,
             at: 0,
         },
@@ -231,13 +231,13 @@ pub extern "C" fn lateenbael_wal_next_batch(
 {
     match wal::next_batch(file, wal_in(wal), index) {
         BatchFound::Batch { index, offset } => BatchPlace {
-            storedRefusal: 0,
+            refusal: 0,
             found: 1,
             index,
             offset,
         },
         BatchFound::Nothing => BatchPlace {
-            storedRefusal: 0,
+            refusal: 0,
             found: 0,
             index: 0,
             offset: 0,
@@ -251,12 +251,9 @@ pub extern "C" fn lateenbael_list_log(file: &[u8], out: &mut [u8]) -> ListAnswer
     ensures { λ _. ⌜ now (out .exit) ≡ listedAfter (now (file .entry)) (now (out .entry)) ⌝ }
 {
     match log_listing::list_log(file, out) {
-        Listed::Bytes(len) => ListAnswer {
-            storedRefusal: 0,
-            len,
-        },
+        Listed::Bytes(len) => ListAnswer { refusal: 0, len },
         Listed::Refused(row) => ListAnswer {
-            storedRefusal: storedRefusal::number(row),
+            refusal: refusal::number(row),
             len: 0,
         },
     }
@@ -277,7 +274,7 @@ fn no_log_header(row: Refusal) -> WalHeaderAnswer
     ensures { λ r. ⌜ r ≡ walHeaderRefused row ⌝ }
 {
     WalHeaderAnswer {
-        storedRefusal: storedRefusal::number(row),
+        refusal: refusal::number(row),
         header: no_wal_header(),
     }
 }
@@ -287,10 +284,7 @@ pub extern "C" fn lateenbael_decode_wal_header(log: &[u8]) -> WalHeaderAnswer
     ensures { λ r. ⌜ r ≡ walHeaderAs (decodeWalHeader (now (log .entry))) ⌝ }
 {
     match wal::decode_wal_header(log) {
-        WalHeaderDecoded::Header(header) => WalHeaderAnswer {
-            storedRefusal: 0,
-            header,
-        },
+        WalHeaderDecoded::Header(header) => WalHeaderAnswer { refusal: 0, header },
         WalHeaderDecoded::Refused(row) => no_log_header(row),
     }
 }
@@ -302,7 +296,7 @@ pub extern "C" fn lateenbael_encode_header(header: DbHeader, buf: &mut [u8]) -> 
 {
     match header::encode_header(header, buf) {
         HeaderEncoded::Done => 0,
-        HeaderEncoded::Refused(row) => storedRefusal::number(row),
+        HeaderEncoded::Refused(row) => refusal::number(row),
     }
 }
 
@@ -310,7 +304,7 @@ fn no_header(row: Refusal) -> HeaderAnswer
     ensures { λ r. ⌜ r ≡ headerRefused row ⌝ }
 {
     HeaderAnswer {
-        storedRefusal: storedRefusal::number(row),
+        refusal: refusal::number(row),
         header: DbHeader {
             page_count: 0,
             schema_root_page: 0,
@@ -325,10 +319,7 @@ pub extern "C" fn lateenbael_decode_header(buf: &[u8]) -> HeaderAnswer
     ensures { λ r. ⌜ r ≡ decodedHeaderAs (decodeHeader (now (buf .entry))) ⌝ }
 {
     match header::decode_header(buf) {
-        HeaderDecoded::Header(header) => HeaderAnswer {
-            storedRefusal: 0,
-            header,
-        },
+        HeaderDecoded::Header(header) => HeaderAnswer { refusal: 0, header },
         HeaderDecoded::Refused(row) => no_header(row),
     }
 }

@@ -95,7 +95,8 @@ pub fn write_frame_header(
     commit_page_count: u32,
     salt: u32,
 ) -> Stored
-    ensures { λ r. ⌜ (r ≡ storedOf (now (log .entry)) at frameSize) × (now (log .exit) ≡ headingAfter (now (log .entry)) at «page_num» «commit_page_count» salt) ⌝ }
+    ensures { λ r. ⌜ r ≡ storedOf (now (log .entry)) at frameSize ⌝ }
+    ensures { λ _. ⌜ now (log .exit) ≡ headingAfter (now (log .entry)) at «page_num» «commit_page_count» salt ⌝ }
 {
     if !le::fits_in(log.len(), at, FRAME_SIZE) {
         return Stored::Area;
