@@ -5,6 +5,7 @@
 mod print;
 
 use input::Input;
+use mvcc::BATCH_BODY_SIZE;
 use refusal::Refusal;
 
 // One byte more than a body has, so that a longer one is noticed.
@@ -37,7 +38,7 @@ fn read_body() {
 }
 
 fn print_one(body: &[u8]) {
-    if 4096 < body.len() {
+    if BATCH_BODY_SIZE < body.len() {
         print::print_refused(Refusal::Area);
         return;
     }

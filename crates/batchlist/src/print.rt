@@ -3,6 +3,7 @@
 ghost use mathlib.Core.Path.{_≡_};
 ghost use Prim.Native.Nat.{_≤_};
 ghost use Rattle.mvcc.specs.Seen.{decodes};
+use mvcc::BATCH_HEADING_SIZE;
 use refusal::Refusal;
 
 fn say(text: &[u8]) {
@@ -195,7 +196,7 @@ fn print_record(body: &[u8], i: usize, record: mvcc::MvccLogRecord) {
 
 // Prints the lines of all records.
 fn print_records(body: &[u8], count: usize) {
-    let mut at: usize = 18;
+    let mut at: usize = BATCH_HEADING_SIZE;
     let mut i: usize = 0;
     while i < count {
         let mvcc::RecordField::Taken(record, next) = mvcc_reader::record_from(body, at) else {

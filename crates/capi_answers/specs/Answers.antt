@@ -1,6 +1,6 @@
 -- What the store's calls answer, in numbers: document 01's refusal or 0, and what the call gives. Stores go over as `storeOf` has them
 -- and are taken as `pagerIn` has them.
-use mathlib.Core.Bool.{Bool, true, false, not}
+use mathlib.Core.Bool.{Bool, not}
 use mathlib.Core.List.{List, []}
 use Prim.Native.Nat.{ℕ, _+_}
 use lib.Dec.{leb, eqb}
@@ -9,7 +9,6 @@ use Rattle.page.specs.Page.{pageSize}
 use Rattle.wal.specs.Recovery.{walArea}
 use Rattle.refusal.specs.Refusal as table
 use Rattle.refusal.specs.declared.Refusal.{Refusal}
-use Rattle.header.specs.declared.DbHeader.{DbHeader}
 use Rattle.pager_state.specs.World.{World}
 use Rattle.pager_state.specs.Overlay.{pageFrom}
 use Rattle.pager_state.specs.declared.AccessMode.{AccessMode}

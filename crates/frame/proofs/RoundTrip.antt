@@ -1,19 +1,17 @@
 -- A stored frame reads back intact, with its fields and its body. Assumes nothing.
-use mathlib.Core.Path.{_≡_, refl, sym, ap, _∙_}
+use mathlib.Core.Path.{_≡_, sym, _∙_}
 use mathlib.Core.Bool.{true}
 use mathlib.Core.List.{List, _++_, append-assoc}
 use Prim.Native.Nat.{ℕ, _+_, _^_, _≤_, _<_}
 use native.Mathlib.Omega.{arith}
 use borrow.Author.Tests.{eq-eqb, le-leb}
-use lib.ListN.{length, take, drop, length-append}
+use lib.ListN.{length, take, length-append}
 use lib.Seq.{take-at, drop-at}
 use Rattle.le.specs.Le.{leBytes, field, wholeField, put}
 use Rattle.le.proofs.Fields.{length-leBytes, field-front, field-behind, field-whole}
 use Rattle.le.proofs.Stores.{length-put, part-put}
-use Rattle.checksum.specs.Checksum.{sumFrom}
 use Rattle.checksum.proofs.Sums.{sumFrom-fits}
 use Rattle.frame.specs.Frame.{heading, frameSum, encodeFrame, frameAt, frameHeader, bodyOf, checksumOf, intact, intactAt}
-use Rattle.frame.specs.declared.FrameHeader.{FrameHeader}
 use Rattle.frame.proofs.Stores.{length-heading, length-encodeFrame}
 
 module _ (page count salt : ℕ) (body : List ℕ) where

@@ -1,9 +1,8 @@
 -- What the stores of a frame leave in the log. Assumes nothing.
-use mathlib.Core.Path.{_≡_, refl, sym, ap, _∙_}
+use mathlib.Core.Path.{_≡_, sym, ap, _∙_}
 use mathlib.Core.Bool.{true, false}
 use mathlib.Core.List.{List, _++_, append-assoc}
 use Prim.Native.Nat.{ℕ, _+_, _^_, _≤_, _<_}
-use native.Mathlib.Nat.{add-assoc}
 use native.Mathlib.Omega.{arith}
 use borrow.Author.Tests.{leb-true, leb-false, eq-eqb, ne-eqb}
 use lib.Dec.{leb}
@@ -13,7 +12,7 @@ use Rattle.le.specs.Answers.{storedOf}
 use Rattle.le.specs.declared.Stored.{Stored}
 use Rattle.le.specs.declared.Stored.the-variants.{Done, Area}
 use Rattle.le.proofs.Fields.{length-leBytes}
-use Rattle.le.proofs.Stores.{length-put, put-none, put-over, put-there, part-put, drop-put, length-store, store-put, store-none, store-next}
+use Rattle.le.proofs.Stores.{length-put, put-over, put-there, part-put, drop-put, length-store, store-put, store-none, store-next}
 use Rattle.page.specs.Page.{frontPage}
 use Rattle.checksum.specs.Checksum.{sumFrom}
 use Rattle.checksum.proofs.Sums.{sumFrom-append, sumFrom-fits}

@@ -8,7 +8,7 @@ use Rattle.le.specs.Choice.{pick, both}
 use Rattle.le.specs.Le.{leBytes, field, wholeField, put, store}
 use Rattle.le.specs.Answers.{storedOf}
 use Rattle.le.specs.declared.Stored.{Stored}
-use Rattle.le.specs.declared.Stored.the-variants.{Done, Area}
+use Rattle.le.specs.declared.Stored.the-variants.{Area}
 use Rattle.page.specs.Page.{pageSize}
 use Rattle.checksum.specs.Checksum.{sumFrom}
 use Rattle.frame.specs.declared.FrameHeader.{FrameHeader}

@@ -2,11 +2,11 @@
 // A frame is read, summed and written where it lies in the log; no place in the log can hurt.
 ghost use mathlib.Core.Path.{_≡_};
 ghost use Prim.Native.Nat.{_+_, _≤_};
-ghost use lib.ListN.{length, take, drop};
+ghost use lib.ListN.{length};
 ghost use Rattle.le.specs.Answers.{storedOf};
-ghost use Rattle.le.specs.Le.{put, store};
+ghost use Rattle.le.specs.Le.{put};
 ghost use Rattle.page.specs.Page.{frontPage};
-ghost use Rattle.frame.specs.Frame.{frameSize, isCommit, heading, encodeFrame, frameAt, frameHeader, bodyOf, checksumOf, intactAt, headingAfter, frameStored, frameAfter};
+ghost use Rattle.frame.specs.Frame.{frameSize, isCommit, heading, frameAt, frameHeader, bodyOf, checksumOf, intactAt, headingAfter, frameStored, frameAfter};
 use le::Stored;
 use page::PAGE_SIZE;
 

@@ -3,15 +3,14 @@ use mathlib.Core.Path.{_≡_, refl, sym, ap, _∙_}
 use mathlib.Core.Bool.{true, false}
 use mathlib.Core.List.{List, [], _∷_, _++_, append-assoc, append-nil}
 use mathlib.Core.Logic.{⊎-elim}
-use Prim.Native.Nat.{ℕ, _+_, _-_, _*_, _/_, _%_, _^_, _≤_, _<_}
+use Prim.Native.Nat.{ℕ, _+_, _-_, _/_, _%_, _^_, _≤_, _<_}
 use native.Mathlib.Nat.{add-assoc, add-zero, zero-add}
 use native.Mathlib.Numerals.{add-one}
 use native.Mathlib.Omega.{arith}
-use borrow.Author.Tests.{le-leb, lt-leb, leb-true}
+use borrow.Author.Tests.{le-leb, lt-leb}
 use lib.Dec.{leb}
-use lib.ListN.{length, take, drop, getD, set, length-append, length-take, length-drop, length-set, take-append-drop, replicate, replicate-append-replicate, length-replicate}
+use lib.ListN.{length, take, drop, getD, set, length-append, length-take, length-drop, take-append-drop, replicate, replicate-append-replicate, length-replicate}
 use lib.Seq.{drop-length, drop-drop, set-split, take-suc, take-append-seam, take-at, drop-at, drop-append-add, take-append-le, take-take}
-use Rattle.le.specs.Choice.{pick}
 use Rattle.le.specs.Le.{leBytes, put, store}
 use Rattle.le.specs.Answers.{storedOf}
 use Rattle.le.specs.declared.Stored.the-variants.{Done, Area}

@@ -62,9 +62,16 @@ unfoldable pub encodeBatch : ℕ → List Rec → List ℕ
 encodeBatch t rs =
     (0x4d ∷ 0x56 ∷ 0x43 ∷ 0x43 ∷ 0x30 ∷ 0x30 ∷ 0x30 ∷ 0x31 ∷ []) ++ (leBytes 8 t ++ (leBytes 2 (length rs) ++ all encodeRecord rs))
 
+-- "a batch being built would pass 4,096 bytes"; "the 18-byte heading": leading bytes, commit time and record count
+abbrev pub bodySize : ℕ
+bodySize = 4096
+
+abbrev pub headingSize : ℕ
+headingSize = 18
+
 -- bytes with zeros behind them, 4,096 in all: "zero on writing"
 unfoldable pub padded : List ℕ → List ℕ
-padded l = l ++ replicate (4096 - length l) 0
+padded l = l ++ replicate (bodySize - length l) 0
 
 unfoldable pub encodeBody : ℕ → List Rec → List ℕ
 encodeBody t rs = padded (encodeBatch t rs)

@@ -7,6 +7,7 @@ use lib.Dec.{leb, ltb, eqb}
 use lib.ListN.{length, take, drop}
 use lib.IntN.{ℤ, pos, negsuc}
 use lib.Ieee.{binary64, nanBits, ofBits}
+use Rattle.mvcc.specs.Batch.{headingSize}
 use Rattle.le.specs.Choice.{pick}
 use Rattle.le.specs.Le.{leOf, field}
 use Rattle.text.specs.Utf8.{wellFormed}
@@ -121,7 +122,7 @@ batchMagic = leOf (0x4d ∷ 0x56 ∷ 0x43 ∷ 0x43 ∷ 0x30 ∷ 0x30 ∷ 0x30 �
 
 -- the records of a body: "record count (2), records"
 unfoldable pub recordsAt : List ℕ → Answer (List MvccLogRecord)
-recordsAt s = many (recordAt s) (field 2 16 s) 18
+recordsAt s = many (recordAt s) (field 2 16 s) headingSize
 
 abbrev pub batchEnd : ℕ → ℕ → Answer (List MvccLogRecord) → BatchDecoded
 batchEnd t n (taken rs at) = batch.Batch (record { «commit_ts» = t; records = n; end = at })
@@ -129,7 +130,7 @@ batchEnd t n (refused k) = batch.Refused k
 
 -- what the heading alone is refused for: "batch body under 18", "wrong leading bytes"
 unfoldable pub headingRefusal : List ℕ → Option Refusal
-headingRefusal s = unless (leb 18 (length s)) Short (unless (eqb (field 8 0 s) batchMagic) Magic none)
+headingRefusal s = unless (leb headingSize (length s)) Short (unless (eqb (field 8 0 s) batchMagic) Magic none)
 
 -- "Body: `MVCC0001`, commit time (8), record count (2), records"; "Bytes after the last record are ignored on reading"
 unfoldable pub batchOf : List ℕ → BatchDecoded

@@ -13,6 +13,12 @@ use refusal::Refusal;
 // The page number of a frame that holds a batch in place of a page.
 pub const MVCC_FRAME_MARKER: u32 = 0xffff_ffff;
 
+// Bytes of a body's heading: leading bytes, commit time and record count.
+pub const BATCH_HEADING_SIZE: usize = 18;
+
+// Bytes of a body as it is written: a page's.
+pub const BATCH_BODY_SIZE: usize = 4096;
+
 // The leading bytes of a body, `MVCC0001`, as one number.
 pub const MVCC_BODY_MAGIC: u64 = 0x3130_3030_4343_564d;
 
@@ -388,7 +394,7 @@ impl MvccCommitBatch {
     pub fn decode(body: &[u8]) -> BatchDecoded
         ensures { λ r. ⌜ r ≡ batchOf (now (body .entry)) ⌝ }
     {
-        if body.len() < 18 {
+        if body.len() < BATCH_HEADING_SIZE {
             return BatchDecoded::Refused(Refusal::Short);
         }
         if le::read_u64(body, 0) != MVCC_BODY_MAGIC {
@@ -396,7 +402,7 @@ impl MvccCommitBatch {
         }
         let commit_ts = le::read_u64(body, 8);
         let records = le::read_u16(body, 16) as usize;
-        let mut end: usize = 18;
+        let mut end: usize = BATCH_HEADING_SIZE;
         let mut left = records;
         while 0 < left {
             let r = decode_record(body, end);
@@ -418,7 +424,7 @@ impl MvccCommitBatch {
 pub fn heading_refusal(body: &[u8]) -> HeadingJudged
     ensures { λ r. ⌜ r ≡ headingJudged (now (body .entry)) ⌝ }
 {
-    if body.len() < 18 {
+    if body.len() < BATCH_HEADING_SIZE {
         return HeadingJudged::Refused(Refusal::Short);
     }
     if le::read_u64(body, 0) != MVCC_BODY_MAGIC {

@@ -10,7 +10,7 @@ use mir.Syntax.{w64}
 use Rattle.le.specs.Choice.{pick, both}
 use Rattle.le.specs.Le.{leBytes, put, store}
 use Rattle.text.specs.Utf8.{wellFormed}
-use Rattle.mvcc.specs.Batch.{Val, null, integer, real, text, bool, vector, Col, Rec, tombstone, present, encodeText, encodeColumn, encodeRecord, encodeBody}
+use Rattle.mvcc.specs.Batch.{bodySize, headingSize, Val, null, integer, real, text, bool, vector, Col, Rec, tombstone, present, encodeText, encodeColumn, encodeRecord, encodeBody}
 use Rattle.mvcc.specs.Seen.{words}
 use Rattle.mvcc_build.specs.declared.Last.{Last}
 use Rattle.mvcc_build.specs.declared.Last.the-variants.{Closed, Open}
@@ -22,17 +22,17 @@ use Rattle.mvcc_build.specs.declared.Added.the-variants.{Done, Refused}
 -- ---- starting
 
 unfoldable pub started : List ℕ → Added
-started body = pick (eqb (length body) 4096) (Done (record { at = 18; records = 0; last = Closed })) (Refused Area)
+started body = pick (eqb (length body) bodySize) (Done (record { at = headingSize; records = 0; last = Closed })) (Refused Area)
 
 unfoldable pub startedBytes : ℕ → List ℕ → List ℕ
-startedBytes t body = pick (eqb (length body) 4096) (encodeBody t []) body
+startedBytes t body = pick (eqb (length body) bodySize) (encodeBody t []) body
 
 -- ---- what every addition has in common
 
 -- the refusals 1, 19 and 20 of an addition with the bytes bs, in order, then what is behind them; `texts`: its texts are UTF-8
 unfoldable pub additionJudged : BatchBuilder → List ℕ → Bool → List ℕ → Added → Added
 additionJudged b body texts bs more =
-    pick (eqb (length body) 4096) (pick texts (pick (leb (b .at + length bs) 4096) more (Refused Fit)) (Refused Text)) (Refused Area)
+    pick (eqb (length body) bodySize) (pick texts (pick (leb (b .at + length bs) bodySize) more (Refused Fit)) (Refused Text)) (Refused Area)
 
 -- the later bytes: those added, with the count that goes with them; after a refusal the body is as it was
 unfoldable pub bodyAfter : (BatchBuilder → List ℕ → List ℕ) → BatchBuilder → List ℕ → List ℕ → Added → List ℕ
@@ -124,7 +124,7 @@ elements bs = words bs (length bs / 4) 0
 -- a vector column: refused, after 1, where its last element is cut (17)
 unfoldable pub vectorAdded : BatchBuilder → List ℕ → List ℕ → List ℕ → Added
 vectorAdded b body n bs =
-    pick (eqb (length body) 4096)
+    pick (eqb (length body) bodySize)
     (pick (eqb (length bs % 4) 0) (columnAdded b body (column n (vector (elements bs)))) (Refused Truncated))
     (Refused Area)
 

@@ -6,7 +6,7 @@ use Prim.Native.Nat.{ℕ, _+_, _^_, _≤_, _<_}
 use lib.ListN.{length}
 use mir.Val.{SFits}
 use mir.Syntax.{w64}
-use Rattle.mvcc.specs.Batch.{Val, null, integer, real, text, bool, vector, Col, Rec, tombstone, present, encodeRecord, encodeBatch, encodeBody, Each, GoodBatch}
+use Rattle.mvcc.specs.Batch.{bodySize, headingSize, Val, null, integer, real, text, bool, vector, Col, Rec, tombstone, present, encodeRecord, encodeBatch, encodeBody, Each, GoodBatch}
 use Rattle.mvcc_build.specs.declared.Last.{Last}
 use Rattle.mvcc_build.specs.declared.Last.the-variants.{Closed}
 use Rattle.mvcc_build.specs.declared.BatchBuilder.{BatchBuilder}
@@ -20,14 +20,14 @@ lastFrom at (r ∷ q ∷ rs) = lastFrom (at + length (encodeRecord r)) (q ∷ rs
 
 -- the builder of a batch
 unfoldable pub builderOf : ℕ → List Rec → BatchBuilder
-builderOf t rs = record { at = length (encodeBatch t rs); records = length rs; last = lastFrom 18 rs }
+builderOf t rs = record { at = length (encodeBatch t rs); records = length rs; last = lastFrom headingSize rs }
 
 -- b and body hold the batch of the commit time t and the records rs: "The bytes are exactly those of
 -- `MvccCommitBatch::encode` of the records added so far, zero behind"
 pub record Built (t : ℕ) (rs : List Rec) (b : BatchBuilder) (body : List ℕ) : Type 0 where
   pub state : b ≡ builderOf t rs
   pub bytes : body ≡ encodeBody t rs
-  pub fits : length (encodeBatch t rs) ≤ 4096
+  pub fits : length (encodeBatch t rs) ≤ bodySize
   pub good : GoodBatch t rs
 
 -- a present record is last

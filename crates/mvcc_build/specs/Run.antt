@@ -6,7 +6,7 @@ use lib.ListN.{length}
 use Rattle.le.specs.Choice.{pick, both}
 use Rattle.le.specs.Le.{Bytes}
 use Rattle.text.specs.Utf8.{wellFormed}
-use Rattle.mvcc.specs.Batch.{vector, Col, Rec, encodeColumn, encodeBatch}
+use Rattle.mvcc.specs.Batch.{bodySize, vector, Col, Rec, encodeColumn, encodeBatch}
 use Rattle.mvcc_build.specs.declared.BatchBuilder.{BatchBuilder}
 use Rattle.mvcc_build.specs.declared.Added.{Added}
 use Rattle.mvcc_build.specs.declared.Added.the-variants.{Done, Refused}
@@ -45,12 +45,12 @@ nextBody (vector-call n bs) b body = vectorBytes b body n bs
 unfoldable pub columnRecords : ℕ → Col → List Rec → List Rec
 columnRecords t c rs =
     pick (both (texted (c .val)) (wellFormed (c .name)))
-    (pick (leb (length (encodeBatch t rs) + length (encodeColumn c)) 4096) (pick (endsPresent rs) (withColumn rs c) rs) rs) rs
+    (pick (leb (length (encodeBatch t rs) + length (encodeColumn c)) bodySize) (pick (endsPresent rs) (withColumn rs c) rs) rs) rs
 
 -- .. and after any call: a record is refused for its text or its size, a vector also where its last element is cut
 unfoldable pub nextRecords : ℕ → Addition → List Rec → List Rec
 nextRecords t (record-call r) rs =
-    pick (wellFormed (recordTable r)) (pick (leb (length (encodeBatch t (rs ++ (r ∷ [])))) 4096) (rs ++ (r ∷ [])) rs) rs
+    pick (wellFormed (recordTable r)) (pick (leb (length (encodeBatch t (rs ++ (r ∷ [])))) bodySize) (rs ++ (r ∷ [])) rs) rs
 nextRecords t (column-call c) rs = columnRecords t c rs
 nextRecords t (vector-call n bs) rs = pick (eqb (length bs % 4) 0) (columnRecords t (column n (vector (elements bs))) rs) rs
 

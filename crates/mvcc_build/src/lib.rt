@@ -2,7 +2,7 @@
 // Every public function is total, for made-up builders too. A refused addition leaves the body as it was,
 // and the caller's builder still tells the batch.
 ghost use mathlib.Core.Path.{_≡_};
-ghost use mathlib.Core.List.{[], _∷_, _++_};
+ghost use mathlib.Core.List.{[]};
 ghost use mathlib.Core.Bool.{true};
 ghost use Prim.Native.Nat.{_+_, _*_, _≤_, _<_};
 ghost use lib.Bits.{bitAnd};
@@ -15,11 +15,13 @@ ghost use Rattle.le.specs.Choice.{pick};
 ghost use Rattle.le.specs.Le.{leBytes, field, put};
 ghost use Rattle.text.specs.Utf8.{wellFormed};
 ghost use Rattle.text.specs.Walk.{Ascii};
-ghost use Rattle.mvcc.specs.Batch.{null, integer, real, text, bool, tombstone, present, encodeText};
+ghost use Rattle.mvcc.specs.Batch.{bodySize, null, integer, real, text, bool, tombstone, present, encodeText};
 ghost use Rattle.mvcc_build.specs.Words.{Wide};
 ghost use Rattle.refusal.specs.declared.Refusal.the-variants.{Area, Text};
 ghost use Rattle.mvcc_build.specs.declared.Added.the-variants.{Refused};
 ghost use Rattle.mvcc_build.specs.Build.{headBytes, lastOf, tagged, started, startedBytes, bodyAfter, recordCount, headResult, recordAdded, recordBytes, columnCount, columnResult, column, columnAdded, columnBytes, vectorAdded, vectorBytes};
+use mvcc::BATCH_BODY_SIZE;
+use mvcc::BATCH_HEADING_SIZE;
 use refusal::Refusal;
 
 // The record that was added last.
@@ -118,7 +120,7 @@ fn is_text(s: &[u8]) -> bool
 
 // Stores the k lowest bytes of a number.
 fn put_number(body: &mut [u8], at: usize, k: usize, v: u64)
-    requires { ⌜ (length (now body) ≡ 4096) × (at + k ≤ 4096) ⌝ }
+    requires { ⌜ (length (now body) ≡ bodySize) × (at + k ≤ bodySize) ⌝ }
     ensures { λ _. ⌜ now (body .exit) ≡ put (now (body .entry)) at (leBytes k v) ⌝ }
 {
     if k == 8 {
@@ -144,7 +146,7 @@ fn put_number(body: &mut [u8], at: usize, k: usize, v: u64)
 
 // Stores all of s.
 fn put_bytes(body: &mut [u8], at: usize, s: &[u8])
-    requires { ⌜ (length (now body) ≡ 4096) × (at + length (now s) ≤ 4096) ⌝ }
+    requires { ⌜ (length (now body) ≡ bodySize) × (at + length (now s) ≤ bodySize) ⌝ }
     ensures { λ _. ⌜ now (body .exit) ≡ put (now (body .entry)) at (now (s .entry)) ⌝ }
 {
     let n = s.len();
@@ -164,19 +166,19 @@ fn put_bytes(body: &mut [u8], at: usize, s: &[u8])
 
 // Whether `fixed` bytes and a text and bytes of these lengths end within 4,096 from `at` on.
 fn fits(at: usize, fixed: usize, text: usize, bytes: usize) -> bool
-    requires { ⌜ fixed ≤ 4096 ⌝ }
-    ensures { λ r. ⌜ r ≡ leb (at + (fixed + text + bytes)) 4096 ⌝ }
+    requires { ⌜ fixed ≤ bodySize ⌝ }
+    ensures { λ r. ⌜ r ≡ leb (at + (fixed + text + bytes)) bodySize ⌝ }
 {
-    if 4096 < text {
+    if BATCH_BODY_SIZE < text {
         return false;
     }
-    if 4096 < bytes {
+    if BATCH_BODY_SIZE < bytes {
         return false;
     }
-    if 4096 < at {
+    if BATCH_BODY_SIZE < at {
         return false;
     }
-    at + (fixed + text + bytes) <= 4096
+    at + (fixed + text + bytes) <= BATCH_BODY_SIZE
 }
 
 // The bits of a signed number.
@@ -203,9 +205,9 @@ pub fn bits_of(x: f64) -> u64
 
 // What an addition to a body of this length answers where a text of it is not UTF-8.
 fn no_text(len: usize) -> Added
-    ensures { λ r. ⌜ r ≡ pick (eqb len 4096) (Refused Text) (Refused Area) ⌝ }
+    ensures { λ r. ⌜ r ≡ pick (eqb len bodySize) (Refused Text) (Refused Area) ⌝ }
 {
-    if len != 4096 {
+    if len != BATCH_BODY_SIZE {
         return Added::Refused(Refusal::Area);
     }
     Added::Refused(Refusal::Text)
@@ -213,7 +215,7 @@ fn no_text(len: usize) -> Added
 
 // Stores a text with a length of two bytes.
 fn put_text(body: &mut [u8], at: usize, t: &[u8])
-    requires { ⌜ (length (now body) ≡ 4096) × (at + (2 + length (now t)) ≤ 4096) ⌝ }
+    requires { ⌜ (length (now body) ≡ bodySize) × (at + (2 + length (now t)) ≤ bodySize) ⌝ }
     ensures { λ _. ⌜ now (body .exit) ≡ put (now (body .entry)) at (encodeText 2 (now (t .entry))) ⌝ }
 {
     le::write_u16(body, at, t.len() as u16);
@@ -227,14 +229,14 @@ pub fn start(body: &mut [u8], commit_ts: u64) -> Added
     ensures { λ r. ⌜ r ≡ started (now (body .entry)) ⌝ }
     ensures { λ _. ⌜ now (body .exit) ≡ startedBytes «commit_ts» (now (body .entry)) ⌝ }
 {
-    if body.len() != 4096 {
+    if body.len() != BATCH_BODY_SIZE {
         return Added::Refused(Refusal::Area);
     }
     le::write_u64(body, 0, 0x3130_3030_4343_564d);
     le::write_u64(body, 8, commit_ts);
     le::write_zeros(body, 16, 4080);
     Added::Done(BatchBuilder {
-        at: 18,
+        at: BATCH_HEADING_SIZE,
         records: 0,
         last: Last::Closed,
     })
@@ -255,7 +257,7 @@ fn last_of(op: u8, counted: usize) -> Last
 
 // Stores a record: op, table, row id and zeros, which are the column count of a present one.
 fn put_record(body: &mut [u8], at: usize, op: u8, table: &[u8], rowid: i64, zeros: usize)
-    requires { ⌜ (length (now body) ≡ 4096) × (at + (11 + zeros + length (now table)) ≤ 4096) ⌝ }
+    requires { ⌜ (length (now body) ≡ bodySize) × (at + (11 + zeros + length (now table)) ≤ bodySize) ⌝ }
     ensures { λ _. ⌜ now (body .exit) ≡ put (now (body .entry)) at (headBytes op (now (table .entry)) rowid zeros) ⌝ }
 {
     let n = table.len();
@@ -284,7 +286,7 @@ fn add_record(
     if !texts {
         return no_text(body.len());
     }
-    if body.len() != 4096 {
+    if body.len() != BATCH_BODY_SIZE {
         return Added::Refused(Refusal::Area);
     }
     if !fits(at, 11 + zeros, table.len(), 0) {
@@ -323,7 +325,7 @@ pub fn begin_present(body: &mut [u8], b: BatchBuilder, table: &[u8], rowid: i64)
 
 // Stores a column: its name, and its value's tag, number of k bytes, and bytes.
 fn put_column(body: &mut [u8], at: usize, name: &[u8], tag: u8, k: usize, v: u64, bytes: &[u8])
-    requires { ⌜ (length (now body) ≡ 4096) × (at + (3 + k + length (now name) + length (now bytes)) ≤ 4096) ⌝ }
+    requires { ⌜ (length (now body) ≡ bodySize) × (at + (3 + k + length (now name) + length (now bytes)) ≤ bodySize) ⌝ }
     ensures { λ _. ⌜ now (body .exit) ≡ put (now (body .entry)) at (tagged (now (name .entry)) tag k v (now (bytes .entry))) ⌝ }
 {
     let n = name.len();
@@ -353,7 +355,7 @@ fn add_column(
     if !texts {
         return no_text(body.len());
     }
-    if body.len() != 4096 {
+    if body.len() != BATCH_BODY_SIZE {
         return Added::Refused(Refusal::Area);
     }
     if !fits(at, 3 + k, name.len(), bytes.len()) {
@@ -432,7 +434,7 @@ pub fn add_vector(body: &mut [u8], b: BatchBuilder, name: &[u8], bytes: &[u8]) -
     ensures { λ r. ⌜ r ≡ vectorAdded b (now (body .entry)) (now (name .entry)) (now (bytes .entry)) ⌝ }
     ensures { λ _. ⌜ now (body .exit) ≡ vectorBytes b (now (body .entry)) (now (name .entry)) (now (bytes .entry)) ⌝ }
 {
-    if body.len() != 4096 {
+    if body.len() != BATCH_BODY_SIZE {
         return Added::Refused(Refusal::Area);
     }
     if bytes.len() % 4 != 0 {

@@ -6,6 +6,7 @@ use mathlib.Core.Option.{Option}
 use Prim.Native.Nat.{ℕ, zero, suc, _+_, _-_, _≤_, _<_}
 use lib.Dec.{leb, ltb, eqb}
 use lib.ListN.{length, getD}
+use Rattle.mvcc.specs.Batch.{bodySize}
 use Rattle.le.specs.Choice.{pick}
 use Rattle.le.specs.Le.{store}
 use Rattle.refusal.specs.Refusal.{unless, accepts, answered}
@@ -31,8 +32,8 @@ canonicalAnswer d = answered Refused Done (refusalIn d)
 -- the body s, into out: a wrong length, then decoding's refusals
 unfoldable pub canonicalRefusal : List ℕ → List ℕ → Option Refusal
 canonicalRefusal s out =
-    unless (eqb (length out) 4096) refusal.Area
-    (unless (leb (length s) 4096) refusal.Area (decodeRefusal s))
+    unless (eqb (length out) bodySize) refusal.Area
+    (unless (leb (length s) bodySize) refusal.Area (decodeRefusal s))
 
 abbrev pub canonicalized : List ℕ → List ℕ → Canonical
 canonicalized s out = answered Refused Done (canonicalRefusal s out)
@@ -82,14 +83,14 @@ fixRecord s at out = fixNext (recordAt s at) (recordStep s) (λ next l. l) out
 
 -- a record stands at `at` in a body of at most 4,096 bytes
 pub record Stands (s : List ℕ) (at : ℕ) : Type 0 where
-  pub small : length s ≤ 4096
+  pub small : length s ≤ bodySize
   pub item : MvccLogRecord
   pub next : ℕ
   pub is : recordAt s at ≡ taken item next
 
 -- n records stand from `at` on
 pub record Walk (s : List ℕ) (n at : ℕ) : Type 0 where
-  pub small : length s ≤ 4096
+  pub small : length s ≤ bodySize
   pub list : List MvccLogRecord
   pub end : ℕ
   pub is : many (recordAt s) n at ≡ taken list end

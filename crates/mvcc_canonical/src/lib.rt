@@ -3,10 +3,13 @@
 ghost use mathlib.Core.Path.{_≡_};
 ghost use Prim.Native.Nat.{_≤_};
 ghost use lib.ListN.{length};
+ghost use Rattle.mvcc.specs.Batch.{headingSize};
 ghost use Rattle.le.specs.Choice.{pick};
 ghost use Rattle.mvcc.specs.Answer.{many};
 ghost use Rattle.mvcc.specs.Decode.{columnAt, recordAt};
 ghost use Rattle.mvcc_canonical.specs.Canonical.{answerEnd, fixAll, fixValue, columnStep, recordStep, fixRecord, Stands, Walk, BoolsTo, canonicalAnswer, canonicalized, canonicalBytes};
+use mvcc::BATCH_BODY_SIZE;
+use mvcc::BATCH_HEADING_SIZE;
 use refusal::Refusal;
 
 pub enum Canonical {
@@ -70,10 +73,10 @@ fn fix_record(body: &[u8], out: &mut [u8], at: usize) -> usize
 
 // The bools of all n records.
 fn fix_records(body: &[u8], out: &mut [u8], n: usize)
-    requires { ⌜ Walk (now body) n 18 ⌝ }
-    ensures { λ _. ⌜ now (out .exit) ≡ fixAll (recordAt (now (body .entry))) (recordStep (now (body .entry))) n 18 (now (out .entry)) ⌝ }
+    requires { ⌜ Walk (now body) n headingSize ⌝ }
+    ensures { λ _. ⌜ now (out .exit) ≡ fixAll (recordAt (now (body .entry))) (recordStep (now (body .entry))) n headingSize (now (out .entry)) ⌝ }
 {
-    let mut at: usize = 18;
+    let mut at: usize = BATCH_HEADING_SIZE;
     let mut left = n;
     while 0 < left {
         at = fix_record(body, out, at);
@@ -123,10 +126,10 @@ pub fn canonicalize(body: &[u8], out: &mut [u8]) -> Canonical
     ensures { λ r. ⌜ r ≡ canonicalized (now (body .entry)) (now (out .entry)) ⌝ }
     ensures { λ _. ⌜ now (out .exit) ≡ canonicalBytes (now (body .entry)) (now (out .entry)) ⌝ }
 {
-    if out.len() != 4096 {
+    if out.len() != BATCH_BODY_SIZE {
         return Canonical::Refused(Refusal::Area);
     }
-    if 4096 < body.len() {
+    if BATCH_BODY_SIZE < body.len() {
         return Canonical::Refused(Refusal::Area);
     }
     let d = mvcc::MvccCommitBatch::decode(body);
@@ -136,7 +139,7 @@ pub fn canonicalize(body: &[u8], out: &mut [u8]) -> Canonical
     let end = b.end;
     let n = b.records;
     le::write_bytes(out, 0, le::part(body, 0, end));
-    le::write_zeros(out, end, 4096 - end);
+    le::write_zeros(out, end, BATCH_BODY_SIZE - end);
     if top_bool(body, end) <= 1 {
         return Canonical::Done;
     }

@@ -1,8 +1,10 @@
 // A batch's body and a cursor in it, kept together: a thin reader over the plain functions of `mvcc`.
 // Every public function is total.
 ghost use mathlib.Core.Path.{_≡_};
+ghost use Rattle.mvcc.specs.Batch.{headingSize};
 ghost use Rattle.mvcc.specs.Fields.{recordAnswer};
 ghost use Rattle.mvcc.specs.Decode.{recordAt};
+use mvcc::BATCH_HEADING_SIZE;
 
 pub struct BatchReader<'a> {
     pub body: &'a [u8],
@@ -18,9 +20,9 @@ fn record_at(body: &[u8], at: usize) -> mvcc::RecordField
 
 // A reader of a body, at the first record.
 pub fn new<'a>(body: &'a [u8]) -> BatchReader<'a>
-    ensures { λ r. ⌜ (r .body ≡ body .entry) × (r .at ≡ 18) ⌝ }
+    ensures { λ r. ⌜ (r .body ≡ body .entry) × (r .at ≡ headingSize) ⌝ }
 {
-    BatchReader { body, at: 18 }
+    BatchReader { body, at: BATCH_HEADING_SIZE }
 }
 
 // The record at the reader's cursor, with the next cursor.

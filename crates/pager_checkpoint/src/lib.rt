@@ -1,9 +1,9 @@
 // The stores of a checkpoint, one at a time, and the call that starts a checkpoint.
 ghost use mathlib.Core.Path.{_≡_};
 ghost use mathlib.Core.Bool.{true, false};
-ghost use mathlib.Core.List.{List, _++_};
+ghost use mathlib.Core.List.{_++_};
 ghost use Prim.Native.Nat.{ℕ, _+_, _*_, _≤_, _<_, max};
-ghost use lib.Dec.{leb, eqb};
+ghost use lib.Dec.{eqb};
 ghost use lib.ListN.{length, take, drop, getD, replicate};
 ghost use Rattle.wal.specs.Recovery.{walArea};
 ghost use Rattle.page.specs.Page.{pageSize};

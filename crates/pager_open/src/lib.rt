@@ -1,7 +1,7 @@
 // Creating a store, and opening one: plainly, as the Rust does, or cleanly, which cuts the log at its commit point.
 // All refusals are judged before any area is written. Every public function is total.
 ghost use mathlib.Core.Path.{_≡_};
-ghost use mathlib.Core.Bool.{Bool, true, false};
+ghost use mathlib.Core.Bool.{true, false};
 ghost use mathlib.Core.List.{[]};
 ghost use Prim.Native.Nat.{_+_, _*_, _≤_, _<_, _^_};
 ghost use lib.Dec.{leb};
@@ -17,7 +17,7 @@ ghost use Rattle.pager_state.specs.World.{lengthsFine, pageLimit};
 ghost use Rattle.pager_state.specs.Overlay.{entry};
 ghost use Rattle.pager_state.specs.Stores.{File};
 ghost use Rattle.pager_state.specs.Commit.{withEntry};
-ghost use Rattle.pager_state.specs.Opening.{hasPage, tableOf, opensAs, firstHeader, create, createTable, createLog, createMain, writes, foundIn, foundFresh, mainHeader, judgedLog, recounted, headerBy, openingOf, openPager, openedAnswer, openTable, openLogArea, noPager};
+ghost use Rattle.pager_state.specs.Opening.{hasPage, tableOf, opensAs, create, createTable, createLog, createMain, writes, foundIn, foundFresh, mainHeader, judgedLog, recounted, headerBy, openingOf, openPager, openedAnswer, openTable, openLogArea, noPager};
 ghost use Rattle.pager_state.specs.Opened.{Refused};
 ghost use Rattle.pager_open.specs.Given.{how, howOf, files};
 ghost use Rattle.pager_open.specs.Judging.{committedWal, keptWal, isCleanReadOnly, openedWith, judgedFound, judgedBehind, judgedFiles};

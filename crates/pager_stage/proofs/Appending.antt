@@ -1,5 +1,5 @@
 -- Each way that appending a batch to the open store can end.
-use mathlib.Core.Path.{_≡_, refl, sym, ap, _∙_}
+use mathlib.Core.Path.{_≡_, refl, _∙_}
 use mathlib.Core.Bool.{Bool, true, false}
 use mathlib.Core.List.{List}
 use mathlib.Core.Option.{Option, none, some}
@@ -19,7 +19,6 @@ use Rattle.wal.specs.Recovery.{walArea}
 use Rattle.wal.specs.Write.{withFrame}
 use Rattle.wal.specs.declared.Wal.{Wal}
 use Rattle.wal_batch.specs.Batch.{batchRefusal, batchAnswer, batchAfter}
-use Rattle.wal_batch.specs.declared.BatchAppended.{BatchAppended}
 use Rattle.wal_batch.specs.declared.BatchAppended.the-variants as done
 use Rattle.pager_state.specs.World.{inArea, busy, readOnly, withWal}
 use Rattle.pager_state.specs.Batches.{appendRefusal, batchFrame, appendBatch, appendAfter}

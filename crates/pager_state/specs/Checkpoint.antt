@@ -2,7 +2,7 @@
 -- were any; main header; main length; flush; log length 32; log header with the next sequence and the given salt; flush".
 use mathlib.Core.Bool.{Bool, true, false}
 use mathlib.Core.List.{List, [], _∷_}
-use Prim.Native.Nat.{ℕ, zero, suc, _*_}
+use Prim.Native.Nat.{ℕ, suc, _*_}
 use lib.Dec.{leb, eqb}
 use Rattle.le.specs.Choice.{pick}
 use Rattle.page.specs.Page.{pageSize}
@@ -11,8 +11,7 @@ use Rattle.header.specs.declared.DbHeader.{DbHeader}
 use Rattle.wal.specs.Header.{headerSize, encodeWalHeader}
 use Rattle.wal.specs.Write.{emptyWal, truncatedHeader}
 use Rattle.wal.specs.declared.WalHeader.{WalHeader}
-use Rattle.wal.specs.declared.Wal.{Wal}
-use Rattle.pager_state.specs.World.{World, pageLimit, countOf, headerOf, withJob, withStorage, withWal}
+use Rattle.pager_state.specs.World.{World, countOf, headerOf, withJob, withStorage, withWal}
 use Rattle.pager_state.specs.Overlay.{logBytes, mainAt}
 use Rattle.pager_state.specs.Stores.{Disk, diskOf, Act, Put, SetLen, Emptied, Other, stored}
 use Rattle.pager_state.specs.Pages.{pagesFrom, inCheckpoint}

@@ -1,6 +1,6 @@
 -- The stores of a commit, each in the world that those before it leave: the differing pages, "ascending, then page 0 as seal, flush", and
 -- the checkpoint that it brings on. g is the staging area.
-use mathlib.Core.Bool.{Bool, true, false}
+use mathlib.Core.Bool.{true, false}
 use mathlib.Core.List.{List, [], _∷_}
 use Prim.Native.Nat.{ℕ, suc}
 use lib.Dec.{leb}
@@ -15,7 +15,7 @@ use Rattle.pager_state.specs.World.{World, countOf, withJob, withWal, no
 use Rattle.pager_state.specs.Overlay.{stagedBytes, onMain, entry}
 use Rattle.pager_state.specs.Stores.{diskOf, Act, Put, CommitFrame, Other, stored}
 use Rattle.pager_state.specs.Pages.{pagesFrom, differs}
-use Rattle.pager_state.specs.Checkpoint.{checkpointTodo, checkpointAdvance}
+use Rattle.pager_state.specs.Checkpoint.{checkpointTodo}
 use Rattle.pager_state.specs.declared.FileKind.the-variants as file
 use Rattle.pager_state.specs.declared.Job.{Job}
 use Rattle.pager_state.specs.declared.Job.the-variants as job

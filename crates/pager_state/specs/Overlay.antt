@@ -1,6 +1,6 @@
 -- Reading a page: document 01's line on `pager.rs`, "Reading a page: staged; else none if at or above the page count; else log; else
 -- the main file's pages from 1 to below its own header's count; else none".
-use mathlib.Core.Bool.{Bool, true, false, not}
+use mathlib.Core.Bool.{Bool, not}
 use mathlib.Core.List.{List, [], _∷_}
 use mathlib.Core.Option.{Option, none}
 use Prim.Native.Nat.{ℕ, suc, _+_, _*_, _/_, _%_}

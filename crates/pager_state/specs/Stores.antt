@@ -1,5 +1,5 @@
 -- Files, and stores as data: document 01, "Added by design". A commit or checkpoint is a list of these.
-use mathlib.Core.Bool.{Bool, true, false}
+use mathlib.Core.Bool.{Bool}
 use mathlib.Core.List.{List, [], _∷_}
 use Prim.Native.Nat.{ℕ, zero, suc, _+_, _-_, max, min}
 use lib.Dec.{leb, ltb}

@@ -1,7 +1,6 @@
 -- What is known of a refusal by its row.
 use mathlib.Core.Path.{_≡_, refl}
 use mathlib.Core.Option.{Option, none, some}
-use Prim.Native.Nat.{ℕ}
 use native.Mathlib.Omega.{arith}
 use Rattle.refusal.specs.Refusal.{number, numberOf}
 use Rattle.refusal.specs.declared.Refusal.{Refusal}

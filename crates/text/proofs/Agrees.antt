@@ -1,5 +1,5 @@
 -- `wellFormed` holds of the texts of table 3-7 and of no others. Assumes nothing.
-use Prim.Native.Nat.{ℕ, zero, suc, _+_, _*_, _-_, _≤_, _<_}
+use Prim.Native.Nat.{ℕ, zero, suc, _-_, _≤_, _<_}
 use mathlib.Core.Path.{_≡_, refl, sym, _∙_}
 use mathlib.Core.List.{List, [], _∷_}
 use mathlib.Core.Bool.{Bool, true, false, _&&_, _||_, and-eq-true-iff, false≢true}
@@ -10,7 +10,7 @@ use lib.Dec.{leb, ltb}
 use lib.ListN.{length, drop}
 use Rattle.le.specs.Choice.{pick}
 use Rattle.le.proofs.Tests.{le-or-lt}
-use Rattle.text.specs.Utf8.{continues, pair, two, three, four, size, thenByte, formedBehind, wellFormed}
+use Rattle.text.specs.Utf8.{pair, two, three, four, size, thenByte, formedBehind, wellFormed}
 use Rattle.text.specs.Table.{In, WellFormed, end, row1, row2, row3, row4, row5, row6, row7, row8, row9}
 use Rattle.text.proofs.Laws.{behind, full, size-one, size-two, size-three, size-four}
 

@@ -1,16 +1,15 @@
 -- The top places of the bytes of a word, and the zeros below the lowest of them that is set. Assumes nothing.
-use Prim.Native.Nat.{ℕ, zero, suc, _+_, _-_, _*_, _/_, _%_, _^_, _≤_, _<_}
-use mathlib.Core.Path.{_≡_, refl, sym, _∙_, ap}
+use Prim.Native.Nat.{ℕ, zero, suc, _+_, _-_, _*_, _/_, _%_, _≤_, _<_}
+use mathlib.Core.Path.{_≡_, refl}
 use mathlib.Core.List.{List, [], _∷_}
 use mathlib.Core.Bool.{Bool, true, false}
-use native.Mathlib.Nat.{add-zero, add-suc}
 use native.Mathlib.Omega.{arith}
 use borrow.Author.Tests.{ltb-true, ltb-false}
 use lib.Bits.{bitAnd, bitOr, and-block, and-high, and-le-l, and-le-r, or-add-and}
 use lib.Count.{trailingZeros, trailing-le}
 use lib.Dec.{ltb}
 use lib.ListN.{length, take, drop, getD, length-drop}
-use lib.Seq.{getD-take, getD-drop, drop-cons, length-take-le}
+use lib.Seq.{getD-take, getD-drop, length-take-le}
 use Rattle.le.specs.Le.{leOf}
 use Rattle.text.specs.Walk.{Ascii}
 

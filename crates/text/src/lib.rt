@@ -2,7 +2,7 @@
 ghost use mathlib.Core.Path.{_≡_};
 ghost use mathlib.Core.Bool.{true};
 ghost use Prim.Native.Nat.{_+_, _≤_, _<_};
-ghost use lib.ListN.{length, take, drop};
+ghost use lib.ListN.{length, drop};
 ghost use Rattle.le.specs.Choice.{pick};
 ghost use Rattle.text.specs.Utf8.{continues, pair, two, three, four, size, utf8Of};
 ghost use Rattle.text.specs.Walk.{Ascii, Passes};

@@ -1,6 +1,5 @@
 use borrow.Author.Tests.{eq-eqb, ne-eqb}
 use Rattle.pager_read.specs.Reading.{readEnd}
-use borrow.Author.Needs.{needs}
 use Rattle.pager_read.proofs.read_end.Statement.{statement}
 use Rattle.pager_read.proofs.read_end.Tie as tie
 

@@ -1,8 +1,4 @@
-use mathlib.Core.Path.{_≡_, sym, ap, _∙_}
-use denote.Ref.{now}
 use borrow.Author.Needs.{needs}
-use Rattle.pager_state.specs.World.{withStaged}
-use Rattle.pager_state.specs.declared.Staged.{Staged}
 use Rattle.pager_stage.proofs.stage_page.Statement.{statement}
 use Rattle.pager_stage.proofs.stage_page.Tie as tie
 

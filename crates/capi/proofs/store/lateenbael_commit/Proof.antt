@@ -1,4 +1,3 @@
-use mathlib.Core.Path.{refl}
 use denote.Ref.{now}
 use Rattle.capi_answers.specs.declared.Answered.{Answered}
 use Rattle.capi_answers.specs.Answers.{committedAs}
