@@ -11,9 +11,6 @@ use refusal::Refusal;
 // One byte more than a body has, so that a longer one is noticed.
 const BODY_SIZE: usize = 4_097;
 
-// Room for the list of cases, which is longer than others.
-const LIST_SIZE: usize = 524_288;
-
 fn main() {
     let mut word = [0u8; 8];
     let n = os::arg(1, &mut word);
@@ -46,7 +43,7 @@ fn print_one(body: &[u8]) {
 }
 
 fn read_list() {
-    let mut space = [0u8; LIST_SIZE];
+    let mut space = [0u8; replay::LIST_SIZE];
     match input::read_full(0, &mut space) {
         Input::Bytes(n) => answer_all(le::part(&space, 0, n)),
         Input::Failed => not_read(),

@@ -11,7 +11,7 @@ ghost use Rattle.replay.specs.Line.{lineEnd, Spelt};
 ghost use Rattle.replay.specs.Drawn.{nextNumber, shapeOf, drawn, drawnBody};
 
 // Room for the longest list of cases.
-pub const LIST_SIZE: usize = 131072;
+pub const LIST_SIZE: usize = 524_288;
 
 // The place of the end of the line that starts at `at`.
 fn line_end(list: &[u8], at: usize) -> usize

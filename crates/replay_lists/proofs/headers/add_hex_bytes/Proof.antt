@@ -2,8 +2,8 @@ use mathlib.Core.Path.{_≡_}
 use borrow.Author.Needs.{needs}
 use Prim.Native.Nat.{_-_, _≤_}
 use lib.ListN.{length}
-use Rattle.header_replay.proofs.add_hex_bytes.Statement.{statement}
-use Rattle.header_replay.proofs.add_hex_bytes.Tie as tie
+use Rattle.replay_lists.proofs.headers.add_hex_bytes.Statement.{statement}
+use Rattle.replay_lists.proofs.headers.add_hex_bytes.Tie as tie
 
 abbrev Inv-loop : tie.InvT-loop
 Inv-loop line₀ at bytes end₀ i₀ line end i = (i ≤ length bytes) × (length line ≡ length line₀)

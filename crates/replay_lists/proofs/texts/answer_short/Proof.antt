@@ -1,7 +1,7 @@
 use borrow.Author.Needs.{needs}
 use Prim.Native.Nat.{_-_, _≤_}
-use Rattle.utf8_replay.proofs.answer_short.Statement.{statement}
-use Rattle.utf8_replay.proofs.answer_short.Tie as tie
+use Rattle.replay_lists.proofs.texts.answer_short.Statement.{statement}
+use Rattle.replay_lists.proofs.texts.answer_short.Tie as tie
 
 abbrev Inv-loop : tie.InvT-loop
 Inv-loop a₀ a = a ≤ 255

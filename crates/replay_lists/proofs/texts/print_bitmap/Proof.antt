@@ -2,8 +2,8 @@ use mathlib.Core.Path.{_≡_}
 use borrow.Author.Needs.{needs}
 use Prim.Native.Nat.{_-_, _≤_}
 use lib.ListN.{length}
-use Rattle.utf8_replay.proofs.print_bitmap.Statement.{statement}
-use Rattle.utf8_replay.proofs.print_bitmap.Tie as tie
+use Rattle.replay_lists.proofs.texts.print_bitmap.Statement.{statement}
+use Rattle.replay_lists.proofs.texts.print_bitmap.Tie as tie
 
 abbrev Inv-loop : tie.InvT-loop
 Inv-loop front line₀ at₀ k₀ line at k = (k ≤ 64) × (80 ≡ length line)
@@ -14,4 +14,4 @@ abbrev μ-loop : tie.MeasureT-loop
 pub print-bitmap-spec : {M : Type 1} → statement M
 print-bitmap-spec =
     tie.close
-    (tie.spec Inv-loop μ-loop (search needs) (search needs) (search needs) (search needs) (search needs) (search needs) (search needs) (search needs) (search needs) (search needs) (search needs) (search needs) (search needs) (search needs))
+    (tie.spec Inv-loop μ-loop (search needs) (search needs) (search needs) (search needs) (search needs) (search needs) (search needs) (search needs) (search needs) (search needs) (search needs))

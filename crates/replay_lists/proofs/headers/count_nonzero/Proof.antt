@@ -3,8 +3,8 @@ use borrow.Author.Needs.{needs}
 use Prim.Native.Nat.{_-_, _≤_}
 use lib.ListN.{length}
 use mathlib.Core.Logic.{⊎-elim}
-use Rattle.header_replay.proofs.count_nonzero.Statement.{statement}
-use Rattle.header_replay.proofs.count_nonzero.Tie as tie
+use Rattle.replay_lists.proofs.headers.count_nonzero.Statement.{statement}
+use Rattle.replay_lists.proofs.headers.count_nonzero.Tie as tie
 
 abbrev Inv-loop : tie.InvT-loop
 Inv-loop bytes n₀ i₀ n i = (i ≤ length bytes) × (n ≤ i)

@@ -2,8 +2,8 @@ use mathlib.Core.Path.{_≡_}
 use Prim.Native.Nat.{_-_, _≤_}
 use lib.ListN.{length}
 use borrow.Author.Needs.{needs}
-use Rattle.log_replay.proofs.build.Statement.{statement}
-use Rattle.log_replay.proofs.build.Tie as tie
+use Rattle.replay_lists.proofs.logs.build.Statement.{statement}
+use Rattle.replay_lists.proofs.logs.build.Tie as tie
 
 abbrev Inv-loop : tie.InvT-loop
 Inv-loop case log₀ len₀ at₀ log len at = (at ≤ length case) × (length log ≡ length log₀)
