@@ -22,7 +22,10 @@ fn record_at(body: &[u8], at: usize) -> mvcc::RecordField
 pub fn new<'a>(body: &'a [u8]) -> BatchReader<'a>
     ensures { λ r. ⌜ (r .body ≡ body .entry) × (r .at ≡ headingSize) ⌝ }
 {
-    BatchReader { body, at: BATCH_HEADING_SIZE }
+    BatchReader {
+        body,
+        at: BATCH_HEADING_SIZE,
+    }
 }
 
 // The record at the reader's cursor, with the next cursor.
