@@ -146,12 +146,3 @@ refusedBuilding r = record { refusal = number r; at = 0; counted = 0; records = 
 abbrev pub addedNumbers : Added → Building
 addedNumbers (added.Done b) = buildingOf b
 addedNumbers (added.Refused r) = refusedBuilding r
-
--- its parts: the batch after it, and the number
-abbrev pub builderAfter : Added → BatchBuilder
-builderAfter (added.Done b) = b
-builderAfter (added.Refused r) = record { at = 0; records = 0; last = last.Closed }
-
-abbrev pub addedNumber : Added → ℕ
-addedNumber (added.Done b) = 0
-addedNumber (added.Refused r) = number r

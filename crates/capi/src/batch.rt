@@ -8,7 +8,7 @@ ghost use Rattle.mvcc.specs.Decode.{valueAt, columnAt, recordAt, batchOf};
 ghost use Rattle.mvcc.specs.Vector.{bitsAt};
 ghost use Rattle.mvcc_build.specs.Build.{started, startedBytes, recordAdded, recordBytes, column, columnAdded, columnBytes, vectorAdded, vectorBytes};
 ghost use Rattle.mvcc_canonical.specs.Canonical.{canonicalized, canonicalBytes};
-ghost use Rattle.capi.specs.Batch.{noBatch, batchNumbers, opNumber, countNumber, firstNumber, noPlace, recordNumbers, valueOf, noValue, flagNumber, valueNumbers, valueReply, columnNumbers, elementNumbers, canonicalAs, lastRecordIn, builderIn, countedOf, columnsOf, buildingOf, builderAfter, addedNumber, addedNumbers};
+ghost use Rattle.capi.specs.Batch.{noBatch, batchNumbers, opNumber, countNumber, firstNumber, noPlace, recordNumbers, valueOf, noValue, flagNumber, valueNumbers, valueReply, columnNumbers, elementNumbers, canonicalAs, lastRecordIn, builderIn, countedOf, columnsOf, buildingOf, refusedBuilding, addedNumbers};
 use mvcc::BatchDecoded;
 use mvcc::ColumnField;
 use mvcc::ElementBits;
@@ -356,36 +356,25 @@ fn building_of(b: BatchBuilder) -> Building
     }
 }
 
-// The batch after an addition; after a refusal none.
-fn builder_after(k: Added) -> BatchBuilder
-    ensures { λ r. ⌜ r ≡ builderAfter k ⌝ }
+fn refused(row: Refusal) -> Building
+    ensures { λ r. ⌜ r ≡ refusedBuilding row ⌝ }
 {
-    match k {
-        Added::Done(b) => b,
-        Added::Refused(_) => BatchBuilder {
-            at: 0,
-            records: 0,
-            last: Last::Closed,
-        },
+    Building {
+        refusal: refusal::number(row),
+        at: 0,
+        counted: 0,
+        records: 0,
+        columns: 0,
     }
 }
 
-fn added_number(k: Added) -> u32
-    ensures { λ r. ⌜ r ≡ addedNumber k ⌝ }
-{
-    match k {
-        Added::Done(_) => 0,
-        Added::Refused(row) => refusal::number(row),
-    }
-}
-
-// Both ways end here: the one that adds goes straight through.
 fn added_numbers(k: Added) -> Building
     ensures { λ r. ⌜ r ≡ addedNumbers k ⌝ }
 {
-    let mut numbers = building_of(builder_after(k));
-    numbers.refusal = added_number(k);
-    numbers
+    match k {
+        Added::Done(b) => building_of(b),
+        Added::Refused(row) => refused(row),
+    }
 }
 
 #[no_mangle]
