@@ -13,6 +13,7 @@ use lib.IntN.{ℤ, pos, negsuc, _-ℤ_}
 use lib.Signed.{ltZ}
 use mir.Val.{ofZ, SFits}
 use mir.Syntax.{w64}
+use Rattle.le.proofs.Compare.{no-test}
 use Rattle.le.specs.Choice.{pick, both}
 use Rattle.le.specs.Le.{Bytes, leBytes, put, store}
 use Rattle.le.proofs.Fields.{length-leBytes, leBytes-field}
@@ -25,7 +26,7 @@ use Rattle.text.proofs.Answers.{well-is, ill-is}
 use Rattle.mvcc.proofs.Trip.{length-encodeText}
 use Rattle.mvcc.proofs.Sound.{words-length}
 use Rattle.mvcc.specs.Seen.{words}
-use Rattle.mvcc_build.specs.Build.{additionJudged, bodyAfter, recordIn, recordCount, headBytes, lastOf, headResult, recordAdded, recordBytes, columnIn, columnResult, columnCount, columnsRecounted, column, texted, columnAdded, columnBytes, elements, vectorAdded, vectorBytes, tagged, started, startedBytes}
+use Rattle.mvcc_build.specs.Build.{additionJudged, bodyAfter, recordIn, recordCount, headBytes, lastOf, headResult, recordAdded, recordBytes, columnIn, columnResult, columnCount, columnsRecounted, column, texted, columnAdded, columnBytes, elements, vectorAdded, vectorBytes, tagged, started, startedBytes, isFull}
 use Rattle.mvcc_build.specs.declared.Last.{Last}
 use Rattle.mvcc_build.specs.declared.Last.the-variants.{Closed, Open}
 use Rattle.mvcc_build.specs.declared.BatchBuilder.{BatchBuilder}
@@ -256,6 +257,12 @@ module _ (b : BatchBuilder) (body : List ℕ) (texts : Bool) (op : ℕ) (t : Lis
           way-more recordCount b body texts H (recordIn b (length H) end) full f size g h
           (rw (ne-eqb _ _ k, i, o)) (rw p at q)
 
+-- a record that takes one more
+pub fewer : (l : Last) {counted columns : ℕ} → isFull l ≡ false → l ≡ Open counted columns → columns ≡ 0xffff → ⊥
+fewer l {counted} {columns} e o h =
+    let f : eqb columns 0xffff ≡ false = rw o at e in
+    no-test (sym f ∙ eq-eqb columns 0xffff h)
+
 module _ (b : BatchBuilder) (body : List ℕ) (texts : Bool) (t : List ℕ) (tag k v : ℕ) (bs : List ℕ) where
   abbrev C : List ℕ
   C = tagged t tag k v bs
@@ -284,17 +291,23 @@ module _ (b : BatchBuilder) (body : List ℕ) (texts : Bool) (t : List ℕ) (tag
       unfolding columnResult columnIn bodyAfter
       col-none h o = way-more columnCount b body texts C (columnIn b (length C) (b .last)) full f sized g h (rw o) refl
 
-      module _ (h : r ≡ true) {counted columns : ℕ} (o : b .last ≡ Open counted columns) where
-        pub col-many : columns ≡ 0xffff → Cols (Refused Fit) body
-        unfolding columnResult columnIn bodyAfter
-        col-many i = way-more columnCount b body texts C (columnIn b (length C) (b .last)) full f sized g h (rw (o, eq-eqb _ _ i)) refl
+      many-at : (l : Last) → isFull l ≡ true → Refused Fit ≡ columnIn b (length C) l
+      unfolding columnIn
+      many-at Closed e = no-test e
+      many-at (Open counted columns) e = rw e
 
-        pub col-done : (columns ≡ 0xffff → ⊥) → {l m : List ℕ} → l ≡ put body (b .at) C → m ≡ store l counted (leBytes 2 (columns + 1))
+      pub col-many : r ≡ true → isFull (b .last) ≡ true → Cols (Refused Fit) body
+      unfolding columnResult bodyAfter
+      col-many h i = way-more columnCount b body texts C (columnIn b (length C) (b .last)) full f sized g h (many-at (b .last) i) refl
+
+      module _ (h : r ≡ true) {counted columns : ℕ} (o : b .last ≡ Open counted columns) where
+        pub col-done : isFull (b .last) ≡ false → {l m : List ℕ} → l ≡ put body (b .at) C → m ≡ store l counted (leBytes 2 (columns + 1))
             → Cols (Done (record { at = b .at + (3 + k + length t + length bs); records = b .records; last = Open counted (columns + 1) })) m
         unfolding columnResult columnIn bodyAfter columnCount columnsRecounted
         col-done i p q =
+            let e : eqb columns 0xffff ≡ false = rw o at i in
             way-more columnCount b body texts C (columnIn b (length C) (b .last)) full f sized g h
-            (rw (o, ne-eqb _ _ i, sized)) (rw p at q)
+            (rw (o, e, sized)) (rw p at q)
 
 -- ---- the public additions
 

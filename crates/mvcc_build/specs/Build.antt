@@ -1,5 +1,5 @@
 -- What each addition to a batch answers, and the body's later bytes, for every builder and body.
-use mathlib.Core.Bool.{Bool, true}
+use mathlib.Core.Bool.{Bool, true, false}
 use mathlib.Core.List.{List, [], _∷_, _++_}
 use Prim.Native.Nat.{ℕ, _+_, _/_, _%_}
 use lib.Dec.{leb, eqb}
@@ -79,11 +79,16 @@ headResult b body texts op t row z =
 
 -- ---- columns
 
+-- the last record has as many columns as its count can say; only a builder that was made up has one
+abbrev pub isFull : Last → Bool
+isFull Closed = false
+isFull (Open counted columns) = eqb columns 0xffff
+
 -- the last record takes a column of n bytes, if it is a present one
 unfoldable pub columnIn : BatchBuilder → ℕ → Last → Added
 columnIn b n Closed = Refused NoRecord
 columnIn b n (Open counted columns) =
-    pick (eqb columns 0xffff) (Refused Fit) (Done (record { at = b .at + n; records = b .records; last = Open counted (columns + 1) }))
+    pick (isFull (Open counted columns)) (Refused Fit) (Done (record { at = b .at + n; records = b .records; last = Open counted (columns + 1) }))
 
 -- what a column with the bytes bs answers; `texts`: its texts are UTF-8
 unfoldable pub columnResult : BatchBuilder → List ℕ → Bool → List ℕ → Added

@@ -19,7 +19,7 @@ ghost use Rattle.mvcc.specs.Batch.{bodySize, null, integer, real, text, bool, t
 ghost use Rattle.mvcc_build.specs.Words.{Wide};
 ghost use Rattle.refusal.specs.declared.Refusal.the-variants.{Area, Text};
 ghost use Rattle.mvcc_build.specs.declared.Added.the-variants.{Refused};
-ghost use Rattle.mvcc_build.specs.Build.{headBytes, lastOf, tagged, started, startedBytes, bodyAfter, recordCount, headResult, recordAdded, recordBytes, columnCount, columnResult, column, columnAdded, columnBytes, vectorAdded, vectorBytes};
+ghost use Rattle.mvcc_build.specs.Build.{headBytes, lastOf, tagged, started, startedBytes, bodyAfter, recordCount, headResult, recordAdded, recordBytes, columnCount, columnResult, column, columnAdded, columnBytes, vectorAdded, vectorBytes, isFull};
 use mvcc::BATCH_BODY_SIZE;
 use mvcc::BATCH_HEADING_SIZE;
 use refusal::Refusal;
@@ -335,6 +335,19 @@ fn put_column(body: &mut [u8], at: usize, name: &[u8], tag: u8, k: usize, v: u64
     put_bytes(body, at + (3 + n + k), bytes);
 }
 
+// Whether the last record has as many columns as can be counted.
+fn is_full(last: Last) -> bool
+    ensures { λ r. ⌜ r ≡ isFull last ⌝ }
+{
+    match last {
+        Last::Closed => false,
+        Last::Open {
+            counted: _,
+            columns,
+        } => columns == 0xffff,
+    }
+}
+
 // Adds a column to the last record, and counts it. `texts`: its texts are UTF-8.
 fn add_column(
     body: &mut [u8],
@@ -361,12 +374,12 @@ fn add_column(
     if !fits(at, 3 + k, name.len(), bytes.len()) {
         return Added::Refused(Refusal::Fit);
     }
+    if is_full(last) {
+        return Added::Refused(Refusal::Fit);
+    }
     let Last::Open { counted, columns } = last else {
         return Added::Refused(Refusal::NoRecord);
     };
-    if columns == 0xffff {
-        return Added::Refused(Refusal::Fit);
-    }
     put_column(body, at, name, tag, k, v, bytes);
     le::write_u16(body, counted, columns + 1);
     Added::Done(BatchBuilder {
