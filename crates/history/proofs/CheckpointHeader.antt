@@ -42,7 +42,7 @@ use Rattle.history.proofs.Files.{putting, put-file, put-front, reach-fr
 use Rattle.history.proofs.Frames.{lastIn, last-append}
 use Rattle.history.proofs.Disk.{mainPage, viewOf, headerOver, OnDisk, DiskOk}
 use Rattle.history.proofs.Opening.{model-over}
-use Rattle.history.proofs.Rest.{Held, Folding, Flattened, Some, in-log, step-fine, held-disk, held-stored}
+use Rattle.history.proofs.Rest.{Held, Checkpointing, Flattened, Some, in-log, step-fine, held-disk, held-stored}
 use Rattle.history.proofs.CheckpointPage.{must-main, stored-below, reaches}
 use Rattle.history.proofs.Stepping.{StepOk}
 
@@ -116,9 +116,9 @@ entry-zero : (p : ℕ) (t : Bool) → entry p t ≡ 0 → (p ≡ 0) × (t ≡ fa
 entry-zero p true e = absurd (omega arith)
 entry-zero p false e = (omega arith, refl)
 
-module _ (g : List ℕ) (w : World) (b : Model) (z : List ℕ) (salt p answer : ℕ) (job-is : w .pager .job ≡ job.Checkpoint salt p answer) (k : Some (Folding salt p w g b) z)
+module _ (g : List ℕ) (w : World) (b : Model) (z : List ℕ) (salt p answer : ℕ) (job-is : w .pager .job ≡ job.Checkpoint salt p answer) (k : Some (Checkpointing salt p w g b) z)
     (none-left : pagesFrom (inCheckpoint w) p ≡ []) where
-  abbrev c : Folding salt p w g b (k .l) (k .S) (k .P) (k .mh)
+  abbrev c : Checkpointing salt p w g b (k .l) (k .S) (k .P) (k .mh)
   c = k .it
 
   abbrev o : OnDisk (diskOf w) b (k .l) (k .S) (k .P) [] (k .mh)

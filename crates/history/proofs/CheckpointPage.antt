@@ -35,7 +35,7 @@ use Rattle.history.proofs.Files.{putting, put-file, put-front, reach-be
 use Rattle.history.proofs.Frames.{lastIn, last-append, last-long}
 use Rattle.history.proofs.Disk.{mainPage, viewOf, OnDisk, DiskOk, whole-left}
 use Rattle.history.proofs.Opening.{model-over}
-use Rattle.history.proofs.Rest.{Held, Folding, Some, log-has, log-lacks, step-fine, held-stored}
+use Rattle.history.proofs.Rest.{Held, Checkpointing, Some, log-has, log-lacks, step-fine, held-stored}
 use Rattle.history.proofs.Stepping.{StepOk}
 
 -- a page that the log has not is the main file's
@@ -93,8 +93,8 @@ page-stored {d} {b} {l} {S} {P} {t} {mh} o n x xs h1 h2 e hx =
 
 -- ---- the step
 
-module _ (g : List ℕ) (w : World) (b : Model) (z : List ℕ) (salt p answer : ℕ) (job-is : w .pager .job ≡ job.Checkpoint salt p answer) (k : Some (Folding salt p w g b) z) where
-  abbrev c : Folding salt p w g b (k .l) (k .S) (k .P) (k .mh)
+module _ (g : List ℕ) (w : World) (b : Model) (z : List ℕ) (salt p answer : ℕ) (job-is : w .pager .job ≡ job.Checkpoint salt p answer) (k : Some (Checkpointing salt p w g b) z) where
+  abbrev c : Checkpointing salt p w g b (k .l) (k .S) (k .P) (k .mh)
   c = k .it
 
   abbrev o : OnDisk (diskOf w) b (k .l) (k .S) (k .P) [] (k .mh)
@@ -150,12 +150,12 @@ module _ (g : List ℕ) (w : World) (b : Model) (z : List ℕ) (salt p answer : 
     abbrev x : List ℕ
     x = logBytes (w .table) (w .log) n
 
-    record Folds : Type 0 where
+    record CheckpointedPage : Type 0 where
       low : 1 ≤ n
       high : n < countOf (b .header)
       has : inLog (w .table) n ≡ true
 
-    checkpointed-page : Folds
+    checkpointed-page : CheckpointedPage
     unfolding inCheckpointBy
     checkpointed-page =
         let a = both-true (leb 1 n) _ (at .holds) in
@@ -234,7 +234,7 @@ module _ (g : List ℕ) (w : World) (b : Model) (z : List ℕ) (salt p answer : 
     unfolding pageStored
     held-after = held-stored (c .held) (stored (pageAct w n false) (diskOf w)) (checkpoint.ownHeader w) (job.Checkpoint salt (suc n) answer) (k .mh) on-after
 
-    after-ok : Folding salt (suc n) v g b (k .l) (k .S) (k .P) (k .mh)
+    after-ok : Checkpointing salt (suc n) v g b (k .l) (k .S) (k .P) (k .mh)
     unfolding pageStored
     after-ok = record { held = held-after; table = c .table; loose = c .loose; fits = c .fits; stored = stored-after }
 

@@ -21,7 +21,7 @@ use Rattle.history.specs.Model.{Model, modelStores}
 use Rattle.history.specs.Calls.{Checkpoint, BeginCheckpoint, storesOf, worldAfter}
 use Rattle.history.specs.Run.{keptAfter}
 use Rattle.history.proofs.Disk.{DiskOk}
-use Rattle.history.proofs.Rest.{Resting, Folding, Some, Inv, held-disk}
+use Rattle.history.proofs.Rest.{Resting, Checkpointing, Some, Inv, held-disk}
 use Rattle.history.proofs.Running.{cut-none, RunOk, run-ok}
 use Rattle.history.proofs.Taken.{Taken, taken-by, at-rest}
 
@@ -42,7 +42,7 @@ module _ (w : World) (g : List ℕ) (b : Model) (z : List ℕ) (i : Inv w g b z)
   abbrev v : World
   v = onStore w (withJob (w .pager) (job.Checkpoint salt 0 (checkpointCount w)))
 
-  checkpointing-ok : Folding salt 0 v g b (k .l) (k .S) (k .P) (k .mh)
+  checkpointing-ok : Checkpointing salt 0 v g b (k .l) (k .S) (k .P) (k .mh)
   checkpointing-ok =
       let q = k .it .held in
       record {

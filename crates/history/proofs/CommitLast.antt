@@ -45,7 +45,7 @@ use Rattle.history.proofs.Files.{same-file, length-content}
 use Rattle.history.proofs.Frames.{last-same, last-other, page-last, place-same, batchesOf, batches-append, batches-page}
 use Rattle.history.proofs.Slots.{Slots, staged-long}
 use Rattle.history.proofs.Disk.{viewOf, headerOver, OnDisk, log-len, log-inside}
-use Rattle.history.proofs.Rest.{Held, Tabled, Resting, Committing, Folding, Some, InvJob, worldPage, page-view, page-committed, step-fine}
+use Rattle.history.proofs.Rest.{Held, Tabled, Resting, Committing, Checkpointing, Some, InvJob, worldPage, page-view, page-committed, step-fine}
 use Rattle.history.proofs.Append.{longer, whole-store, committed-on, cut-ok}
 use Rattle.history.proofs.Stepping.{StepOk, table-entered, settled}
 use Rattle.history.proofs.CommitFrame.{framed-len, framed-header}
@@ -240,8 +240,8 @@ module _ (g : List ℕ) (w : World) (b : Model) (z : List ℕ) (h : DbHeader) (s
   resting : Resting v g (modelCommit b) (k .l) S′ [] (k .mh)
   resting = record { held = held-after; table = table-after; loose = λ n hn. refl }
 
-  checkpointCount : Folding salt 0 v g (modelCommit b) (k .l) S′ [] (k .mh)
-  checkpointCount =
+  checkpoint-begun : Checkpointing salt 0 v g (modelCommit b) (k .l) S′ [] (k .mh)
+  checkpoint-begun =
       record {
         held = held-after;
         table = table-after;
@@ -251,7 +251,7 @@ module _ (g : List ℕ) (w : World) (b : Model) (z : List ℕ) (h : DbHeader) (s
       }
 
   after-by : (t : Bool) → InvJob (pick t (job.Checkpoint salt 0 answer) job.Idle) v g (modelCommit b) (keptBy (commitFrameAct h w) (stored (commitFrameAct h w) (diskOf w)) z)
-  after-by true = record { l = k .l; S = S′; P = []; mh = k .mh; it = checkpointCount; kept = kept-is }
+  after-by true = record { l = k .l; S = S′; P = []; mh = k .mh; it = checkpoint-begun; kept = kept-is }
   after-by false = record { l = k .l; S = S′; P = []; mh = k .mh; it = resting; kept = kept-is }
 
   todo-is : todo g w ≡ commitFrameAct h w ∷ checkpointTodo (v .pager .job) v

@@ -90,7 +90,7 @@ pub record Committing (h : DbHeader) (salt p : ℕ) (w : World) (g : List ℕ) (
   pub room : w .pager .wal .len + frameSize * (length (pagesFrom (differs g w) p) + 1) ≤ walArea
 
 -- a checkpoint that has looked at the pages below p: those that the log has stand in the main file
-pub record Folding (salt p : ℕ) (w : World) (g : List ℕ) (b : Model) (l : WalHeader) (S P : List (List ℕ)) (mh : DbHeader) : Type 0 where
+pub record Checkpointing (salt p : ℕ) (w : World) (g : List ℕ) (b : Model) (l : WalHeader) (S P : List (List ℕ)) (mh : DbHeader) : Type 0 where
   pub held : Held w g b l S P mh
   pub table : Tabled w (S ++ P) mh
   pub loose : Loose P
@@ -127,7 +127,7 @@ pub record Some (Q : WalHeader → List (List ℕ) → List (List ℕ) → DbHea
 abbrev pub InvJob : Job → World → List ℕ → Model → List ℕ → Type 0
 InvJob job.Idle w g b z = Some (Resting w g b) z
 InvJob (job.Commit h salt p answer) w g b z = Some (Committing h salt p w g b) z
-InvJob (job.Checkpoint salt p answer) w g b z = Some (Folding salt p w g b) z
+InvJob (job.Checkpoint salt p answer) w g b z = Some (Checkpointing salt p w g b) z
 InvJob (job.MainLength salt answer) w g b z = Some (Flattened salt w g b) z
 InvJob (job.LogLength salt answer) w g b z = Some (Flattened salt w g b) z
 InvJob (job.LogHeader salt answer) w g b z = Some (Bared salt w g b) z

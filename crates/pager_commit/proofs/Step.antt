@@ -134,30 +134,30 @@ module _ (g : List ℕ) (h : DbHeader) (salt answer page : ℕ) (w : World) wher
     abbrev committed : World
     committed = committedWorld h salt answer w
 
-    abbrev seal : Act
-    seal = commitFrameAct h w
+    abbrev frame-act : Act
+    frame-act = commitFrameAct h w
 
-    commit-frame-next : commitTodo g K w ≡ seal ∷ checkpointTodo (committed .pager .job) committed
+    commit-frame-next : commitTodo g K w ≡ frame-act ∷ checkpointTodo (committed .pager .job) committed
     unfolding framesTodo
     commit-frame-next = todo-is [] e
 
-    commit-frame-room : inside seal ≡ hasRoom log
+    commit-frame-room : inside frame-act ≡ hasRoom log
     commit-frame-room = rw (commit-frame-size log h)
 
     pub commit-frame-refused : hasRoom log ≡ false → Stepped (step.Refused refusal.Area) w
-    commit-frame-refused o = outside-step seal (checkpointTodo (committed .pager .job) committed) commit-frame-next (commit-frame-room ∙ o)
+    commit-frame-refused o = outside-step frame-act (checkpointTodo (committed .pager .job) committed) commit-frame-next (commit-frame-room ∙ o)
 
     job-is : committed .pager .job ≡ jobAfter (withFrame log (countOf h)) salt answer
     unfolding committedWorld committedPager
     job-is = refl
 
-    commit-frame-told : commitFrameAnswer (jobAfter (withFrame log (countOf h)) salt answer) (logPlace log true) answer ≡ namedBy answer seal (checkpointTodo (committed .pager .job) committed)
+    commit-frame-told : commitFrameAnswer (jobAfter (withFrame log (countOf h)) salt answer) (logPlace log true) answer ≡ namedBy answer frame-act (checkpointTodo (committed .pager .job) committed)
     commit-frame-told =
-        let p : placeOf seal ≡ logPlace log true = rw (commit-frame-size log h) in
-        let l = commit-frame-last seal salt answer committed (leb checkpointFrames (withFrame log (countOf h) .«frame_count»)) in
+        let p : placeOf frame-act ≡ logPlace log true = rw (commit-frame-size log h) in
+        let l = commit-frame-last frame-act salt answer committed (leb checkpointFrames (withFrame log (countOf h) .«frame_count»)) in
         ap (λ (x : Place). commitFrameAnswer (jobAfter (withFrame log (countOf h)) salt answer) x answer) (sym p)
         ∙ l
-        ∙ ap (λ (j : Job). namedBy answer seal (checkpointTodo j committed)) (sym job-is)
+        ∙ ap (λ (j : Job). namedBy answer frame-act (checkpointTodo j committed)) (sym job-is)
 
     committed-through : {r : Pager} {t l : List ℕ} → r ≡ committedWith h salt answer (withFrame log (countOf h)) (w .pager) → t ≡ withEntry (w .table) 0 (log .len)
         → l ≡ put (w .log) (log .len) (commitFrameBytes log h) → world r t l (w .main) ≡ committed
@@ -169,7 +169,7 @@ module _ (g : List ℕ) (h : DbHeader) (salt answer page : ℕ) (w : World) wher
         → Stepped a (world r t l (w .main))
     commit-frame-stepped {a} {r} o ea er et el =
         let j : a ≡ commitFrameAnswer (jobAfter (withFrame log (countOf h)) salt answer) (logPlace log true) answer = ea ∙ ap (λ (p : Pager). commitFrameAnswer (p .job) (logPlace log true) answer) er in
-        inside-step seal (checkpointTodo (committed .pager .job) committed) commit-frame-next (commit-frame-room ∙ o) (j ∙ commit-frame-told) (committed-through er et el ∙ sym (advance-is [] e))
+        inside-step frame-act (checkpointTodo (committed .pager .job) committed) commit-frame-next (commit-frame-room ∙ o) (j ∙ commit-frame-told) (committed-through er et el ∙ sym (advance-is [] e))
 
 -- ---- by the job that is part done
 
