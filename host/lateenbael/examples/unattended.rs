@@ -36,7 +36,7 @@ fn run(path: &Path) -> Result<(), Error> {
     let mut store = OpenOptions::new().create(true).wait(Duration::from_secs(10)).open(path)?;
     let mut forces = read_forces(&store)?;
     println!("found {} readings, {} batches", forces.iter().sum::<i64>(), store.batch_count()?);
-    for reading in 0..250 {
+    for reading in 0..230 {
         let grip = reading % GRIPS;
         forces[grip] += 1;
         // Two frames: the batch's and the commit's.

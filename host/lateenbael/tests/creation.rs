@@ -3,6 +3,7 @@ mod common;
 use common::*;
 use lateenbael::{Error, Files, Mode, OpenOptions, Store, wal_path_for};
 use std::fs;
+use std::os::unix::fs::PermissionsExt;
 use std::path::{Path, PathBuf};
 
 type Creation = fn(&Path) -> Result<Store, Error>;
@@ -124,6 +125,20 @@ fn a_copy_has_the_same_files() {
     let bare = folder.0.join("bare");
     open(&path, Mode::ReadOnly).copy_to(&bare).unwrap();
     assert_eq!(bytes_of(&bare), bytes_of(&path));
+}
+
+#[test]
+fn new_files_have_the_mode_of_those_that_they_belong_to() {
+    let folder = Folder::new();
+    let (path, log) = (folder.store(), wal_path_for(&folder.store()));
+    let mode = |path: &Path| fs::metadata(path).unwrap().permissions().mode() & 0o777;
+    drop(Store::create(&path).unwrap());
+    fs::set_permissions(&path, fs::Permissions::from_mode(0o640)).unwrap();
+    fs::remove_file(&log).unwrap();
+    open(&path, Mode::ReadWrite);
+    assert_eq!(mode(&log), 0o640);
+    drop(Store::create_over(&path).unwrap());
+    assert_eq!((mode(&path), mode(&log)), (0o640, 0o640));
 }
 
 #[test]
