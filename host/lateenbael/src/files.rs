@@ -1,5 +1,5 @@
 //! A store's two real files.
-use crate::direct::Direct;
+use crate::direct::{Direct, drop_cached};
 use crate::lock::lock;
 use crate::{Area, Disk, Error, Medium};
 use std::ffi::OsString;
@@ -209,6 +209,11 @@ impl Disk for Files {
         let behind = file.metadata()?.len() > len as u64;
         one.len = (!behind).then_some(len);
         Ok(Some(len + usize::from(behind)))
+    }
+
+    fn drop_cached(&mut self, area: Area) -> io::Result<()> {
+        drop_cached(self.of(area).open_file()?);
+        Ok(())
     }
 
     fn read_medium(&mut self, area: Area, at: usize, buffer: &mut [u8]) -> io::Result<Medium> {

@@ -1,5 +1,6 @@
 //! A disk behind a cache that, as systems do, forgets what was to be written once a flush has failed: the cache shows it, a later flush
-//! finds nothing to do, and after a power cut it is gone. What a store shows and acknowledges after such a failure must outlast the cut.
+//! finds nothing to do, and after a power cut it is gone. What is written again into such a block does not reach the medium either, until
+//! the cache has let go of it. What a store shows and acknowledges after such a failure must outlast the cut.
 mod common;
 use common::*;
 use lateenbael::{Area, Disk, Error, Medium, Mode, Store};
@@ -15,6 +16,8 @@ struct CachedFile {
     cache: Vec<u8>,
     medium: Vec<u8>,
     dirty: BTreeSet<usize>,
+    /// Blocks that a failed flush has forgotten.
+    stale: BTreeSet<usize>,
     /// The least length that it was cut to since its last flush.
     cut: Option<usize>,
 }
@@ -41,7 +44,9 @@ impl CachedFile {
         let len = self.cache.len();
         for (n, block) in std::mem::take(&mut self.dirty).into_iter().enumerate() {
             let range = block * BLOCK..len.min((block + 1) * BLOCK);
-            if which >> (n % 32) & 1 == 1 && !range.is_empty() {
+            if which >> (n % 32) & 1 == 0 {
+                self.stale.insert(block);
+            } else if !self.stale.contains(&block) && !range.is_empty() {
                 self.medium.resize(self.medium.len().max(range.end), 0);
                 self.medium[range.clone()].copy_from_slice(&self.cache[range]);
             }
@@ -55,9 +60,22 @@ impl CachedFile {
     }
 
     fn power_cut(&mut self) {
-        self.cache = self.medium.clone();
-        self.cut = None;
-        self.dirty.clear();
+        *self = CachedFile {
+            cache: self.medium.clone(),
+            medium: self.medium.clone(),
+            ..CachedFile::default()
+        };
+    }
+
+    /// Lets go of the blocks that are not dirty: they show the medium again.
+    fn drop_cached(&mut self) {
+        let len = self.cache.len();
+        for block in (0..len.div_ceil(BLOCK)).filter(|block| !self.dirty.contains(block)) {
+            for at in block * BLOCK..len.min((block + 1) * BLOCK) {
+                self.cache[at] = self.medium.get(at).copied().unwrap_or(0);
+            }
+        }
+        self.stale.clear();
     }
 }
 
@@ -75,8 +93,8 @@ struct Machine {
     files: [Option<CachedFile>; 2],
     /// How many flushes work before one does not.
     fails: Option<(usize, Failure)>,
-    /// Whether the medium can't be read past the cache.
-    is_hidden: bool,
+    /// Whether the cache lets go of nothing.
+    is_mapped: bool,
 }
 
 impl Machine {
@@ -135,10 +153,16 @@ impl Disk for Forgetting {
         Ok(self.with(area, read).ok())
     }
 
+    fn drop_cached(&mut self, area: Area) -> io::Result<()> {
+        let is_mapped = self.0.lock().unwrap().is_mapped;
+        self.with(area, |file| {
+            if !is_mapped {
+                file.drop_cached()
+            }
+        })
+    }
+
     fn read_medium(&mut self, area: Area, at: usize, buffer: &mut [u8]) -> io::Result<Medium> {
-        if self.0.lock().unwrap().is_hidden {
-            return Ok(Medium::Unknown);
-        }
         self.with(area, |file| {
             for (byte, at) in buffer.iter_mut().zip(at..) {
                 *byte = file.medium.get(at).copied().unwrap_or(0);
@@ -255,15 +279,26 @@ fn fails_in_every_flush(before: &Forgetting, operation: Operation) -> usize {
 
 #[test]
 fn what_a_failed_flush_left_in_the_cache_is_not_built_on() {
-    for is_hidden in [false, true] {
-        let [short, long] = [0, 97].map(prepared);
-        for disk in [&short, &long] {
-            disk.0.lock().unwrap().is_hidden = is_hidden;
-        }
-        assert_eq!(fails_in_every_flush(&short, commit), 1);
-        assert_eq!(fails_in_every_flush(&short, checkpoint), 3);
-        assert_eq!(fails_in_every_flush(&long, commit), 4);
+    assert_eq!(fails_in_every_flush(&prepared(0), commit), 1);
+    assert_eq!(fails_in_every_flush(&prepared(0), checkpoint), 3);
+    assert_eq!(fails_in_every_flush(&prepared(97), commit), 4);
+}
+
+#[test]
+fn what_the_cache_does_not_let_go_of_is_not_opened_for_writing() {
+    let disk = prepared(0);
+    let before = contents(&disk.copied().open(Mode::ReadWrite));
+    let mut store = disk.open(Mode::ReadWrite);
+    disk.fail_after(0, Failure::Forgets(0));
+    commit(&mut store).unwrap_err();
+    drop(store);
+    disk.0.lock().unwrap().is_mapped = true;
+    for mode in [Mode::ReadWrite, Mode::Plain] {
+        let opened = Store::open_on(disk.clone(), mode, counting_salts(1));
+        assert!(matches!(opened, Err(Error::Io { file, .. }) if file.ends_with("the log")));
     }
+    disk.0.lock().unwrap().is_mapped = false;
+    assert!(contents(&disk.open(Mode::ReadWrite)) == before);
 }
 
 #[test]
