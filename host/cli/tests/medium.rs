@@ -1,20 +1,24 @@
-//! A medium that fails for a moment: whatever the program acknowledges afterwards is there after a remount.
+//! A medium that fails for a moment, or whose power is cut: whatever the program acknowledges is there after a remount.
 //!
 //! The medium is a loop device with ext4 whose image lies on a tmpfs. Blocks that were never used are holes of the image; while the tmpfs
 //! is full, a write to them fails, and so does the flush that follows. After such a flush the page cache holds bytes that the medium has
-//! not, as clean ones: later flushes do not write them, and a remount forgets them. All of this takes root; elsewhere the tests are skipped.
+//! not, as clean ones: later flushes do not write them, and a remount forgets them. A power cut is the image as it is at a moment, mounted
+//! anew. All of this takes root; elsewhere the tests are skipped.
 mod support;
 
-use std::fs::{self, File};
+use std::fs::{self, File, OpenOptions};
 use std::io::Write;
+use std::os::unix::fs::FileExt;
 use std::path::{Path, PathBuf};
 use std::process::Command;
+use support::tracer::{Ending, killed_at, killed_where};
 use support::{WorkDir, fresh_folder, skipped};
 
 /// Runs a command of the system's: what it printed, or what it said when it failed.
 fn system(line: &str) -> Result<String, String> {
     let words: Vec<&str> = line.split(' ').collect();
-    let ran = Command::new(words[0]).args(&words[1..]).output();
+    let paths = std::env::var("PATH").unwrap_or_default() + ":/usr/sbin:/sbin";
+    let ran = Command::new(words[0]).args(&words[1..]).env("PATH", paths).output();
     let output = ran.map_err(|error| format!("{}: {error}", words[0]))?;
     match output.status.success() {
         true => Ok(String::from_utf8_lossy(&output.stdout).trim().to_string()),
@@ -48,12 +52,13 @@ fn with_patience(line: &str) -> Result<String, String> {
     result
 }
 
-/// The medium, and the folder on it that the program is called in.
+/// The medium, and the folder on it that the program is called in. The fields are dropped in their order: what stands on others first.
 struct Medium {
-    /// Dropped before what it stands on is undone.
     dir: WorkDir,
     device: String,
+    image: PathBuf,
     filler: PathBuf,
+    _one_block: OneBlock,
     _undo: Undo,
 }
 
@@ -76,17 +81,19 @@ impl Medium {
         let image = make_image(&holder)?;
         let device = system(&format!("losetup --find --show {}", image.display()))?;
         undo.0.push(format!("losetup --detach {device}"));
-        limit_requests(&device)?;
+        let one_block = OneBlock::of(&device)?;
         system(&format!("mount -t ext4 {device} {}", mounted.display()))?;
         undo.0.push(format!("umount {}", mounted.display()));
         system(&format!("fstrim {}", mounted.display()))?;
         let dir = WorkDir { path: mounted };
         dir.put_pages();
-        system("sync")?;
+        system(&format!("sync -f {}", dir.path.display()))?;
         Ok(Medium {
             dir,
             device,
+            image,
             filler: holder.join("filler"),
+            _one_block: one_block,
             _undo: undo,
         })
     }
@@ -110,6 +117,38 @@ impl Medium {
         let mounted = self.dir.path.display();
         with_patience(&format!("umount {mounted}")).unwrap();
         system(&format!("mount -t ext4 {} {mounted}", self.device)).unwrap();
+    }
+
+    /// What the medium has at this moment: what a power cut would leave.
+    fn bytes(&self) -> Vec<u8> {
+        fs::read(&self.image).unwrap()
+    }
+
+    /// The same once everything is on it.
+    fn flushed(&self) -> Vec<u8> {
+        system(&format!("sync -f {}", self.dir.path.display())).unwrap();
+        self.bytes()
+    }
+
+    /// Makes the medium what it was, by the blocks that are others now, and mounts it anew.
+    fn return_to(&self, bytes: &[u8]) {
+        let mounted = self.dir.path.display();
+        with_patience(&format!("umount {mounted}")).unwrap();
+        let device = OpenOptions::new().write(true).open(&self.device).unwrap();
+        let now = self.bytes();
+        for at in (0..bytes.len())
+            .step_by(4096)
+            .filter(|at| bytes[*at..][..4096] != now[*at..][..4096])
+        {
+            device.write_all_at(&bytes[at..][..4096], at as u64).unwrap();
+        }
+        device.sync_all().unwrap();
+        system(&format!("mount -t ext4 {} {mounted}", self.device)).unwrap();
+    }
+
+    /// The power is cut now.
+    fn cut(&self) {
+        self.return_to(&self.bytes());
     }
 
     /// A call that must fail because the medium does, and afterwards the medium works again.
@@ -136,11 +175,29 @@ fn make_image(folder: &Path) -> Result<PathBuf, String> {
     Ok(image)
 }
 
-/// One block a request: of a longer one that begins in a block which is there, the loop device reports the part as the whole.
-fn limit_requests(device: &str) -> Result<(), String> {
-    let name = device.trim_start_matches("/dev/");
-    let setting = format!("/sys/block/{name}/queue/max_sectors_kb");
-    fs::write(&setting, "4").map_err(|error| format!("{setting}: {error}"))
+/// One block a request: of a longer one that begins in a block which is there, the loop device reports the part as the whole. The system
+/// keeps this for the device's next user, so it is put back.
+struct OneBlock {
+    setting: String,
+    before: String,
+}
+
+impl OneBlock {
+    fn of(device: &str) -> Result<OneBlock, String> {
+        let setting = format!("/sys/block/{}/queue/max_sectors_kb", device.trim_start_matches("/dev/"));
+        let wrong = |error| format!("{setting}: {error}");
+        let before = fs::read_to_string(&setting).map_err(wrong)?;
+        fs::write(&setting, "4").map_err(wrong)?;
+        Ok(OneBlock { setting, before })
+    }
+}
+
+impl Drop for OneBlock {
+    fn drop(&mut self) {
+        if let Err(error) = fs::write(&self.setting, self.before.trim()) {
+            eprintln!("{}: {error}", self.setting);
+        }
+    }
 }
 
 /// Runs a test on a medium, where there can be one.
@@ -160,6 +217,15 @@ fn outlasts_a_remount(medium: &Medium, dir: &WorkDir) -> Vec<Option<u8>> {
     assert_eq!(dir.pages(1..7), pages);
     assert_eq!(dir.done("batches grips"), batches);
     pages
+}
+
+/// That the store is whole, and pages 4 to 6 are all as they were made or all as a commit has them that fills them with 1.
+fn is_old_or_new(dir: &WorkDir) {
+    dir.is_whole(7);
+    let pages = dir.pages(1..7);
+    let old = [1, 2, 3, 8, 5, 6].map(Some);
+    let new = [1, 2, 3, 1, 1, 1].map(Some);
+    assert!(pages == old || pages == new, "{pages:?}");
 }
 
 #[test]
@@ -202,10 +268,8 @@ fn a_checkpoint_after_a_failed_flush_is_kept() {
         dir.make_store();
         medium.fails_for_a_moment("commit grips 4=p1 5=p1 6=p1");
         dir.done("checkpoint grips");
-        let pages = outlasts_a_remount(medium, dir);
-        let old = [1, 2, 3, 8, 5, 6].map(Some);
-        let new = [1, 2, 3, 1, 1, 1].map(Some);
-        assert!(pages == old || pages == new, "{pages:?}");
+        outlasts_a_remount(medium, dir);
+        is_old_or_new(dir);
     });
 }
 
@@ -247,13 +311,107 @@ fn a_plain_checkpoint_writes_no_page_of_an_unflushed_log() {
             medium.fails_for_a_moment("commit grips 4=p1 5=p1 6=p1");
             dir.call(&format!("checkpoint grips --plain --cut-after-bytes {bytes}"));
             medium.remount();
-            dir.is_whole(7);
-            let pages = dir.pages(1..7);
-            let old = [1, 2, 3, 8, 5, 6].map(Some);
-            let new = [1, 2, 3, 1, 1, 1].map(Some);
-            assert!(pages == old || pages == new, "{bytes}: {pages:?}");
+            is_old_or_new(dir);
         });
     }
+}
+
+/// Kills the line at its first system call that finds the files changed by an earlier one: at which call that was. None where a process
+/// can't be traced.
+fn first_change(dir: &WorkDir, line: &str) -> Option<usize> {
+    let before = dir.snapshot();
+    let mut call = 0;
+    let changed = |number| {
+        call = number;
+        dir.snapshot() != before
+    };
+    let ending = killed_where(dir.command(line), changed).ok()?;
+    assert_eq!(ending, Ending::Killed, "{line} changes no file");
+    Some(call)
+}
+
+/// A commit is written and not flushed, and a plain opening's checkpoint is cut: the log has to be on the medium first.
+#[test]
+fn a_plain_checkpoint_flushes_the_log_first() {
+    on_a_medium("a plain checkpoint of an unflushed log", |medium, dir| {
+        dir.make_store();
+        let start = medium.flushed();
+        for bytes in [4096, 12288, 12289, 16384] {
+            medium.return_to(&start);
+            if first_change(dir, "commit grips 4=p1 5=p1 6=p1").is_none() {
+                return skipped("a plain checkpoint of an unflushed log", "a process can't be traced here");
+            }
+            dir.call(&format!("checkpoint grips --plain --cut-after-bytes {bytes}"));
+            medium.cut();
+            is_old_or_new(dir);
+        }
+    });
+}
+
+/// Kills the line at every system call from the first one that changes a file on, with a power cut at the same moment, and judges what
+/// the medium has, and whether that may still be the old.
+fn cut_at_every_call(medium: &Medium, line: &str, judge: impl Fn(&WorkDir, bool)) {
+    let dir = &medium.dir;
+    let start = medium.flushed();
+    let Some(first) = first_change(dir, line) else {
+        return skipped(line, "a process can't be traced here");
+    };
+    for call in first.saturating_sub(1).. {
+        medium.return_to(&start);
+        let ending = killed_at(dir.command(line), call).unwrap();
+        medium.cut();
+        judge(dir, ending == Ending::Killed);
+        if let Ending::Exited(status) = ending {
+            assert_eq!(status, 0, "{line}");
+            return;
+        }
+    }
+}
+
+#[test]
+fn a_creation_cut_at_every_call_blocks_nothing() {
+    on_a_medium("a creation cut at every call", |medium, _| {
+        cut_at_every_call(medium, "create grips", |dir, may_be_old| {
+            let again = dir.call("create grips");
+            assert!(again.status == 0 && may_be_old || again.err.contains("already"), "{}", again.err);
+            dir.done("commit grips 1=p1 2=p2 3=p3 4=p8 5=p5 6=p6");
+            is_old_or_new(dir);
+        });
+    });
+}
+
+#[test]
+fn a_writing_call_cut_at_every_call_is_whole_or_nothing() {
+    for (line, tail) in [
+        ("commit grips 4=p1 5=p1 6=p1", false),
+        ("commit grips 4=p1 5=p1 6=p1", true),
+        ("checkpoint grips", false),
+    ] {
+        on_a_medium("a writing call cut at every call", |medium, dir| {
+            dir.make_store();
+            if tail {
+                dir.fails("commit grips 3=p9 --cut-after-bytes 4112");
+            }
+            cut_at_every_call(medium, line, |dir, may_be_old| {
+                is_old_or_new(dir);
+                assert!(may_be_old || line == "checkpoint grips" || dir.pages([6]) == [Some(1)]);
+            });
+        });
+    }
+}
+
+#[test]
+fn a_missing_log_made_and_cut_at_every_call_blocks_nothing() {
+    on_a_medium("a missing log made and cut", |medium, dir| {
+        dir.make_store();
+        dir.done("checkpoint grips");
+        fs::remove_file(dir.file("grips-wal")).unwrap();
+        cut_at_every_call(medium, "commit grips 4=p1 5=p1 6=p1", |dir, may_be_old| {
+            is_old_or_new(dir);
+            assert!(may_be_old || dir.pages([6]) == [Some(1)]);
+            dir.done("commit grips 4=p1 5=p1 6=p1");
+        });
+    });
 }
 
 /// The names of what lies on the medium beside the pages.

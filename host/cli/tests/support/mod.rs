@@ -111,7 +111,8 @@ impl WorkDir {
 
     pub fn snapshot(&self) -> Snapshot {
         let entries = fs::read_dir(&self.path).unwrap().map(|entry| entry.unwrap());
-        entries.map(|entry| (entry.file_name(), fs::read(entry.path()).unwrap())).collect()
+        let files = entries.filter(|entry| entry.file_type().unwrap().is_file());
+        files.map(|entry| (entry.file_name(), fs::read(entry.path()).unwrap())).collect()
     }
 
     /// Makes the folder what it was: only files that are otherwise now are written.

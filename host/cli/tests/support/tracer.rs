@@ -24,19 +24,24 @@ unsafe extern "C" {
 /// How a traced command ended.
 #[derive(Clone, Copy, Debug, PartialEq, Eq)]
 pub enum Ending {
-    /// At the entry of the system call asked for.
+    /// At the entry of the system call that was asked for.
     Killed,
-    /// By itself, with that status, before that call came.
+    /// By itself, with that status, before such a call came.
     Exited(c_int),
 }
 
-/// Runs the command, and kills it at the entry of its system call of that number, of which 0 is the first behind the exec. An error
+/// Runs the command, and kills it at the entry of its system call of that number, of which 0 is the first behind the exec.
+pub fn killed_at(command: Command, call: usize) -> io::Result<Ending> {
+    killed_where(command, |number| number == call)
+}
+
+/// Runs the command, and kills it at the entry of the first system call that is the wanted one; what is asked goes by its number. An error
 /// says that tracing isn't allowed here, or that this kernel lacks it.
-pub fn killed_at(mut command: Command, call: usize) -> io::Result<Ending> {
+pub fn killed_where(mut command: Command, wanted: impl FnMut(usize) -> bool) -> io::Result<Ending> {
     // SAFETY: the closure runs in the child before the exec and makes one system call; it touches no memory of the parent's.
     unsafe { command.pre_exec(|| answered(ptrace(TRACEME, 0, ptr::null::<u8>(), ptr::null::<u8>()))) };
     let mut child = command.stdout(Stdio::null()).stderr(Stdio::null()).spawn()?;
-    let ending = follow(child.id() as c_int, call);
+    let ending = follow(child.id() as c_int, wanted);
     if !matches!(ending, Ok(Ending::Exited(_))) {
         end(&mut child)?;
     }
@@ -48,15 +53,15 @@ fn end(child: &mut Child) -> io::Result<()> {
     child.wait().map(drop)
 }
 
-/// Lets the child run from stop to stop, until the call has come or the child has ended.
-fn follow(pid: c_int, call: usize) -> io::Result<Ending> {
+/// Lets the child run from stop to stop, until the wanted call has come or the child has ended.
+fn follow(pid: c_int, mut wanted: impl FnMut(usize) -> bool) -> io::Result<Ending> {
     let mut status = wait(pid)?;
     // SAFETY: the child is stopped after its exec, and the request takes two plain numbers.
     answered(unsafe { ptrace(SETOPTIONS, pid, 0usize, TRACESYSGOOD | EXITKILL) })?;
     let mut entered = 0;
     while !has_ended(status) {
         if is_entry(pid, status)? {
-            if entered == call {
+            if wanted(entered) {
                 return Ok(Ending::Killed);
             }
             entered += 1;
