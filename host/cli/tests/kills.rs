@@ -1,0 +1,187 @@
+//! The program killed at the entry of every one of its system calls in turn: whatever the kill leaves, the next calls find a whole store.
+//!
+//! A killed process loses nothing that it has written, so what is tried here is every order of whole system calls; what a power cut leaves
+//! of them is tried on disks in memory by the crate's tests.
+mod support;
+
+use std::collections::HashSet;
+use support::tracer::{Ending, killed_at};
+use support::{WorkDir, is_there, skipped};
+
+/// Calls the line again and again, from the same files, killed one system call later each time, until it runs to its end. Each state that a
+/// kill leaves the folder in is judged once.
+fn at_every_call(dir: &WorkDir, line: &str, judge: impl Fn(&WorkDir)) {
+    let start = dir.snapshot();
+    let mut judged = HashSet::new();
+    for call in 0.. {
+        dir.restore(&start);
+        let ending = match killed_at(dir.command(line), call) {
+            Ok(ending) => ending,
+            Err(error) if call == 0 => return skipped(line, &format!("a process can't be traced here: {error}")),
+            Err(error) => panic!("{line}, call {call}: {error}"),
+        };
+        if judged.insert(dir.snapshot()) {
+            let _context = Context { line, call };
+            judge(dir);
+        }
+        if let Ending::Exited(status) = ending {
+            assert_eq!(status, 0, "{line}");
+            assert!(call > 30 && judged.len() > 1, "{line}: {} states after {call} calls", judged.len());
+            return;
+        }
+    }
+}
+
+/// Says which kill it was when a judgement panics.
+struct Context<'a> {
+    line: &'a str,
+    call: usize,
+}
+
+impl Drop for Context<'_> {
+    fn drop(&mut self) {
+        if std::thread::panicking() {
+            eprintln!("`{}` was killed at its system call {}", self.line, self.call);
+        }
+    }
+}
+
+/// That the store takes another commit, which is read back.
+fn takes_a_commit(dir: &WorkDir) {
+    dir.done("commit grips 1=p7");
+    assert_eq!(dir.pages([1]), [Some(7)]);
+}
+
+#[test]
+fn creation() {
+    let dir = WorkDir::new();
+    at_every_call(&dir, "create grips", |dir| {
+        let again = dir.call("create grips");
+        let made = again.status == 0;
+        assert!(made || again.err.contains("already"), "{}", again.err);
+        dir.is_whole(2);
+        takes_a_commit(dir);
+        dir.is_whole(2);
+    });
+}
+
+#[test]
+fn creation_over_a_store() {
+    let dir = WorkDir::with_store();
+    at_every_call(&dir, "create grips --over", |dir| {
+        match is_there(&dir.file("grips")) {
+            true => is_old_or_new(dir),
+            false => drop(dir.fails("info grips")),
+        }
+        dir.done("create grips --over");
+        dir.is_whole(2);
+        takes_a_commit(dir);
+        dir.is_whole(2);
+    });
+}
+
+/// The store of 7 pages with its log, or a new one: never one's main file with the other's log.
+fn is_old_or_new(dir: &WorkDir) {
+    if dir.done("check grips").starts_with("opens; pages: 2;") {
+        let length = |name| std::fs::metadata(dir.file(name)).map(|found| found.len()).ok();
+        assert_eq!(length("grips"), Some(8192));
+        assert!(matches!(length("grips-wal"), None | Some(32)), "{:?}", length("grips-wal"));
+        return;
+    }
+    dir.is_whole(7);
+    assert_eq!(dir.pages(1..7), [1, 2, 3, 8, 5, 6].map(Some));
+}
+
+/// That of pages 1 and 3 both are as before or both are 9, the others as before; that another commit is taken, and keeps that.
+fn both_or_none(dir: &WorkDir) {
+    dir.is_whole(7);
+    let found = dir.pages(1..7);
+    let old = [1, 2, 3, 8, 5, 6].map(Some);
+    let new = [9, 2, 9, 8, 5, 6].map(Some);
+    assert!(found == old || found == new, "{found:?}");
+    dir.done("commit grips 6=p7");
+    dir.is_whole(7);
+    assert_eq!(dir.pages(1..6), found[..5]);
+    assert_eq!(dir.pages([6]), [Some(7)]);
+}
+
+#[test]
+fn commit() {
+    let dir = WorkDir::with_store();
+    at_every_call(&dir, "commit grips 1=p9 3=p9", both_or_none);
+}
+
+/// A store whose log has so many frames; page 5 is committed again and again, at last as it was.
+fn with_frames(count: usize) -> WorkDir {
+    let dir = WorkDir::with_store();
+    for n in 0..count / 2 - 1 {
+        let page = if n % 2 == 0 { 9 } else { 5 };
+        dir.done(&format!("commit grips 5=p{page}"));
+    }
+    assert!(dir.done("info grips").contains(&format!("frames         {count}\n")));
+    dir
+}
+
+/// How often the log was emptied by a checkpoint: the fourth word of its listing.
+fn sequence(dir: &WorkDir) -> String {
+    let listing = dir.done("log grips");
+    listing.split_whitespace().nth(3).unwrap().to_string()
+}
+
+#[test]
+fn commit_that_brings_a_checkpoint() {
+    let dir = with_frames(98);
+    let (start, before) = (dir.snapshot(), sequence(&dir));
+    dir.done("commit grips 1=p9 3=p9");
+    assert_ne!(sequence(&dir), before, "no checkpoint came");
+    dir.restore(&start);
+    at_every_call(&dir, "commit grips 1=p9 3=p9", both_or_none);
+}
+
+#[test]
+fn checkpoint() {
+    let dir = WorkDir::with_store();
+    dir.done("commit grips 1=p9 3=p9");
+    at_every_call(&dir, "checkpoint grips", |dir| {
+        assert_eq!(dir.pages(1..7), [9, 2, 9, 8, 5, 6].map(Some));
+        both_or_none(dir);
+        dir.done("checkpoint grips");
+        assert_eq!(dir.pages(1..7), [9, 2, 9, 8, 5, 7].map(Some));
+    });
+}
+
+#[test]
+fn opening_that_cuts_a_tail() {
+    let dir = WorkDir::with_store();
+    dir.fails("commit grips 5=p9 --cut-after-bytes 4112");
+    assert!(dir.done("check grips").contains("good and unsealed: page 5\n"));
+    at_every_call(&dir, "commit grips 1=p9 3=p9", both_or_none);
+}
+
+#[test]
+fn opening_that_makes_a_missing_log() {
+    let dir = WorkDir::with_store();
+    dir.done("checkpoint grips");
+    std::fs::remove_file(dir.file("grips-wal")).unwrap();
+    let start = dir.snapshot();
+    for line in ["commit grips 1=p9 3=p9", "checkpoint grips"] {
+        dir.restore(&start);
+        at_every_call(&dir, line, both_or_none);
+    }
+}
+
+#[test]
+fn append() {
+    let dir = WorkDir::with_store();
+    let text = "batch 1\ntombstone \"cabins\" 7\nbatch 2\npresent \"cabins\" 8\n";
+    std::fs::write(dir.file("rows"), text).unwrap();
+    std::fs::write(dir.file("more"), "batch 3\n").unwrap();
+    at_every_call(&dir, "append grips rows", |dir| {
+        dir.is_whole(7);
+        let found = dir.done("batches grips");
+        assert!(found.is_empty() || found == text, "{found}");
+        dir.done("append grips more");
+        assert_eq!(dir.done("batches grips"), found + "batch 3\n");
+        assert_eq!(dir.pages(1..7), [1, 2, 3, 8, 5, 6].map(Some));
+    });
+}
