@@ -1,38 +1,106 @@
 //! The commands that write: each is a dry run in memory first, so that a refused one alters no file.
-use crate::args::{Args, Known};
+use crate::args::Args;
 use crate::failure::Failure;
-use lateenbael::{BatchBuilder, DbHeader, Disk, DryRun, Error, Files, Mode, PowerCut, Store, salts_of_the_clock};
+use crate::input::{Source, at_most_one_standard_input, batches_of, page_word};
+use crate::json::Json;
+use crate::output::Answer;
+use lateenbael::sys::PAGE_SIZE;
+use lateenbael::{BatchBuilder, DbHeader, Disk, DryRun, Error, Files, Mode, PowerCut, Refusal, Store, salts_of_the_clock};
+use std::ffi::OsStr;
 use std::path::Path;
 
-/// The options of every command that opens a store for writing.
-pub const OPENING: Known = Known {
-    flags: &["plain"],
-    valued: &["clock", "cut-after-bytes"],
-};
+pub fn create(args: &Args) -> Result<Answer, Failure> {
+    let [path] = args.words()?;
+    let file = Path::new(path);
+    let files = if args.has("over") {
+        Files::overwriting(file)
+    } else {
+        Files::fresh(file)
+    };
+    let store = Store::create_on(files.map_err(|e| Failure::file(file, e))?, salts_of_the_clock())?;
+    let count = store.header()?.page_count;
+    let object = Json::object([("command", "create".into()), ("page_count", count.into())]);
+    Ok(Answer::report_as(args.has("json"), object, format!("created; pages: {count}\n")))
+}
 
-/// How the store is opened, and after how many bytes its power is cut.
-pub struct Opening {
+pub fn commit(args: &Args) -> Result<Answer, Failure> {
+    let (path, words) = args.first_and_rest()?;
+    let pages = words.iter().map(|word| page_word(word)).collect::<Result<Vec<_>, Failure>>()?;
+    let batches: Vec<Source> = args.all("batch").map(Source).collect();
+    at_most_one_standard_input(pages.iter().map(|(_, source)| source).chain(&batches))?;
+    let mut operation = Commit {
+        command: "commit",
+        count: args.number("count")?,
+        root: args.number("root")?,
+        version: args.number("version")?,
+        freelist: args.number("freelist")?,
+        clock: args.number("clock")?,
+        ..Commit::default()
+    };
+    let opening = Opening::of(args)?;
+    let bytes = pages.into_iter().map(|(page, source)| Ok((page, source.page()?)));
+    operation.pages = bytes.collect::<Result<_, Failure>>()?;
+    operation.batches = batches_of(&batches)?;
+    execute(path, &opening, &operation)
+}
+
+pub fn append(args: &Args) -> Result<Answer, Failure> {
+    let (path, files) = args.first_and_rest()?;
+    let sources: Vec<Source> = files.iter().map(|file| Source(file)).collect();
+    at_most_one_standard_input(sources.iter())?;
+    let opening = Opening::of(args)?;
+    let operation = Commit {
+        command: "append",
+        clock: args.number("clock")?,
+        batches: batches_of(&sources)?,
+        ..Commit::default()
+    };
+    if operation.batches.is_empty() {
+        return Err(Failure::Usage("no batch to append".to_string()));
+    }
+    execute(path, &opening, &operation)
+}
+
+pub fn checkpoint(args: &Args) -> Result<Answer, Failure> {
+    let [path] = args.words()?;
+    let operation = Checkpoint {
+        clock: args.number("clock")?,
+    };
+    execute(path, &Opening::of(args)?, &operation)
+}
+
+/// How the store is opened, after how many bytes its power is cut, and how the report looks.
+struct Opening {
     mode: Mode,
     power_cut: Option<u64>,
+    json: bool,
 }
 
 impl Opening {
-    pub fn of(args: &Args) -> Result<Opening, Failure> {
-        let mode = if args.has("plain") { Mode::Plain } else { Mode::ReadWrite };
-        let power_cut = args.number("cut-after-bytes")?;
-        Ok(Opening { mode, power_cut })
+    fn of(args: &Args) -> Result<Opening, Failure> {
+        Ok(Opening {
+            mode: if args.has("plain") { Mode::Plain } else { Mode::ReadWrite },
+            power_cut: args.number("cut-after-bytes")?,
+            json: args.has("json"),
+        })
     }
 }
 
-/// Calls on an open store, and the line that reports them.
-pub trait Operation {
-    fn run<D: Disk>(&self, store: &mut Store<D>) -> Result<String, Error>;
+/// What an operation did.
+struct Report {
+    object: Json,
+    text: String,
+}
+
+/// Calls on an open store, and the report of them.
+trait Operation {
+    fn run<D: Disk>(&self, store: &mut Store<D>) -> Result<Report, Failure>;
 }
 
 /// Does the operation on a dry run, then on the files.
-pub fn execute(path: &str, opening: &Opening, operation: &impl Operation) -> Result<Vec<u8>, Failure> {
+fn execute(path: &OsStr, opening: &Opening, operation: &impl Operation) -> Result<Answer, Failure> {
     let file = Path::new(path);
-    let unusable = |error| Failure::file(path, error);
+    let unusable = |error| Failure::file(file, error);
     let dry_run = DryRun::of(file).map_err(unusable)?;
     operation.run(&mut Store::open_on(dry_run, opening.mode, salts_of_the_clock())?)?;
     let disk = PowerCut::new(Files::existing(file, false).map_err(unusable)?);
@@ -40,19 +108,21 @@ pub fn execute(path: &str, opening: &Opening, operation: &impl Operation) -> Res
     if let Some(bytes) = opening.power_cut {
         store.disk_mut().arm(bytes);
     }
-    Ok(operation.run(&mut store)?.into_bytes())
+    let report = operation.run(&mut store)?;
+    Ok(Answer::report_as(opening.json, report.object, report.text))
 }
 
 /// A commit: what of the header is given, pages to stage and batches to append.
 #[derive(Default)]
-pub struct Commit {
-    pub count: Option<u32>,
-    pub root: Option<u32>,
-    pub version: Option<u16>,
-    pub freelist: Option<u32>,
-    pub clock: Option<u64>,
-    pub pages: Vec<(u32, Vec<u8>)>,
-    pub batches: Vec<BatchBuilder>,
+struct Commit {
+    command: &'static str,
+    count: Option<u32>,
+    root: Option<u32>,
+    version: Option<u16>,
+    freelist: Option<u32>,
+    clock: Option<u64>,
+    pages: Vec<(u32, [u8; PAGE_SIZE])>,
+    batches: Vec<BatchBuilder>,
 }
 
 impl Commit {
@@ -67,43 +137,64 @@ impl Commit {
         }
     }
 
-    fn report(&self, written: usize, checkpointed: bool) -> String {
-        let mut report = format!("committed; pages that differed: {written}");
+    /// A refused commit, with the option that it is about.
+    fn refused(&self, error: Error) -> Failure {
+        let about = match (error.refusal(), self.count, self.version) {
+            (Some(Refusal::NewHeader), Some(count), _) if !(1..=1024).contains(&count) => format!("--count {count}"),
+            (Some(Refusal::NewHeader), _, Some(version)) => format!("--version {version}"),
+            _ => return error.into(),
+        };
+        Failure::from(error).about(about)
+    }
+
+    fn report(&self, written: usize, checkpointed: bool) -> Report {
+        let mut text = format!("committed; pages that differed: {written}");
         if !self.batches.is_empty() {
-            report += &format!("; batches sealed: {}", self.batches.len());
+            text += &format!("; batches sealed: {}", self.batches.len());
         }
         if checkpointed {
-            report += "; the log was folded, and its batches are gone";
+            text += "; the log was folded, and its batches are gone";
         }
-        report + "\n"
+        let object = Json::object([
+            ("command", self.command.into()),
+            ("pages_that_differed", written.into()),
+            ("batches_committed", self.batches.len().into()),
+            ("checkpointed", checkpointed.into()),
+        ]);
+        Report { object, text: text + "\n" }
     }
 }
 
 impl Operation for Commit {
-    fn run<D: Disk>(&self, store: &mut Store<D>) -> Result<String, Error> {
+    fn run<D: Disk>(&self, store: &mut Store<D>) -> Result<Report, Failure> {
         raise_clock(store, self.clock)?;
         for (page, bytes) in &self.pages {
-            store.stage_page(*page, bytes)?;
+            let staged = store.stage_page(*page, bytes);
+            staged.map_err(|error| Failure::from(error).about(format!("page {page}")))?;
         }
-        for batch in &self.batches {
-            store.append_mvcc_batch(batch.body())?;
+        for (n, batch) in (1..).zip(&self.batches) {
+            let appended = store.append_mvcc_batch(batch.body());
+            appended.map_err(|error| Failure::from(error).about(format!("batch {n} of {}", self.batches.len())))?;
         }
         let sequence = store.wal_header()?.checkpoint_seq;
-        let written = store.commit(self.header(store.header()?))?;
+        let written = store.commit(self.header(store.header()?)).map_err(|error| self.refused(error))?;
         Ok(self.report(written, store.wal_header()?.checkpoint_seq != sequence))
     }
 }
 
 /// A checkpoint: document 01's fold.
-pub struct Checkpoint {
-    pub clock: Option<u64>,
+struct Checkpoint {
+    clock: Option<u64>,
 }
 
 impl Operation for Checkpoint {
-    fn run<D: Disk>(&self, store: &mut Store<D>) -> Result<String, Error> {
+    fn run<D: Disk>(&self, store: &mut Store<D>) -> Result<Report, Failure> {
         raise_clock(store, self.clock)?;
         let written = store.checkpoint()?;
-        Ok(format!("folded; pages written: {written}\n"))
+        Ok(Report {
+            object: Json::object([("command", "checkpoint".into()), ("pages_written", written.into())]),
+            text: format!("folded; pages written: {written}\n"),
+        })
     }
 }
 
