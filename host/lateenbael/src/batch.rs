@@ -1,6 +1,7 @@
 //! Batches: walking one in its bytes, and building one.
 use crate::Refusal;
 use lateenbael_sys as sys;
+use std::fmt;
 use sys::PAGE_SIZE;
 
 /// The first record's place.
@@ -14,9 +15,11 @@ pub struct Batch<'a> {
 }
 
 /// A record: a row that is gone, or one that is there, with its columns.
-#[derive(Clone, Copy)]
+#[derive(Clone, Copy, Debug, PartialEq)]
 pub struct Record<'a> {
+    /// The table's name.
     pub table: &'a str,
+    /// The row's number.
     pub rowid: i64,
     /// None: a tombstone.
     pub columns: Option<Columns<'a>>,
@@ -30,21 +33,61 @@ pub struct Columns<'a> {
     left: usize,
 }
 
+/// A column of a row.
 #[derive(Clone, Copy, Debug, PartialEq)]
 pub struct Column<'a> {
+    /// Its name.
     pub name: &'a str,
+    /// Its value.
     pub value: Value<'a>,
 }
 
-#[derive(Clone, Copy, Debug, PartialEq)]
+/// A column's value.
+#[derive(Clone, Copy, Debug, Default, PartialEq)]
 pub enum Value<'a> {
+    /// No value.
+    #[default]
     Null,
+    /// A whole number.
     Integer(i64),
-    /// Exact on bits.
+    /// A float, exact on bits.
     Real(f64),
+    /// A text.
     Text(&'a str),
+    /// A truth value.
     Bool(bool),
+    /// A vector of floats.
     Vector(Vector<'a>),
+}
+
+impl From<i64> for Value<'_> {
+    fn from(value: i64) -> Self {
+        Value::Integer(value)
+    }
+}
+
+impl From<f64> for Value<'_> {
+    fn from(value: f64) -> Self {
+        Value::Real(value)
+    }
+}
+
+impl<'a> From<&'a str> for Value<'a> {
+    fn from(value: &'a str) -> Self {
+        Value::Text(value)
+    }
+}
+
+impl From<bool> for Value<'_> {
+    fn from(value: bool) -> Self {
+        Value::Bool(value)
+    }
+}
+
+impl<'a> From<Vector<'a>> for Value<'a> {
+    fn from(value: Vector<'a>) -> Self {
+        Value::Vector(value)
+    }
 }
 
 /// A vector of 32-bit floats, as their little-endian bytes.
@@ -52,6 +95,7 @@ pub enum Value<'a> {
 pub struct Vector<'a>(pub &'a [u8]);
 
 impl<'a> Vector<'a> {
+    /// Its elements.
     pub fn elements(self) -> impl ExactSizeIterator<Item = f32> {
         self.0
             .chunks_exact(4)
@@ -82,15 +126,18 @@ fn value_at(body: &[u8], value: sys::Value) -> Value<'_> {
 impl<'a> Batch<'a> {
     /// Refusals 2, 3 and 17 to 19.
     pub fn decode(body: &'a [u8]) -> Result<Batch<'a>, Refusal> {
+        // SAFETY: a whole slice is lent, which the call reads and does not keep.
         let numbers = unsafe { sys::lateenbael_mvcc_decode(body.as_ptr(), body.len()) };
         Refusal::check(numbers.refusal)?;
         Ok(Batch { body, numbers })
     }
 
+    /// Its commit's time.
     pub fn commit_ts(&self) -> u64 {
         self.numbers.commit_ts
     }
 
+    /// How many records it has.
     pub fn record_count(&self) -> usize {
         self.numbers.records
     }
@@ -100,10 +147,12 @@ impl<'a> Batch<'a> {
         self.body
     }
 
+    /// Its records, in their order.
     pub fn records(&self) -> impl Iterator<Item = Record<'a>> {
         let body = self.body;
         let mut at = FIRST_RECORD;
         (0..self.numbers.records).map_while(move |_| {
+            // SAFETY: as above.
             let record = unsafe { sys::lateenbael_mvcc_decode_record(body.as_ptr(), body.len(), at) };
             Refusal::check(record.refusal).ok()?;
             at = record.next;
@@ -117,11 +166,40 @@ impl<'a> Batch<'a> {
     }
 }
 
+impl PartialEq for Batch<'_> {
+    fn eq(&self, other: &Self) -> bool {
+        self.commit_ts() == other.commit_ts() && self.records().eq(other.records())
+    }
+}
+
+impl fmt::Debug for Batch<'_> {
+    fn fmt(&self, f: &mut fmt::Formatter<'_>) -> fmt::Result {
+        let records: Vec<Record<'_>> = self.records().collect();
+        f.debug_struct("Batch")
+            .field("commit_ts", &self.commit_ts())
+            .field("records", &records)
+            .finish()
+    }
+}
+
+impl PartialEq for Columns<'_> {
+    fn eq(&self, other: &Self) -> bool {
+        Iterator::eq(*self, *other)
+    }
+}
+
+impl fmt::Debug for Columns<'_> {
+    fn fmt(&self, f: &mut fmt::Formatter<'_>) -> fmt::Result {
+        f.debug_list().entries(*self).finish()
+    }
+}
+
 impl<'a> Iterator for Columns<'a> {
     type Item = Column<'a>;
 
     fn next(&mut self) -> Option<Column<'a>> {
         self.left = self.left.checked_sub(1)?;
+        // SAFETY: a whole slice is lent, which the call reads and does not keep.
         let column = unsafe { sys::lateenbael_mvcc_decode_column(self.body.as_ptr(), self.body.len(), self.at) };
         Refusal::check(column.refusal).ok()?;
         self.at = column.next;
@@ -139,16 +217,32 @@ impl<'a> Iterator for Columns<'a> {
 impl ExactSizeIterator for Columns<'_> {}
 
 /// A batch being built. An addition that is refused leaves it as it was.
+#[derive(Clone)]
 pub struct BatchBuilder {
     body: Box<[u8; PAGE_SIZE]>,
     building: sys::Building,
 }
 
-// Every `unsafe` below lends whole slices, which the call reads and writes and does not keep.
+impl Default for BatchBuilder {
+    fn default() -> Self {
+        Self::new(0)
+    }
+}
+
+impl fmt::Debug for BatchBuilder {
+    fn fmt(&self, f: &mut fmt::Formatter<'_>) -> fmt::Result {
+        match Batch::decode(&self.body[..]) {
+            Ok(batch) => batch.fmt(f),
+            Err(refusal) => refusal.fmt(f),
+        }
+    }
+}
+
 impl BatchBuilder {
     /// A batch without records.
     pub fn new(commit_ts: u64) -> BatchBuilder {
         let mut body = Box::new([0; PAGE_SIZE]);
+        // SAFETY: a whole slice is lent, which the call writes and does not keep.
         let building = unsafe { sys::lateenbael_mvcc_start(body.as_mut_ptr(), body.len(), commit_ts) };
         BatchBuilder { body, building }
     }
@@ -171,6 +265,7 @@ impl BatchBuilder {
 
     fn add_record(&mut self, add: AddRecord, table: &str, rowid: i64) -> Result<(), Refusal> {
         let body = &mut self.body;
+        // SAFETY: whole slices are lent, which the call reads and writes and does not keep.
         let building = unsafe { add(body.as_mut_ptr(), body.len(), self.building, table.as_ptr(), table.len(), rowid) };
         self.take(building)
     }
@@ -179,6 +274,7 @@ impl BatchBuilder {
     pub fn add_column(&mut self, name: &str, value: Value<'_>) -> Result<(), Refusal> {
         let (body, len, b) = (self.body.as_mut_ptr(), PAGE_SIZE, self.building);
         let (name, name_len) = (name.as_ptr(), name.len());
+        // SAFETY: as above.
         let building = unsafe {
             match value {
                 Value::Null => sys::lateenbael_mvcc_add_null(body, len, b, name, name_len),
@@ -193,8 +289,8 @@ impl BatchBuilder {
     }
 
     /// The batch as `encode` writes it.
-    pub fn body(&self) -> &[u8] {
-        &self.body[..]
+    pub fn body(&self) -> &[u8; PAGE_SIZE] {
+        &self.body
     }
 }
 

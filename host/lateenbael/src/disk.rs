@@ -1,167 +1,59 @@
-//! The two files of a store: what a store asks of a disk, and real files that do it.
+//! What a store asks of the disk that its two files are on.
 use crate::Area;
-use std::ffi::OsString;
-use std::fs::{File, OpenOptions, TryLockError};
 use std::io;
-use std::os::unix::fs::FileExt;
-use std::path::{Path, PathBuf};
+use std::path::PathBuf;
 
-/// What a store asks of its two files. Everything happens in the order of the calls.
+/// The two files of a store. Everything happens in the order of the calls.
 pub trait Disk {
+    /// The file's name, for messages.
+    fn name(&self, area: Area) -> PathBuf {
+        PathBuf::from(match area {
+            Area::Log => "the log",
+            Area::Main => "the main file",
+        })
+    }
+
     /// Reads a file's bytes into a buffer and answers its length, or a greater one than the buffer's where the file goes on behind
-    /// it; none if there is no such file.
+    /// it; none if there is no such file. What a cache holds may answer.
     fn read(&mut self, area: Area, buffer: &mut [u8]) -> io::Result<Option<usize>>;
-    /// Makes the file empty; makes it if it isn't there.
+
+    /// Reads bytes of a file past any cache, as they lie on the medium and outlast a power cut, or answers that it can't. The place
+    /// is a multiple of [`MEDIUM_CHUNK`], and no more bytes are asked for.
+    ///
+    /// A system may answer a failed flush by forgetting which bytes were to be written: they stay in its cache, and a later flush finds
+    /// nothing to do. So an opening for writing asks the medium. A disk without such a cache reads as `read` does.
+    fn read_medium(&mut self, area: Area, at: usize, buffer: &mut [u8]) -> io::Result<Medium>;
+
+    /// Begins a new, empty file. It may stand under another name until it is published.
     fn create(&mut self, area: Area) -> io::Result<()>;
+
+    /// The new file is whole and synced: from now on, for good, it stands under its own name.
+    fn publish(&mut self, area: Area) -> io::Result<()>;
+
     /// Writes bytes; what is written past the end lengthens the file.
     fn write_at(&mut self, area: Area, at: usize, bytes: &[u8]) -> io::Result<()>;
+
+    /// Cuts the file, or lengthens it by zeros.
     fn set_len(&mut self, area: Area, len: usize) -> io::Result<()>;
+
     /// Returns when everything written to the file so far, its length too, will outlast a power cut.
     fn sync(&mut self, area: Area) -> io::Result<()>;
-}
 
-/// The log's path beside a main file: the same with `-wal` behind it, as the Rust names it.
-pub fn wal_path_for(main: &Path) -> PathBuf {
-    let mut name = OsString::from(main);
-    name.push("-wal");
-    PathBuf::from(name)
-}
-
-/// Two real files. The main file is locked while they are open, for writers alone or for readers together, as the Rust locks it.
-pub struct Files {
-    main_path: PathBuf,
-    main: File,
-    log: Option<File>,
-    /// How long each file is, where that is known: a checkpoint that leaves the main file's length as it was then makes no system call for
-    /// it.
-    lengths: [Option<usize>; 2],
-}
-
-impl Files {
-    /// The files of a store that is there; the log may be missing.
-    pub fn existing(path: &Path, read_only: bool) -> io::Result<Files> {
-        let main = OpenOptions::new().read(true).write(!read_only).open(path)?;
-        lock(&main, read_only)?;
-        let log = match OpenOptions::new().read(true).write(!read_only).open(wal_path_for(path)) {
-            Err(error) if error.kind() == io::ErrorKind::NotFound => None,
-            found => Some(found?),
-        };
-        Ok(Files::of_parts(path, main, log))
-    }
-
-    fn of_parts(path: &Path, main: File, log: Option<File>) -> Files {
-        Files {
-            main_path: path.to_path_buf(),
-            main,
-            log,
-            lengths: [None; 2],
-        }
-    }
-
-    /// Two new files; if either is there already, `AlreadyExists`.
-    pub fn fresh(path: &Path) -> io::Result<Files> {
-        for path in [path, &wal_path_for(path)] {
-            if path.try_exists()? {
-                let why = format!("{} is there already", path.display());
-                return Err(io::Error::new(io::ErrorKind::AlreadyExists, why));
-            }
-        }
-        Files::create_with(path, OpenOptions::new().read(true).write(true).create_new(true))
-    }
-
-    /// Two files to be written anew, whatever they hold; nothing is written yet.
-    pub fn overwriting(path: &Path) -> io::Result<Files> {
-        Files::create_with(path, OpenOptions::new().read(true).write(true).create(true))
-    }
-
-    fn create_with(path: &Path, options: &OpenOptions) -> io::Result<Files> {
-        let main = options.open(path)?;
-        lock(&main, false)?;
-        let log = Some(options.open(wal_path_for(path))?);
-        sync_folder(path)?;
-        Ok(Files::of_parts(path, main, log))
-    }
-
-    fn file(&self, area: Area) -> io::Result<&File> {
-        match area {
-            Area::Main => Ok(&self.main),
-            Area::Log => self.log.as_ref().ok_or_else(|| io::Error::from(io::ErrorKind::NotFound)),
-        }
+    /// Whether the file still has its name and the length that these calls gave it, as far as that is told at little cost.
+    fn is_intact(&mut self, area: Area) -> io::Result<bool> {
+        let _ = area;
+        Ok(true)
     }
 }
 
-impl Disk for Files {
-    fn read(&mut self, area: Area, buffer: &mut [u8]) -> io::Result<Option<usize>> {
-        if area == Area::Log && self.log.is_none() {
-            return Ok(None);
-        }
-        let file = self.file(area)?;
-        let mut len = 0;
-        while len < buffer.len() {
-            match file.read_at(&mut buffer[len..], len as u64) {
-                Ok(0) => {
-                    self.lengths[area as usize] = Some(len);
-                    return Ok(Some(len));
-                }
-                Ok(n) => len += n,
-                Err(error) if error.kind() == io::ErrorKind::Interrupted => {}
-                Err(error) => return Err(error),
-            }
-        }
-        let behind = file.metadata()?.len() > len as u64;
-        self.lengths[area as usize] = (!behind).then_some(len);
-        Ok(Some(len + usize::from(behind)))
-    }
+/// How many bytes are read past the cache at once.
+pub const MEDIUM_CHUNK: usize = 1 << 18;
 
-    fn create(&mut self, area: Area) -> io::Result<()> {
-        if area == Area::Log && self.log.is_none() {
-            let mut options = OpenOptions::new();
-            self.log = Some(
-                options
-                    .read(true)
-                    .write(true)
-                    .create_new(true)
-                    .open(wal_path_for(&self.main_path))?,
-            );
-            sync_folder(&self.main_path)?;
-        }
-        self.set_len(area, 0)
-    }
-
-    fn write_at(&mut self, area: Area, at: usize, bytes: &[u8]) -> io::Result<()> {
-        let known = self.lengths[area as usize].take();
-        self.file(area)?.write_all_at(bytes, at as u64)?;
-        let end = if bytes.is_empty() { 0 } else { at + bytes.len() };
-        self.lengths[area as usize] = known.map(|len| len.max(end));
-        Ok(())
-    }
-
-    fn set_len(&mut self, area: Area, len: usize) -> io::Result<()> {
-        if self.lengths[area as usize].take() != Some(len) {
-            self.file(area)?.set_len(len as u64)?;
-        }
-        self.lengths[area as usize] = Some(len);
-        Ok(())
-    }
-
-    fn sync(&mut self, area: Area) -> io::Result<()> {
-        self.file(area)?.sync_all()
-    }
-}
-
-fn lock(main: &File, read_only: bool) -> io::Result<()> {
-    let locked = if read_only { main.try_lock_shared() } else { main.try_lock() };
-    locked.map_err(|error| match error {
-        TryLockError::WouldBlock => io::Error::new(io::ErrorKind::WouldBlock, "another program has the store open"),
-        TryLockError::Error(error) => error,
-    })
-}
-
-/// A new file outlasts a power cut only when its folder was synced too.
-fn sync_folder(file: &Path) -> io::Result<()> {
-    let folder = match file.parent() {
-        Some(parent) if !parent.as_os_str().is_empty() => parent,
-        _ => Path::new("."),
-    };
-    File::open(folder)?.sync_all()
+/// Whether a disk could read past its cache.
+#[derive(Clone, Copy, Debug, PartialEq, Eq, Hash)]
+pub enum Medium {
+    /// The buffer holds what lies on the medium.
+    Read,
+    /// It could not; the buffer holds nothing of use.
+    Unknown,
 }

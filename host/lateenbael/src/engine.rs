@@ -1,26 +1,34 @@
 //! The proved store with the areas it works in, all in memory. Nothing here touches a file.
 use crate::Refusal;
 use lateenbael_sys as sys;
+use std::fmt;
 use sys::{DbHeader, FRAME_SIZE, LOG_AREA, MAIN_AREA, PAGE_SIZE, PAGES, STAGING_AREA};
 
 /// One of the two files.
-#[derive(Clone, Copy, Debug, PartialEq, Eq)]
+#[derive(Clone, Copy, Debug, PartialEq, Eq, Hash)]
 pub enum Area {
+    /// The log.
     Log,
+    /// The main file.
     Main,
 }
 
 /// A write to a file that the host carries out (document 01's store): `len` bytes from `at` on, or with `len` 0 the new length `at`;
 /// then a flush or none.
-#[derive(Clone, Copy, Debug, PartialEq, Eq)]
+#[derive(Clone, Copy, Debug, PartialEq, Eq, Hash)]
 pub struct Write {
+    /// Which file.
     pub area: Area,
+    /// The first byte's place, or the new length.
     pub at: usize,
+    /// How many bytes.
     pub len: usize,
+    /// Whether a flush follows.
     pub flush: bool,
 }
 
 impl Write {
+    /// A write.
     pub const fn new(area: Area, at: usize, len: usize, flush: bool) -> Write {
         Write { area, at, len, flush }
     }
@@ -36,6 +44,7 @@ impl Write {
 pub enum Step {
     /// Nothing was part done.
     Idle,
+    /// A write, and more are to come.
     Stored(Write),
     /// The last write, and the answer of the commit or checkpoint.
     Last(Write, usize),
@@ -44,20 +53,27 @@ pub enum Step {
 /// A recovered batch: its index among the log's frames, and the place of its body.
 #[derive(Clone, Copy, Debug, PartialEq, Eq)]
 pub struct RecoveredBatch {
+    /// Its frame's index.
     pub index: usize,
+    /// Where its body begins in the log.
     pub body: usize,
 }
 
 /// The store and its four areas.
+#[derive(Clone)]
 pub struct Engine {
     store: sys::Store,
     /// What a reading is refused with; 0: nothing.
     unreadable: u32,
     /// No page is found from there on; 0 where readings are refused.
     read_end: usize,
+    /// Where each page stands.
     pub table: Box<[u32]>,
+    /// The log's bytes, and room behind them.
     pub log: Box<[u8]>,
+    /// The main file's bytes, and room behind them.
     pub main: Box<[u8]>,
+    /// The staged pages.
     pub staging: Box<[u8]>,
 }
 
@@ -98,6 +114,8 @@ const CLOSED: sys::Store = sys::Store {
     opening: NO_LOG,
 };
 
+/// Opened read-only.
+const READ_ONLY: u32 = 2;
 /// Opened read-only, and there was no log.
 const NO_LOG: u32 = 3;
 
@@ -108,6 +126,12 @@ const NO_HEADER: DbHeader = DbHeader {
     freelist_head: 0,
 };
 
+impl fmt::Debug for Engine {
+    fn fmt(&self, f: &mut fmt::Formatter<'_>) -> fmt::Result {
+        f.debug_struct("Engine").field("store", &self.store).finish_non_exhaustive()
+    }
+}
+
 impl Default for Engine {
     fn default() -> Self {
         Self::new()
@@ -117,6 +141,7 @@ impl Default for Engine {
 /// A call over the four areas: what it takes before them, and what behind. The areas are lent whole, and no call keeps one.
 macro_rules! over_areas {
     ($engine:ident, $address:ident, $call:expr, [$($before:expr),*], [$($behind:expr),*]) => {
+        // SAFETY: the areas are lent whole, and no call keeps one. Every call is total, whatever their lengths and the store are.
         unsafe {
             $call(
                 $($before,)*
@@ -134,7 +159,6 @@ macro_rules! over_areas {
     };
 }
 
-// Every `unsafe` below lends whole slices, as the macro does.
 impl Engine {
     /// Areas of zeros, and nothing open.
     pub fn new() -> Engine {
@@ -177,9 +201,15 @@ impl Engine {
     fn set_read_end(&mut self) {
         let store = &self.store;
         self.read_end = match self.unreadable {
+            // SAFETY: numbers alone go over.
             0 => unsafe { sys::lateenbael_read_end(store.current_header.page_count, store.staged.count) },
             _ => 0,
         };
+    }
+
+    /// Whether the store was opened for writing.
+    pub fn is_writable(&self) -> bool {
+        self.store.opening < READ_ONLY
     }
 
     /// Whether there is a log file: a store open read-only may have none.
@@ -253,35 +283,43 @@ impl Engine {
 
     /// The header that counts.
     pub fn header(&self) -> Result<DbHeader, Refusal> {
+        // SAFETY: numbers alone go over.
         let answer = unsafe { sys::lateenbael_header(self.store) };
         Refusal::check(answer.refusal)?;
         Ok(answer.header)
     }
 
+    /// Whether it was opened for reading only.
     pub fn is_read_only(&self) -> Result<bool, Refusal> {
+        // SAFETY: numbers alone go over.
         let answer = unsafe { sys::lateenbael_access_mode(self.store) };
         Refusal::check(answer.refusal)?;
         Ok(answer.number != 0)
     }
 
+    /// The clock.
     pub fn clock_high_water(&self) -> Result<u64, Refusal> {
+        // SAFETY: numbers alone go over.
         let answer = unsafe { sys::lateenbael_clock_high_water(self.store) };
         Refusal::check(answer.refusal)?;
         Ok(answer.number)
     }
 
+    /// Raises the clock; a lower value is ignored.
     pub fn observe_clock_high_water(&mut self, value: u64) -> Result<(), Refusal> {
+        // SAFETY: numbers alone go over.
         let answered = unsafe { sys::lateenbael_observe_clock_high_water(self.store, value) };
         self.take(&answered)
     }
 
     /// A page's own bytes, or none.
     #[inline]
-    pub fn read_page(&self, page_num: u32) -> Result<Option<&[u8]>, Refusal> {
+    pub fn read_page(&self, page_num: u32) -> Result<Option<&[u8; PAGE_SIZE]>, Refusal> {
         if page_num as usize >= self.read_end {
             return Refusal::check(self.unreadable).map(|()| None);
         }
         let (count, staged) = (self.store.current_header.page_count, &self.store.staged);
+        // SAFETY: numbers and the table go over, which is lent whole and not kept.
         let answer =
             unsafe { sys::lateenbael_place_page(count, page_num, staged.count, &staged.pages, self.table.as_ptr(), self.table.len()) };
         let area = match answer.area {
@@ -291,11 +329,12 @@ impl Engine {
             2 => &self.main,
             _ => &self.staging,
         };
-        Ok(Some(&area[answer.at..][..PAGE_SIZE]))
+        Ok(area[answer.at..].first_chunk())
     }
 
     /// The first batch that the opening recovered, at an index of the log or behind it.
     pub fn recovered(&self, index: usize) -> Result<Option<RecoveredBatch>, Refusal> {
+        // SAFETY: the log is lent whole, and not kept.
         let place = unsafe { sys::lateenbael_recovered_mvcc_commits(self.store, self.log.as_ptr(), self.log.len(), index) };
         Refusal::check(place.refusal)?;
         if place.found == 0 {
@@ -310,6 +349,7 @@ impl Engine {
     /// Stages a page's bytes. The numbers of the staged pages are stored where they lie: the store is not handed over.
     pub fn stage_page(&mut self, page_num: u32, bytes: &[u8]) -> Result<(), Refusal> {
         let staged = &mut self.store.staged;
+        // SAFETY: the numbers and both slices are lent whole, and not kept.
         let done = unsafe {
             sys::lateenbael_stage_in(
                 self.store.job.kind,
@@ -330,7 +370,9 @@ impl Engine {
         Ok(())
     }
 
+    /// Drops what is staged.
     pub fn clear_staged(&mut self) -> Result<(), Refusal> {
+        // SAFETY: numbers alone go over.
         let answered = unsafe { sys::lateenbael_clear_staged(self.store) };
         self.take(&answered)
     }
@@ -338,6 +380,7 @@ impl Engine {
     /// Appends a batch: the write of its frame.
     pub fn append_mvcc_batch(&mut self, body: &[u8]) -> Result<Write, Refusal> {
         let at = self.store.wal.len;
+        // SAFETY: the log and the body are lent whole, and not kept.
         let answered =
             unsafe { sys::lateenbael_append_mvcc_batch(self.store, self.log.as_mut_ptr(), self.log.len(), body.as_ptr(), body.len()) };
         self.take(&answered)?;
@@ -387,4 +430,12 @@ impl Engine {
         let answered = over_areas!(self, as_mut_ptr, sys::lateenbael_checkpoint, [self.store], [salt]);
         self.take(&answered).map(|()| answered.answer)
     }
+}
+
+/// A main header's page, decoded. Refusals 2 to 5.
+pub fn decode_header(page: &[u8]) -> Result<DbHeader, Refusal> {
+    // SAFETY: a whole slice is lent, which the call reads and does not keep.
+    let answer = unsafe { sys::lateenbael_decode_header(page.as_ptr(), page.len()) };
+    Refusal::check(answer.refusal)?;
+    Ok(answer.header)
 }

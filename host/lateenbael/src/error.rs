@@ -2,17 +2,79 @@
 use crate::Refusal;
 use std::fmt;
 use std::io;
+use std::path::PathBuf;
 
-/// Why a call did not do its work.
+/// A symbolic link where none may be.
+const ELOOP: i32 = 40;
+
+/// Why a call did not do its work. Where it is about a file, a page or a process, it names it.
 #[derive(Debug)]
+#[non_exhaustive]
 pub enum Error {
     /// The store refused the call; nothing was changed.
     Refused(Refusal),
     /// Refusal 14, with the lowest page that is missing; nothing was changed.
-    Joining { page: usize },
+    Joining {
+        /// The page that isn't staged.
+        page: usize,
+    },
+    /// An opening was refused for what this file holds; nothing was changed.
+    RefusedFile {
+        /// The file.
+        file: PathBuf,
+        /// Why.
+        refusal: Refusal,
+    },
+    /// A commit with a staged page at or above its page count, which would be committed and then read as nothing. The library takes
+    /// it, as the Rust does; [`Store`](crate::Store) does not, and nothing was changed.
+    StagedBeyond {
+        /// The lowest such page.
+        page: u32,
+        /// The page count of the commit's header.
+        page_count: u32,
+    },
+    /// Another program, or another `Store` of this one, has the store open, and did not close it in the time that was waited.
+    Locked {
+        /// The file that is locked, the main one.
+        file: PathBuf,
+        /// Who holds the lock, where the system tells.
+        holder: Option<String>,
+    },
+    /// A creation found this file, and left it.
+    AlreadyExists {
+        /// The file.
+        file: PathBuf,
+    },
+    /// There is no such file.
+    NotFound {
+        /// The file.
+        file: PathBuf,
+    },
+    /// What stands there is no regular file: a folder, a pipe, a device, or a symbolic link in a log's place.
+    NotAFile {
+        /// The file.
+        file: PathBuf,
+    },
+    /// The file has more than one hard link. Under another name the store would have another log.
+    Linked {
+        /// The file.
+        file: PathBuf,
+        /// How many links it has.
+        links: u64,
+    },
+    /// The file was removed, replaced or given another length while the store was open. The store has stopped; the call wrote nothing.
+    Replaced {
+        /// The file.
+        file: PathBuf,
+    },
     /// The disk failed. An open store stops for good: what it has in memory may not be what lies on the disk.
-    Io(io::Error),
-    /// The disk failed in an earlier call. Open the files again.
+    Io {
+        /// The file.
+        file: PathBuf,
+        /// What the system said.
+        source: io::Error,
+    },
+    /// The store stopped in an earlier call. Open the files again.
     Stopped,
 }
 
@@ -20,9 +82,21 @@ impl Error {
     /// The refusal, if it is one.
     pub fn refusal(&self) -> Option<Refusal> {
         match self {
-            Error::Refused(refusal) => Some(*refusal),
+            Error::Refused(refusal) | Error::RefusedFile { refusal, .. } => Some(*refusal),
             Error::Joining { .. } => Some(Refusal::Joining),
-            Error::Io(_) | Error::Stopped => None,
+            _ => None,
+        }
+    }
+
+    /// An error of the system's, about a file.
+    pub(crate) fn of_file(file: impl Into<PathBuf>, source: io::Error) -> Error {
+        let file = file.into();
+        match source.kind() {
+            io::ErrorKind::NotFound => Error::NotFound { file },
+            io::ErrorKind::AlreadyExists => Error::AlreadyExists { file },
+            io::ErrorKind::IsADirectory => Error::NotAFile { file },
+            _ if source.raw_os_error() == Some(ELOOP) => Error::NotAFile { file },
+            _ => Error::Io { file, source },
         }
     }
 }
@@ -32,8 +106,25 @@ impl fmt::Display for Error {
         match self {
             Error::Refused(refusal) => refusal.fmt(f),
             Error::Joining { page } => write!(f, "{}: page {page}", Refusal::Joining),
-            Error::Io(error) => write!(f, "the disk failed: {error}"),
-            Error::Stopped => write!(f, "the store has stopped: the disk failed in an earlier call"),
+            Error::RefusedFile { file, refusal } => write!(f, "{}: {refusal}", file.display()),
+            Error::StagedBeyond { page, page_count } => {
+                write!(f, "page {page} is staged, and a page count of {page_count} would leave it out")
+            }
+            Error::Locked { file, holder } => {
+                let holder = holder.as_deref().unwrap_or("a controller, or another lateenbael");
+                write!(f, "{}: another program has the store open ({holder})", file.display())
+            }
+            Error::AlreadyExists { file } => write!(f, "{} is there already", file.display()),
+            Error::NotFound { file } => write!(f, "{}: there is no such file", file.display()),
+            Error::NotAFile { file } => write!(f, "{} is no regular file", file.display()),
+            Error::Linked { file, links } => write!(
+                f,
+                "{} has {links} hard links, and each name would have a log of its own",
+                file.display()
+            ),
+            Error::Replaced { file } => write!(f, "{} was removed, replaced or altered while the store was open", file.display()),
+            Error::Io { file, source } => write!(f, "{}: the disk failed: {source}", file.display()),
+            Error::Stopped => write!(f, "the store has stopped in an earlier call; open it again"),
         }
     }
 }
@@ -41,9 +132,9 @@ impl fmt::Display for Error {
 impl std::error::Error for Error {
     fn source(&self) -> Option<&(dyn std::error::Error + 'static)> {
         match self {
-            Error::Io(error) => Some(error),
-            Error::Refused(refusal) => Some(refusal),
-            Error::Joining { .. } | Error::Stopped => None,
+            Error::Io { source, .. } => Some(source),
+            Error::Refused(refusal) | Error::RefusedFile { refusal, .. } => Some(refusal),
+            _ => None,
         }
     }
 }
@@ -60,11 +151,5 @@ impl From<(Refusal, usize)> for Error {
             Refusal::Joining => Error::Joining { page },
             other => Error::Refused(other),
         }
-    }
-}
-
-impl From<io::Error> for Error {
-    fn from(error: io::Error) -> Error {
-        Error::Io(error)
     }
 }

@@ -22,33 +22,45 @@
 //! drop(store);
 //!
 //! let store = Store::open(&path, Mode::ReadOnly)?;
-//! assert_eq!(store.read_page(2)?, Some(&[7; 4096][..]));
+//! assert_eq!(store.read_page(2)?, Some(&[7; 4096]));
 //! assert_eq!(store.recovered_mvcc_commits()?.count(), 1);
 //! # drop(store);
 //! # std::fs::remove_dir_all(&folder)?;
 //! # Ok(())
 //! # }
 //! ```
+#![warn(missing_docs, clippy::undocumented_unsafe_blocks)]
+
 mod batch;
+mod direct;
 mod disk;
 mod dry_run;
 mod engine;
 mod error;
+mod files;
+mod lock;
 mod log;
+mod options;
 mod power_cut;
 mod refusal;
 mod salts;
+mod settle;
 mod store;
 
 pub use batch::{Batch, BatchBuilder, Column, Columns, Record, Value, Vector};
-pub use disk::{Disk, Files, wal_path_for};
+pub use disk::{Disk, MEDIUM_CHUNK, Medium};
 pub use dry_run::DryRun;
 pub use engine::{Area, Engine, RecoveredBatch, Step, Write};
 pub use error::Error;
+pub use files::{Files, wal_path_for};
 pub use lateenbael_sys as sys;
 pub use lateenbael_sys::DbHeader;
 pub use log::{Frame, Log};
+pub use options::{DEFAULT_WAIT, Mode, OpenOptions};
 pub use power_cut::PowerCut;
 pub use refusal::Refusal;
 pub use salts::{Salts, salts_of_the_clock};
-pub use store::{Mode, Store};
+pub use store::Store;
+
+/// The crate's version.
+pub const VERSION: &str = env!("CARGO_PKG_VERSION");

@@ -1,27 +1,46 @@
 //! A log's bytes, read alone: its header, its good frames, its commit point, its batches, and its listing.
 use crate::{Batch, Refusal};
 use lateenbael_sys as sys;
-use std::fmt::Write;
+use std::fmt::{self, Write};
 use sys::{FRAME_SIZE, MVCC_FRAME_MARKER, PAGE_SIZE, Wal, WalHeader};
 
 /// A log that opens.
-#[derive(Clone, Copy)]
+#[derive(Clone, Copy, PartialEq, Eq)]
 pub struct Log<'a> {
     bytes: &'a [u8],
     wal: Wal,
 }
 
 /// A good frame.
-#[derive(Clone, Copy)]
+#[derive(Clone, Copy, PartialEq, Eq)]
 pub struct Frame<'a> {
+    /// Which of the log's frames it is.
     pub index: usize,
     /// The frame's first byte.
     pub offset: usize,
+    /// The page's number, or a batch's mark.
     pub page_num: u32,
-    /// 0: no commit frame (document 01's seal).
+    /// The page count that it commits. 0: no commit frame (document 01's seal).
     pub commit_page_count: u32,
     /// The page's bytes, or the batch's.
     pub body: &'a [u8],
+}
+
+impl fmt::Debug for Frame<'_> {
+    fn fmt(&self, f: &mut fmt::Formatter<'_>) -> fmt::Result {
+        f.debug_struct("Frame")
+            .field("index", &self.index)
+            .field("offset", &self.offset)
+            .field("page_num", &self.page_num)
+            .field("commit_page_count", &self.commit_page_count)
+            .finish_non_exhaustive()
+    }
+}
+
+impl fmt::Debug for Log<'_> {
+    fn fmt(&self, f: &mut fmt::Formatter<'_>) -> fmt::Result {
+        f.debug_struct("Log").field("wal", &self.wal).finish_non_exhaustive()
+    }
 }
 
 impl<'a> Frame<'a> {
@@ -35,13 +54,15 @@ impl<'a> Frame<'a> {
 }
 
 impl<'a> Log<'a> {
-    /// Refusals 1 to 5.
+    /// Opens a log's bytes. Refusals 1 to 5.
     pub fn open(bytes: &'a [u8]) -> Result<Log<'a>, Refusal> {
+        // SAFETY: a whole slice is lent, which the call reads and does not keep.
         let answer = unsafe { sys::lateenbael_wal_open(bytes.as_ptr(), bytes.len()) };
         Refusal::check(answer.refusal)?;
         Ok(Log { bytes, wal: answer.wal })
     }
 
+    /// Its header.
     pub fn header(&self) -> WalHeader {
         self.wal.header
     }
@@ -80,6 +101,7 @@ impl<'a> Log<'a> {
     }
 
     fn frame(&self, index: usize) -> Option<Frame<'a>> {
+        // SAFETY: a whole slice is lent, which the call reads and does not keep.
         let answer = unsafe { sys::lateenbael_wal_frame_at(self.bytes.as_ptr(), self.bytes.len(), index) };
         (answer.found != 0).then(|| Frame {
             index,

@@ -1,9 +1,11 @@
 //! A disk whose power is cut, for trying things out.
-use crate::{Area, Disk};
+use crate::{Area, Disk, Medium};
 use std::io;
+use std::path::PathBuf;
 
 /// A disk whose power goes after so many stored bytes, once it is armed: what comes later is not stored, and every call fails.
-/// A new length counts as one byte; a file's first 32 bytes are stored together or not at all.
+/// A new length, and a new name, count as one byte; a file's first 32 bytes are stored together or not at all.
+#[derive(Clone, Debug)]
 pub struct PowerCut<D> {
     disk: D,
     left: Option<u64>,
@@ -39,6 +41,14 @@ impl<D: Disk> PowerCut<D> {
 }
 
 impl<D: Disk> Disk for PowerCut<D> {
+    fn name(&self, area: Area) -> PathBuf {
+        self.disk.name(area)
+    }
+
+    fn read_medium(&mut self, area: Area, at: usize, buffer: &mut [u8]) -> io::Result<Medium> {
+        self.disk.read_medium(area, at, buffer)
+    }
+
     fn read(&mut self, area: Area, buffer: &mut [u8]) -> io::Result<Option<usize>> {
         self.disk.read(area, buffer)
     }
@@ -47,6 +57,12 @@ impl<D: Disk> Disk for PowerCut<D> {
         let stored = self.draw(1);
         Self::answer(stored, 1)?;
         self.disk.create(area)
+    }
+
+    fn publish(&mut self, area: Area) -> io::Result<()> {
+        let stored = self.draw(1);
+        Self::answer(stored, 1)?;
+        self.disk.publish(area)
     }
 
     fn write_at(&mut self, area: Area, at: usize, bytes: &[u8]) -> io::Result<()> {
@@ -68,5 +84,9 @@ impl<D: Disk> Disk for PowerCut<D> {
             return Err(io::Error::other("the power was cut"));
         }
         self.disk.sync(area)
+    }
+
+    fn is_intact(&mut self, area: Area) -> io::Result<bool> {
+        self.disk.is_intact(area)
     }
 }

@@ -2,7 +2,8 @@
 use std::fmt;
 
 /// Why a call was refused; its number is [`Refusal::number`].
-#[derive(Clone, Copy, Debug, PartialEq, Eq)]
+#[derive(Clone, Copy, Debug, PartialEq, Eq, PartialOrd, Ord, Hash)]
+#[allow(missing_docs, reason = "each is told in `ALL`, which `Display` prints")]
 pub enum Refusal {
     Area = 1,
     Short = 2,
@@ -74,10 +75,12 @@ impl Refusal {
         ALL[k as usize].0
     }
 
+    /// Document 01's number.
     pub fn number(self) -> u32 {
         self as u32
     }
 
+    /// Its name.
     pub fn name(self) -> &'static str {
         ALL[self as usize - 1].1
     }
@@ -91,3 +94,18 @@ impl fmt::Display for Refusal {
 }
 
 impl std::error::Error for Refusal {}
+
+impl From<Refusal> for u32 {
+    fn from(refusal: Refusal) -> u32 {
+        refusal.number()
+    }
+}
+
+/// The refusal of a number; the number itself if there is none.
+impl TryFrom<u32> for Refusal {
+    type Error = u32;
+
+    fn try_from(number: u32) -> Result<Refusal, u32> {
+        ALL.iter().map(|row| row.0).find(|refusal| refusal.number() == number).ok_or(number)
+    }
+}

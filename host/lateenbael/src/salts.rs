@@ -3,7 +3,7 @@ use std::process;
 use std::time::{SystemTime, UNIX_EPOCH};
 
 /// Where a store's salts come from; tests can give their own.
-pub type Salts = Box<dyn FnMut() -> u32 + Send>;
+pub type Salts = Box<dyn FnMut() -> u32 + Send + Sync>;
 
 /// Salts drawn from the clock and the process id, never 0 and no two in a row alike.
 pub fn salts_of_the_clock() -> Salts {

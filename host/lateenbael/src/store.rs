@@ -1,27 +1,19 @@
 //! The store on two real files: the proved engine, and every write that it names done on the disk in order, those that adjoin
 //! as one.
-use crate::disk::{Disk, Files};
-use crate::{Area, Batch, Engine, Error, Log, Salts, Step, Write, salts_of_the_clock};
+use crate::engine::decode_header;
+use crate::settle::{failed, make_file, make_files, publish, read_cached, read_settled, sync};
+use crate::{
+    Area, Batch, DEFAULT_WAIT, Disk, Engine, Error, Files, Log, Mode, OpenOptions, Refusal, Salts, Step, Write, salts_of_the_clock,
+};
 use lateenbael_sys as sys;
-use std::io;
+use std::fmt;
 use std::path::Path;
 use sys::{DbHeader, PAGE_SIZE, WalHeader};
 
-const WAL_HEADER_SIZE: usize = 32;
+/// A commit that brings the log to so many frames is followed by a checkpoint.
+const CHECKPOINT_FRAMES: usize = 100;
 
-/// How a store is opened.
-#[derive(Clone, Copy, Debug, Default, PartialEq, Eq)]
-pub enum Mode {
-    /// For reading and writing; the log is cut at its commit point, so that nothing uncommitted is ever taken in.
-    #[default]
-    ReadWrite,
-    /// For reading and writing as the Rust does: uncommitted frames (document 01's tail) stay, and a later commit takes them in.
-    Plain,
-    /// Nothing is written and no file is made.
-    ReadOnly,
-}
-
-/// An open store. After the disk has failed once, every call answers [`Error::Stopped`].
+/// An open store. After the disk has failed once, or a file was found replaced, every call answers [`Error::Stopped`].
 pub struct Store<D: Disk = Files> {
     engine: Engine,
     disk: D,
@@ -32,25 +24,40 @@ pub struct Store<D: Disk = Files> {
 }
 
 impl Store<Files> {
-    /// A new store in two new files. If either file is there already: `Io` of the kind `AlreadyExists`.
+    /// A new store in two new files; files that are there already are left alone. A creation that is cut has left no store, and can be
+    /// done again.
     pub fn create(path: impl AsRef<Path>) -> Result<Store, Error> {
         Store::create_on(Files::fresh(path.as_ref())?, salts_of_the_clock())
     }
 
-    /// A new store in place of whatever the two files hold.
+    /// A new store in place of whatever the two files hold, which is lost once the new ones are whole.
     pub fn create_over(path: impl AsRef<Path>) -> Result<Store, Error> {
-        Store::create_on(Files::overwriting(path.as_ref())?, salts_of_the_clock())
+        Store::create_on(Files::overwriting(path.as_ref(), DEFAULT_WAIT)?, salts_of_the_clock())
     }
 
-    /// Opens a store.
+    /// Opens a store; [`OpenOptions`] can say more.
     pub fn open(path: impl AsRef<Path>, mode: Mode) -> Result<Store, Error> {
-        Store::open_in(Engine::new(), path, mode)
+        OpenOptions::new().mode(mode).open(path)
     }
 
-    /// The same in the areas of an earlier store, whatever they hold: who opens often need not touch new memory each time.
+    /// Opens a store for reading and writing, and makes it first if it isn't there: for a controller that nobody attends to.
+    pub fn open_or_create(path: impl AsRef<Path>) -> Result<Store, Error> {
+        OpenOptions::new().create(true).open(path)
+    }
+
+    /// Opens a store in the areas of an earlier one, as [`OpenOptions::open_in`] does.
     pub fn open_in(engine: Engine, path: impl AsRef<Path>, mode: Mode) -> Result<Store, Error> {
-        let files = Files::existing(path.as_ref(), mode == Mode::ReadOnly)?;
-        Store::with_engine(engine, files, salts_of_the_clock()).opened(mode)
+        OpenOptions::new().mode(mode).open_in(engine, path)
+    }
+}
+
+impl<D: Disk> fmt::Debug for Store<D> {
+    fn fmt(&self, f: &mut fmt::Formatter<'_>) -> fmt::Result {
+        f.debug_struct("Store")
+            .field("file", &self.disk.name(Area::Main))
+            .field("engine", &self.engine)
+            .field("stopped", &self.stopped)
+            .finish_non_exhaustive()
     }
 }
 
@@ -65,41 +72,66 @@ impl<D: Disk> Store<D> {
         }
     }
 
-    /// A new store on a disk. Both files are made empty first: until the last write is done, an opening is refused.
+    /// A new store on a disk.
     pub fn create_on(disk: D, salts: Salts) -> Result<Store<D>, Error> {
         let mut store = Store::with_engine(Engine::new(), disk, salts);
         let salt = (store.salts)();
         store.engine.create(salt)?;
-        for area in [Area::Main, Area::Log] {
-            store.disk.create(area)?;
-            store.disk.sync(area)?;
-        }
-        store.write_out(Write::new(Area::Main, 0, PAGE_SIZE, false))?;
-        store.write_out(Write::new(Area::Main, PAGE_SIZE, PAGE_SIZE, true))?;
-        store.write_out(Write::new(Area::Log, 0, WAL_HEADER_SIZE, true))?;
+        make_files(&mut store.disk, store.engine.main_file(), store.engine.log_file())?;
         Ok(store)
     }
 
     /// Opens what lies on a disk. A log that is missing is made, but not read-only; a clean opening stores the log's length.
     pub fn open_on(disk: D, mode: Mode, salts: Salts) -> Result<Store<D>, Error> {
-        Store::with_engine(Engine::new(), disk, salts).opened(mode)
+        Store::open_on_in(Engine::new(), disk, mode, salts)
     }
 
-    fn opened(mut self, mode: Mode) -> Result<Store<D>, Error> {
-        let main = self.disk.read(Area::Main, &mut self.engine.main)?;
-        let main = main.ok_or_else(|| io::Error::from(io::ErrorKind::NotFound))?;
-        let log = self.disk.read(Area::Log, &mut self.engine.log)?;
-        let salt = (self.salts)();
-        self.engine
-            .reopen(mode == Mode::ReadWrite, main, log, mode == Mode::ReadOnly, salt)?;
+    pub(crate) fn open_on_in(engine: Engine, disk: D, mode: Mode, salts: Salts) -> Result<Store<D>, Error> {
+        let mut store = Store::with_engine(engine, disk, salts);
+        let read = match mode {
+            Mode::ReadOnly => read_cached,
+            Mode::ReadWrite | Mode::Plain => read_settled,
+        };
+        let main = read(&mut store.disk, Area::Main, &mut store.engine.main)?;
+        let main = main.ok_or_else(|| Error::NotFound {
+            file: store.disk.name(Area::Main),
+        })?;
+        let log = read(&mut store.disk, Area::Log, &mut store.engine.log)?;
+        let salt = (store.salts)();
+        let opened = store
+            .engine
+            .reopen(mode == Mode::ReadWrite, main, log, mode == Mode::ReadOnly, salt);
+        opened.map_err(|refusal| store.refused_opening(refusal, main, log))?;
         if mode != Mode::ReadOnly && log.is_none() {
-            self.disk.create(Area::Log)?;
-            self.write_out(Write::new(Area::Log, 0, WAL_HEADER_SIZE, true))?;
+            make_file(&mut store.disk, Area::Log, store.engine.log_file())?;
+            publish(&mut store.disk, Area::Log)?;
         }
         if mode == Mode::ReadWrite {
-            self.write_out(Write::new(Area::Log, self.engine.store().wal.len, 0, true))?;
+            store.write_out(Write::new(Area::Log, store.engine.store().wal.len, 0, true))?;
         }
-        Ok(self)
+        Ok(store)
+    }
+
+    /// An opening's refusal, with the file that it is about.
+    fn refused_opening(&self, refusal: Refusal, main: usize, log: Option<usize>) -> Error {
+        let area = match refusal {
+            Refusal::Area if main > self.engine.main.len() => Area::Main,
+            Refusal::Area | Refusal::PageZero => Area::Log,
+            Refusal::MainShort => Area::Main,
+            Refusal::Limit => match log.and_then(|len| Log::open(self.engine.log.get(..len)?).ok()) {
+                Some(log) if log.last_commit_page_count().is_some() => Area::Log,
+                _ => Area::Main,
+            },
+            Refusal::Short | Refusal::Magic | Refusal::Version | Refusal::PageSize => {
+                match self.engine.main.get(..main.min(PAGE_SIZE)).map(decode_header) {
+                    Some(Err(_)) => Area::Main,
+                    _ => Area::Log,
+                }
+            }
+            other => return Error::Refused(other),
+        };
+        let file = self.disk.name(area);
+        Error::RefusedFile { file, refusal }
     }
 
     /// Closes the store, and gives its areas for another opening.
@@ -111,19 +143,20 @@ impl<D: Disk> Store<D> {
     fn write_out(&mut self, write: Write) -> Result<(), Error> {
         let done = self.write_to_disk(write);
         self.stopped |= done.is_err();
-        Ok(done?)
+        done
     }
 
-    fn write_to_disk(&mut self, write: Write) -> io::Result<()> {
+    fn write_to_disk(&mut self, write: Write) -> Result<(), Error> {
         let bytes = match write.area {
             Area::Log => &self.engine.log,
             Area::Main => &self.engine.main,
         };
         self.unflushed[write.area as usize] = true;
-        match write.is_length() {
-            true => self.disk.set_len(write.area, write.at)?,
-            false => self.disk.write_at(write.area, write.at, &bytes[write.at..][..write.len])?,
-        }
+        let written = match write.is_length() {
+            true => self.disk.set_len(write.area, write.at),
+            false => self.disk.write_at(write.area, write.at, &bytes[write.at..][..write.len]),
+        };
+        written.map_err(|source| failed(&self.disk, write.area, source))?;
         match write.flush {
             true => self.flush(),
             false => Ok(()),
@@ -131,10 +164,10 @@ impl<D: Disk> Store<D> {
     }
 
     /// Everything written so far goes to the disk.
-    fn flush(&mut self) -> io::Result<()> {
+    fn flush(&mut self) -> Result<(), Error> {
         for area in [Area::Log, Area::Main] {
             if self.unflushed[area as usize] {
-                self.disk.sync(area)?;
+                sync(&mut self.disk, area)?;
                 self.unflushed[area as usize] = false;
             }
         }
@@ -159,11 +192,13 @@ impl<D: Disk> Store<D> {
         Ok(self.engine.header()?)
     }
 
+    /// Whether it was opened for reading only.
     pub fn is_read_only(&self) -> Result<bool, Error> {
         self.running()?;
         Ok(self.engine.is_read_only()?)
     }
 
+    /// The clock.
     pub fn clock_high_water(&self) -> Result<u64, Error> {
         self.running()?;
         Ok(self.engine.clock_high_water()?)
@@ -176,13 +211,13 @@ impl<D: Disk> Store<D> {
     }
 
     /// A page's own bytes: staged, else as committed, else none.
-    pub fn read_page(&self, page_num: u32) -> Result<Option<&[u8]>, Error> {
+    pub fn read_page(&self, page_num: u32) -> Result<Option<&[u8; PAGE_SIZE]>, Error> {
         self.running()?;
         Ok(self.engine.read_page(page_num)?)
     }
 
-    /// Stages a page of 4,096 bytes for the next commit.
-    pub fn stage_page(&mut self, page_num: u32, bytes: &[u8]) -> Result<(), Error> {
+    /// Stages a page for the next commit.
+    pub fn stage_page(&mut self, page_num: u32, bytes: &[u8; PAGE_SIZE]) -> Result<(), Error> {
         self.running()?;
         Ok(self.engine.stage_page(page_num, bytes)?)
     }
@@ -202,17 +237,64 @@ impl<D: Disk> Store<D> {
     }
 
     /// Commits what is staged and the appended batches: the number of pages that differed. When it returns, all of it is on the disk.
-    /// At 100 frames or more a checkpoint follows.
+    ///
+    /// A commit that brings the log to 100 frames is followed by a checkpoint, and the log's batches are gone then; before that
+    /// [`frames_before_checkpoint`](Store::frames_before_checkpoint) tells how near it is. A staged page at or above the header's page count
+    /// is refused ([`Error::StagedBeyond`]).
     pub fn commit(&mut self, header: DbHeader) -> Result<usize, Error> {
         self.running()?;
+        self.check_staged(header.page_count)?;
+        self.check_intact(Area::Log)?;
+        if self.engine.store().staged.count < self.frames_left() {
+            return self.commit_at_once(header);
+        }
         let salt = (self.salts)();
         self.engine.begin_commit(header, salt)?;
         self.run_steps()
     }
 
-    /// Writes the log's pages to the main file and empties the log, document 01's fold: the number of pages written.
+    /// A commit that no checkpoint can follow, whose frames thus stand in a row at the log's end: one write, one flush. Their bytes
+    /// reach the file in the order of the steps' writes. The salt would be the next log's.
+    fn commit_at_once(&mut self, header: DbHeader) -> Result<usize, Error> {
+        let at = self.engine.store().wal.len;
+        let answer = self.engine.commit(header, 0)?;
+        let len = self.engine.store().wal.len - at;
+        self.write_out(Write::new(Area::Log, at, len, true))?;
+        Ok(answer)
+    }
+
+    /// Refuses a staged page that the new count would leave out. What the library refuses anyway is left to it.
+    fn check_staged(&self, page_count: u32) -> Result<(), Error> {
+        let store = self.engine.store();
+        let beyond = |page: &u32| *page >= page_count && page_count != 0 && self.engine.is_writable();
+        let staged = store.staged.pages.iter().take(store.staged.count).map(|page| u32::from(*page));
+        match staged.filter(beyond).min() {
+            Some(page) => Err(Error::StagedBeyond { page, page_count }),
+            None => Ok(()),
+        }
+    }
+
+    /// Stops the store if the file was removed, replaced or given another length behind its back.
+    fn check_intact(&mut self, area: Area) -> Result<(), Error> {
+        let intact = self.disk.is_intact(area);
+        self.stopped |= !matches!(intact, Ok(true));
+        match intact {
+            Ok(true) => Ok(()),
+            Ok(false) => Err(Error::Replaced {
+                file: self.disk.name(area),
+            }),
+            Err(source) => Err(failed(&self.disk, area, source)),
+        }
+    }
+
+    /// Writes the log's pages to the main file and empties the log, document 01's fold: the number of pages written. The log's batches,
+    /// committed or not, are gone then.
     pub fn checkpoint(&mut self) -> Result<usize, Error> {
         self.running()?;
+        if self.engine.is_writable() {
+            self.check_intact(Area::Log)?;
+            self.check_intact(Area::Main)?;
+        }
         let salt = (self.salts)();
         match self.engine.begin_checkpoint(salt)? {
             true => self.run_steps(),
@@ -289,6 +371,36 @@ impl<D: Disk> Store<D> {
     pub fn frame_count(&self) -> Result<usize, Error> {
         self.running()?;
         Ok(self.engine.store().wal.frame_count)
+    }
+
+    /// How many frames can still be added before a commit is followed by a checkpoint, with which the log's batches are gone. A batch
+    /// is one frame; a commit adds one for each page that differs, and one for itself.
+    pub fn frames_before_checkpoint(&self) -> Result<usize, Error> {
+        self.running()?;
+        Ok(self.frames_left())
+    }
+
+    fn frames_left(&self) -> usize {
+        (CHECKPOINT_FRAMES - 1).saturating_sub(self.engine.store().wal.frame_count)
+    }
+
+    /// How many batches the log has, committed or waiting for a commit. They are counted in the log.
+    pub fn batch_count(&self) -> Result<usize, Error> {
+        let log = self.log()?;
+        Ok(log.map_or(0, |log| log.frames().filter(|frame| frame.batch().is_some()).count()))
+    }
+
+    /// Copies both files as they lie to a new store.
+    pub fn copy_to(&self, path: impl AsRef<Path>) -> Result<(), Error> {
+        self.running()?;
+        let mut files = Files::fresh(path.as_ref())?;
+        match self.engine.has_log() {
+            true => make_files(&mut files, self.engine.main_file(), self.engine.log_file()),
+            false => {
+                make_file(&mut files, Area::Main, self.engine.main_file())?;
+                publish(&mut files, Area::Main)
+            }
+        }
     }
 
     /// The main file's bytes.

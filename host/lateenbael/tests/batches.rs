@@ -52,15 +52,15 @@ fn a_nan_keeps_its_bits() {
 #[test]
 fn refused_additions_leave_the_batch() {
     let mut batch = BatchBuilder::new(1);
-    let empty = batch.body().to_vec();
+    let empty = *batch.body();
     assert_eq!(batch.add_column("early", Value::Null), Err(Refusal::NoRecord));
     assert_eq!(batch.add_tombstone(&"t".repeat(4096), 1), Err(Refusal::Fit));
-    assert_eq!(batch.body(), empty);
+    assert_eq!(batch.body(), &empty);
     batch.begin_present("t", 1).unwrap();
-    let before = batch.body().to_vec();
+    let before = *batch.body();
     assert_eq!(batch.add_column("torn", Value::Vector(Vector(&[1, 2, 3]))), Err(Refusal::Truncated));
     assert_eq!(batch.add_column("long", Value::Text(&"x".repeat(4096))), Err(Refusal::Fit));
-    assert_eq!(batch.body(), before);
+    assert_eq!(batch.body(), &before);
     batch.add_column("fits", Value::Null).unwrap();
     batch.add_tombstone("t", 2).unwrap();
     assert_eq!(batch.add_column("late", Value::Null), Err(Refusal::NoRecord));

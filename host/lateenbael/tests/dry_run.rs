@@ -1,7 +1,7 @@
 //! A dry run answers as the files would, and leaves them.
 mod common;
 use common::*;
-use lateenbael::{Disk, DryRun, Files, Mode, Salts, Store};
+use lateenbael::{Disk, DryRun, Mode, Salts, Store};
 
 /// The same calls on any disk.
 fn some_calls<D: Disk>(disk: D, salts: Salts) -> (Contents, usize) {
@@ -18,8 +18,9 @@ fn a_dry_run_answers_and_writes_nothing() {
     let path = folder.store();
     seven_pages(&path);
     let before = bytes_of(&path);
-    let dry_run = some_calls(DryRun::of(&path).unwrap(), counting_salts(1));
+    let mut files = existing(&path);
+    let dry_run = some_calls(DryRun::over(&mut files), counting_salts(1));
     assert_eq!(bytes_of(&path), before);
-    assert_eq!(some_calls(Files::existing(&path, false).unwrap(), counting_salts(1)), dry_run);
+    assert_eq!(some_calls(files, counting_salts(1)), dry_run);
     assert_ne!(bytes_of(&path), before);
 }

@@ -13,11 +13,11 @@ fn a_page_is_committed_and_checkpointed() {
     engine.stage_page(2, &page(9)).unwrap();
     header.page_count = 3;
     assert_eq!(engine.commit(header, 1), Ok(1));
-    assert_eq!(engine.read_page(2).unwrap().unwrap(), page(9));
+    assert_eq!(engine.read_page(2).unwrap(), Some(&page(9)));
     assert_eq!(engine.log_file().len(), 32 + 2 * FRAME);
     assert_eq!(engine.checkpoint(9), Ok(1));
     assert_eq!(engine.log_file().len(), 32);
-    assert_eq!(engine.read_page(2).unwrap().unwrap(), page(9));
+    assert_eq!(engine.read_page(2).unwrap(), Some(&page(9)));
     assert_eq!(&engine.main_file()[8192..], page(9));
 }
 

@@ -1,8 +1,9 @@
 //! The disk fails at any of its calls: the store stops, and the files opened anew show the state before or after, never a mix.
 mod common;
 use common::*;
-use lateenbael::{DbHeader, Error, Files, Mode, Refusal, Store, wal_path_for};
+use lateenbael::{DbHeader, Error, Files, Mode, Store, wal_path_for};
 use std::path::Path;
+use std::time::Duration;
 
 type Operation = fn(&mut Store<Failing>) -> Result<(), Error>;
 
@@ -83,10 +84,11 @@ fn fails_everywhere(frames: usize, operation: Operation, between: fn(&State, &St
     prepared(&path, frames);
     let files = bytes_of(&path);
     let before = reopened(&path);
-    let opening_calls = 2;
+    // Both files flushed; the log's length, and a flush.
+    let opening_calls = 4;
     let run = |fails_at: usize, stored: usize| {
         put_back(&path, &files);
-        let disk = Failing::new(Files::existing(&path, false).unwrap(), opening_calls + fails_at, stored);
+        let disk = Failing::new(existing(&path), opening_calls + fails_at, stored);
         let mut store = Store::open_on(disk, Mode::ReadWrite, counting_salts(1000)).unwrap();
         let answer = operation(&mut store);
         (answer, store)
@@ -102,7 +104,7 @@ fn fails_everywhere(frames: usize, operation: Operation, between: fn(&State, &St
             if answer.is_ok() {
                 return fails_at;
             }
-            assert!(matches!(answer, Err(Error::Io(_))));
+            assert!(matches!(answer, Err(Error::Io { .. })));
             stays_stopped(&mut store);
             let left = bytes_of(&path);
             drop(store);
@@ -154,25 +156,43 @@ fn in_a_creation() {
     let folder = Folder::new();
     let path = folder.store();
     for fails_at in 0.. {
-        let disk = Failing::new(Files::overwriting(&path).unwrap(), fails_at, PAGE / 2);
+        let disk = Failing::new(Files::fresh(&path).unwrap(), fails_at, PAGE / 2);
         let answer = Store::create_on(disk, counting_salts(1));
         if answer.is_ok() {
-            assert_eq!(fails_at, 9);
+            // Each file made, written and synced; each published.
+            assert_eq!(fails_at, 8);
             break;
         }
-        assert!(matches!(answer, Err(Error::Io(_))));
-        match Store::open(&path, Mode::ReadOnly) {
-            Ok(store) => assert_eq!((fails_at, store.header().unwrap().page_count), (8, 2)),
-            refused => assert!(refusal(refused).is_some()),
-        }
+        assert!(matches!(answer, Err(Error::Io { .. })));
+        assert_eq!(std::fs::read_dir(&folder.0).unwrap().count(), 0);
     }
+    assert_eq!(open(&path, Mode::ReadWrite).header().unwrap().page_count, 2);
+}
+
+#[test]
+fn in_a_creation_over_a_store() {
+    let folder = Folder::new();
+    let path = folder.store();
+    prepared(&path, 0);
+    let before = bytes_of(&path);
+    // Both files made and synced, the log published: until then the old store is whole.
+    for fails_at in 0..7 {
+        let disk = Failing::new(Files::overwriting(&path, Duration::ZERO).unwrap(), fails_at, PAGE / 2);
+        assert!(matches!(Store::create_on(disk, counting_salts(1)), Err(Error::Io { .. })));
+        assert_eq!(bytes_of(&path), before);
+        assert_eq!(std::fs::read_dir(&folder.0).unwrap().count(), 2);
+    }
+    let disk = Failing::new(Files::overwriting(&path, Duration::ZERO).unwrap(), 7, 0);
+    assert!(Store::create_on(disk, counting_salts(1)).is_err());
+    assert_eq!(std::fs::read_dir(&folder.0).unwrap().count(), 0);
+    assert_eq!(Store::create(&path).unwrap().header().unwrap().page_count, 2);
 }
 
 /// An opening whose disk fails at a call; what a read-only opening finds then.
 fn fails_in_opening(path: &Path, fails_at: usize) -> Result<Contents, Error> {
-    let disk = Failing::new(Files::existing(path, false).unwrap(), fails_at, 0);
+    let disk = Failing::new(existing(path), fails_at, 0);
     let answer = Store::open_on(disk, Mode::ReadWrite, counting_salts(1));
-    assert!(matches!(answer, Err(Error::Io(_))));
+    assert!(matches!(answer, Err(Error::Io { .. })));
     drop(answer);
     Store::open(path, Mode::ReadOnly).map(|store| contents(&store))
 }
@@ -183,10 +203,10 @@ fn in_an_opening() {
     let path = folder.store();
     prepared(&path, 0);
     let before = contents(&open(&path, Mode::ReadOnly));
-    for fails_at in 0..2 {
+    for fails_at in 0..4 {
         assert_eq!(fails_in_opening(&path, fails_at).unwrap(), before);
     }
-    let disk = Failing::new(Files::existing(&path, false).unwrap(), 2, 0);
+    let disk = Failing::new(existing(&path), 4, 0);
     assert_eq!(contents(&Store::open_on(disk, Mode::ReadWrite, counting_salts(1)).unwrap()), before);
 }
 
@@ -197,15 +217,11 @@ fn in_an_opening_that_makes_the_log() {
     prepared(&path, 0);
     open(&path, Mode::ReadWrite).checkpoint().unwrap();
     let before = contents(&open(&path, Mode::ReadOnly));
-    for fails_at in 0..5 {
-        std::fs::remove_file(wal_path_for(&path)).unwrap();
-        match fails_at {
-            1 => assert_eq!(refusal(fails_in_opening(&path, fails_at)), Some(Refusal::Short)),
-            _ => assert_eq!(fails_in_opening(&path, fails_at).unwrap(), before),
-        }
-        if fails_at == 0 {
-            assert!(!wal_path_for(&path).exists());
-            open(&path, Mode::ReadWrite);
-        }
+    // The main file flushed; the log made, written, synced, published; its length, and a flush.
+    for fails_at in 0..7 {
+        let _ = std::fs::remove_file(wal_path_for(&path));
+        assert_eq!(fails_in_opening(&path, fails_at).unwrap(), before);
+        assert_eq!(wal_path_for(&path).exists(), fails_at > 4);
+        assert_eq!(std::fs::read_dir(&folder.0).unwrap().count(), 1 + usize::from(fails_at > 4));
     }
 }

@@ -1,16 +1,10 @@
 //! A store on two real files: creation, commits, checkpoints and openings.
 mod common;
 use common::*;
-use lateenbael::{Area, Disk, Error, Files, Mode, Refusal, Store, wal_path_for};
+use lateenbael::{Area, Disk, Error, Files, Mode, OpenOptions, Refusal, Store, wal_path_for};
 use std::fs;
-use std::io::ErrorKind;
-
-fn io_kind<T>(answer: Result<T, Error>) -> Option<ErrorKind> {
-    match answer {
-        Err(Error::Io(error)) => Some(error.kind()),
-        _ => None,
-    }
-}
+use std::path::Path;
+use std::time::{Duration, Instant};
 
 #[test]
 fn creation_writes_both_files() {
@@ -33,7 +27,7 @@ fn a_length_that_a_file_has_takes_no_call() {
     let folder = Folder::new();
     let path = folder.store();
     drop(Store::create(&path).unwrap());
-    let mut files = Files::existing(&path, false).unwrap();
+    let mut files = existing(&path);
     let mut length_after = |len: usize, stored: &[u8]| {
         files.write_at(Area::Main, len, stored).unwrap();
         // Emptied behind its back, the file shows whether a call is made.
@@ -54,7 +48,7 @@ fn creation_spares_what_is_there() {
     let path = folder.store();
     for there in [path.clone(), wal_path_for(&path)] {
         fs::write(&there, b"precious").unwrap();
-        assert_eq!(io_kind(Store::create(&path)), Some(ErrorKind::AlreadyExists));
+        assert!(matches!(Store::create(&path), Err(Error::AlreadyExists { file }) if file == there));
         assert_eq!(fs::read(&there).unwrap(), b"precious");
         assert_eq!(fs::read_dir(&folder.0).unwrap().count(), 1);
         fs::remove_file(&there).unwrap();
@@ -105,9 +99,11 @@ fn the_hundredth_frame_brings_a_checkpoint() {
         commit_pages(&mut store, 1, &[seed + 1]);
     }
     assert_eq!(store.frame_count().unwrap(), 98);
+    assert_eq!(store.frames_before_checkpoint().unwrap(), 1);
     let salt = store.wal_header().unwrap().salt;
     commit_pages(&mut store, 1, &[99]);
     assert_eq!(store.frame_count().unwrap(), 0);
+    assert_eq!(store.frames_before_checkpoint().unwrap(), 99);
     assert_ne!(store.wal_header().unwrap().salt, salt);
     drop(store);
     assert_eq!(bytes_of(&folder.store()).map(|bytes| bytes.unwrap().len()), [8192, 32]);
@@ -163,7 +159,19 @@ fn a_missing_log_is_made_but_not_read_only() {
         let mut store = open(&path, mode);
         commit_pages(&mut store, 1, &[6]);
         drop(store);
-        assert_eq!(open(&path, Mode::ReadOnly).read_page(1).unwrap(), Some(&page(6)[..]));
+        assert_eq!(open(&path, Mode::ReadOnly).read_page(1).unwrap(), Some(&page(6)));
+    }
+}
+
+/// Whether an opening that waits so long finds the store locked.
+fn is_locked(path: &Path, mode: Mode, wait: Duration) -> bool {
+    match OpenOptions::new().mode(mode).wait(wait).open(path) {
+        Err(error @ Error::Locked { .. }) => {
+            // This process holds the lock.
+            assert!(error.to_string().contains(&format!("process {}", std::process::id())), "{error}");
+            true
+        }
+        opened => opened.map(|_| false).unwrap(),
     }
 }
 
@@ -172,16 +180,33 @@ fn a_store_in_use_is_not_opened() {
     let folder = Folder::new();
     let path = folder.store();
     let store = Store::create(&path).unwrap();
-    assert_eq!(io_kind(Store::open(&path, Mode::ReadWrite)), Some(ErrorKind::WouldBlock));
-    assert_eq!(io_kind(Store::open(&path, Mode::ReadOnly)), Some(ErrorKind::WouldBlock));
-    assert_eq!(io_kind(Store::create_over(&path)), Some(ErrorKind::WouldBlock));
+    assert!(is_locked(&path, Mode::ReadWrite, Duration::ZERO));
+    assert!(is_locked(&path, Mode::ReadOnly, Duration::ZERO));
+    assert!(matches!(Files::overwriting(&path, Duration::ZERO), Err(Error::Locked { .. })));
     drop(store);
     let reader = open(&path, Mode::ReadOnly);
     open(&path, Mode::ReadOnly);
-    assert_eq!(io_kind(Store::open(&path, Mode::Plain)), Some(ErrorKind::WouldBlock));
+    assert!(is_locked(&path, Mode::Plain, Duration::ZERO));
     drop(reader);
     open(&path, Mode::Plain);
-    assert_eq!(io_kind(Store::open(folder.0.join("none"), Mode::Plain)), Some(ErrorKind::NotFound));
+    let none = folder.0.join("none");
+    assert!(matches!(Store::open(&none, Mode::Plain), Err(Error::NotFound { file }) if file == none));
+}
+
+#[test]
+fn a_lock_is_waited_for() {
+    let folder = Folder::new();
+    let path = folder.store();
+    let writer = Store::create(&path).unwrap();
+    let began = Instant::now();
+    assert!(is_locked(&path, Mode::ReadOnly, Duration::from_millis(60)));
+    assert!(began.elapsed() >= Duration::from_millis(60));
+    let closes = std::thread::spawn(move || {
+        std::thread::sleep(Duration::from_millis(30));
+        drop(writer);
+    });
+    open(&path, Mode::ReadWrite);
+    closes.join().unwrap();
 }
 
 /// A page of the main file's or the log's, and what an opening says to it.
@@ -223,7 +248,13 @@ fn refused_openings_report_which_and_write_nothing() {
         }
         put_back(&path, &bytes);
         for mode in [Mode::ReadWrite, Mode::Plain, Mode::ReadOnly] {
-            assert_eq!(refusal(Store::open(&path, mode)), Some(*why));
+            let opened = Store::open(&path, mode);
+            let is_log = log_len.is_some() || !log_edits.is_empty();
+            let about = if is_log { wal_path_for(&path) } else { path.clone() };
+            assert!(
+                matches!(&opened, Err(Error::RefusedFile { file, refusal }) if *file == about && refusal == why),
+                "{opened:?}"
+            );
             assert!(bytes_of(&path) == bytes);
         }
     }

@@ -5,7 +5,7 @@ use lateenbael::{Disk, Error, Files, Mode, PowerCut, Store, salts_of_the_clock};
 use std::path::Path;
 
 fn with_power_cut(path: &Path, mode: Mode) -> Store<PowerCut<Files>> {
-    let disk = PowerCut::new(Files::existing(path, false).unwrap());
+    let disk = PowerCut::new(existing(path));
     Store::open_on(disk, mode, salts_of_the_clock()).unwrap()
 }
 
@@ -15,7 +15,7 @@ fn commit_with_power_cut(path: &Path, bytes: u64) {
     store.disk_mut().arm(bytes);
     store.stage_page(5, &page(55)).unwrap();
     let header = store.header().unwrap();
-    assert!(matches!(store.commit(header), Err(Error::Io(_))));
+    assert!(matches!(store.commit(header), Err(Error::Io { .. })));
     assert!(matches!(store.header(), Err(Error::Stopped)));
 }
 
@@ -29,7 +29,7 @@ fn a_cut_commit_counts_only_with_its_commit_frame_whole() {
         commit_with_power_cut(&path, bytes);
         assert_eq!(bytes_of(&path)[1].as_ref().unwrap().len() as u64, 32 + bytes);
         let seed = if bytes < commit_frame_end { 5 } else { 55 };
-        assert_eq!(open(&path, Mode::ReadWrite).read_page(5).unwrap(), Some(&page(seed)[..]));
+        assert_eq!(open(&path, Mode::ReadWrite).read_page(5).unwrap(), Some(&page(seed)));
     }
 }
 
@@ -63,11 +63,11 @@ fn headers_and_lengths_are_cut_whole() {
         commit_pages(&mut open(&path, Mode::ReadWrite), 5, &[55]);
         let mut store = with_power_cut(&path, Mode::ReadWrite);
         store.disk_mut().arm(bytes);
-        assert!(matches!(store.checkpoint(), Err(Error::Io(_))));
+        assert!(matches!(store.checkpoint(), Err(Error::Io { .. })));
         let [main, log] = bytes_of(&path).map(Option::unwrap);
         assert_eq!((main.len(), log.len()), (7 * PAGE, log_len));
         drop(store);
-        assert_eq!(open(&path, Mode::ReadWrite).read_page(5).unwrap(), Some(&page(55)[..]));
+        assert_eq!(open(&path, Mode::ReadWrite).read_page(5).unwrap(), Some(&page(55)));
     }
 }
 
@@ -76,7 +76,7 @@ fn a_log_header_is_cut_whole() {
     let folder = Folder::new();
     let path = folder.store();
     seven_pages(&path);
-    let mut disk = PowerCut::new(Files::existing(&path, false).unwrap());
+    let mut disk = PowerCut::new(existing(&path));
     let before = bytes_of(&path);
     disk.arm(31);
     assert!(disk.write_at(lateenbael::Area::Log, 0, &[9; 32]).is_err());

@@ -6,7 +6,6 @@ use lateenbael::{BatchBuilder, Disk, Error, Mode, Refusal, Store};
 /// Every call that must be refused, each with its refusal.
 fn all_refused<D: Disk>(store: &mut Store<D>, header: lateenbael::DbHeader) {
     assert_eq!(refusal(store.stage_page(1024, &page(1))), Some(Refusal::Page));
-    assert_eq!(refusal(store.stage_page(1, &page(1)[1..])), Some(Refusal::Area));
     assert_eq!(refusal(store.append_mvcc_batch(&[0; 17])), Some(Refusal::Short));
     assert_eq!(refusal(store.append_mvcc_batch(&[0; 18])), Some(Refusal::Magic));
     assert_eq!(refusal(store.append_mvcc_batch(&batch(1).body()[..30])), Some(Refusal::Truncated));

@@ -13,7 +13,7 @@ pub const LISTING_SIZE: usize = 2048;
 pub const MVCC_FRAME_MARKER: u32 = 4294967295;
 
 #[repr(C)]
-#[derive(Clone, Copy, Debug, PartialEq, Eq)]
+#[derive(Clone, Copy, Debug, PartialEq, Eq, Hash)]
 pub struct DbHeader {
     pub page_count: u32,
     pub schema_root_page: u32,
@@ -21,8 +21,20 @@ pub struct DbHeader {
     pub freelist_head: u32,
 }
 
+/// A new store's header.
+impl Default for DbHeader {
+    fn default() -> Self {
+        DbHeader {
+            page_count: 2,
+            schema_root_page: 1,
+            format_version: 4,
+            freelist_head: 0,
+        }
+    }
+}
+
 #[repr(C)]
-#[derive(Clone, Copy, Debug, PartialEq, Eq)]
+#[derive(Clone, Copy, Debug, PartialEq, Eq, Hash)]
 pub struct WalHeader {
     pub version: u32,
     pub salt: u32,

@@ -1,11 +1,12 @@
 //! What the tests share: a folder that goes away, pages, a store's state, and a disk that fails.
 #![allow(dead_code)]
 use lateenbael::sys::PAGES;
-use lateenbael::{Area, BatchBuilder, DbHeader, Disk, Error, Files, Mode, Refusal, Salts, Store, Value, wal_path_for};
+use lateenbael::{Area, BatchBuilder, DbHeader, Disk, Error, Files, Medium, Mode, Refusal, Salts, Store, Value, wal_path_for};
 use std::fs;
 use std::io;
 use std::path::{Path, PathBuf};
 use std::sync::atomic::{AtomicU32, Ordering};
+use std::time::Duration;
 
 pub const PAGE: usize = 4096;
 pub const FRAME: usize = 4112;
@@ -117,6 +118,11 @@ pub fn open(path: &Path, mode: Mode) -> Store {
     Store::open(path, mode).unwrap()
 }
 
+/// A store's files, for writing.
+pub fn existing(path: &Path) -> Files {
+    Files::existing(path, false, Duration::ZERO).unwrap()
+}
+
 /// A disk whose call of a given number fails, and all behind it. If that one is a write of more than `stored` bytes, it has stored
 /// so many of them.
 pub struct Failing {
@@ -137,7 +143,7 @@ impl Failing {
         }
     }
 
-    /// Whether this call is done at all; an error if the disk had failed before.
+    /// Whether this call is done at all.
     fn works(&mut self) -> bool {
         self.calls += 1;
         self.calls <= self.fails_at
@@ -151,6 +157,14 @@ fn failed() -> io::Result<()> {
 impl Disk for Failing {
     fn read(&mut self, area: Area, buffer: &mut [u8]) -> io::Result<Option<usize>> {
         self.files.read(area, buffer)
+    }
+
+    fn read_medium(&mut self, area: Area, at: usize, buffer: &mut [u8]) -> io::Result<Medium> {
+        self.files.read_medium(area, at, buffer)
+    }
+
+    fn publish(&mut self, area: Area) -> io::Result<()> {
+        if self.works() { self.files.publish(area) } else { failed() }
     }
 
     fn create(&mut self, area: Area) -> io::Result<()> {

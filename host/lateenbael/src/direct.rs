@@ -1,0 +1,62 @@
+//! Reading a file past the system's cache.
+use crate::{MEDIUM_CHUNK, Medium};
+use std::fmt;
+use std::fs::{File, OpenOptions};
+use std::io;
+use std::os::unix::fs::{FileExt, MetadataExt, OpenOptionsExt};
+use std::path::Path;
+
+/// Reads and writes go past the page cache (Linux on x86-64, as the static library).
+const O_DIRECT: i32 = 0o40000;
+/// Such reads go to addresses and places that are multiples of this; no medium's blocks are longer.
+const ALIGNMENT: usize = 4096;
+
+/// A file opened a second time, for such reads.
+pub struct Direct {
+    file: File,
+    buffer: Vec<u8>,
+}
+
+impl fmt::Debug for Direct {
+    fn fmt(&self, f: &mut fmt::Formatter<'_>) -> fmt::Result {
+        f.debug_struct("Direct").field("file", &self.file).finish_non_exhaustive()
+    }
+}
+
+impl Direct {
+    /// None if the file system can't.
+    pub fn open(path: &Path, same: &File) -> io::Result<Option<Direct>> {
+        let file = match OpenOptions::new().read(true).custom_flags(O_DIRECT).open(path) {
+            Err(error) if is_unsupported(&error) => return Ok(None),
+            opened => opened?,
+        };
+        let (one, other) = (file.metadata()?, same.metadata()?);
+        if (one.dev(), one.ino()) != (other.dev(), other.ino()) {
+            return Err(io::Error::other("replaced while it was opened"));
+        }
+        let buffer = vec![0; MEDIUM_CHUNK + ALIGNMENT];
+        Ok(Some(Direct { file, buffer }))
+    }
+
+    /// Reads some bytes, at most a chunk.
+    pub fn read_at(&mut self, bytes: &mut [u8], at: u64) -> io::Result<Medium> {
+        let start = self.buffer.as_ptr().align_offset(ALIGNMENT);
+        let aligned = &mut self.buffer[start..][..MEDIUM_CHUNK];
+        let mut len = 0;
+        while len < bytes.len() {
+            match self.file.read_at(&mut aligned[len..], at + len as u64) {
+                Ok(0) => return Err(io::ErrorKind::UnexpectedEof.into()),
+                Ok(n) => len += n,
+                Err(error) if error.kind() == io::ErrorKind::Interrupted => {}
+                Err(error) if is_unsupported(&error) => return Ok(Medium::Unknown),
+                Err(error) => return Err(error),
+            }
+        }
+        bytes.copy_from_slice(&aligned[..bytes.len()]);
+        Ok(Medium::Read)
+    }
+}
+
+fn is_unsupported(error: &io::Error) -> bool {
+    matches!(error.kind(), io::ErrorKind::InvalidInput | io::ErrorKind::Unsupported)
+}

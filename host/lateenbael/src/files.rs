@@ -1,0 +1,348 @@
+//! A store's two real files.
+use crate::direct::Direct;
+use crate::lock::lock;
+use crate::{Area, Disk, Error, Medium};
+use std::ffi::OsString;
+use std::fs::{self, File, Metadata, OpenOptions};
+use std::io;
+use std::os::unix::fs::{FileExt, MetadataExt, OpenOptionsExt};
+use std::path::{Path, PathBuf};
+use std::time::Duration;
+
+/// `open` does not wait for the other end of a pipe (Linux on x86-64, as the static library).
+const O_NONBLOCK: i32 = 0o4000;
+/// `open` fails on a symbolic link.
+const O_NOFOLLOW: i32 = 0o400000;
+
+/// The log's path beside a main file: the same with `-wal` behind it, as the Rust names it.
+pub fn wal_path_for(main: &Path) -> PathBuf {
+    with_suffix(main, "-wal")
+}
+
+fn with_suffix(path: &Path, suffix: &str) -> PathBuf {
+    let mut name = OsString::from(path);
+    name.push(suffix);
+    PathBuf::from(name)
+}
+
+/// Two real files. The main file is locked while they are open, for writers alone or for readers together, as the Rust locks it.
+///
+/// A new file is made under its name with `-new` behind it, and gets its own when it is whole (`publish`): the log first, then the main
+/// file. So a creation that was cut has left no main file, and the one under the other name tells that it was cut.
+#[derive(Debug)]
+pub struct Files {
+    main: OneFile,
+    log: OneFile,
+    /// The main file that a creation takes the place of, locked until then.
+    replaced: Option<File>,
+    /// Whether the log that stands there is the creation's to take away, should it fail.
+    owns_log: bool,
+    direct: Option<(Area, Direct)>,
+}
+
+#[derive(Debug)]
+struct OneFile {
+    path: PathBuf,
+    file: Option<File>,
+    /// How long it is, where that is known: a checkpoint that leaves the main file's length as it was then makes no system call for it.
+    len: Option<usize>,
+    stage: Stage,
+}
+
+/// Under which name a file stands.
+#[derive(Clone, Copy, Debug, PartialEq)]
+enum Stage {
+    /// Under its other name.
+    Begun,
+    /// Under its own name.
+    Named,
+}
+
+impl OneFile {
+    fn new(path: PathBuf, file: Option<File>, stage: Stage) -> OneFile {
+        OneFile {
+            path,
+            file,
+            len: None,
+            stage,
+        }
+    }
+
+    fn open_file(&self) -> io::Result<&File> {
+        self.file.as_ref().ok_or_else(|| io::Error::from(io::ErrorKind::NotFound))
+    }
+}
+
+/// A creation that fails leaves no file behind.
+impl Drop for Files {
+    fn drop(&mut self) {
+        let is_store = self.main.stage == Stage::Named;
+        if self.owns_log && !is_store {
+            let _ = fs::remove_file(&self.log.path);
+        }
+        for one in [&self.log, &self.main] {
+            if one.stage == Stage::Begun {
+                let _ = fs::remove_file(new_path(&one.path));
+            }
+        }
+    }
+}
+
+fn new_path(path: &Path) -> PathBuf {
+    with_suffix(path, "-new")
+}
+
+impl Files {
+    /// The files of a store that is there; the log may be missing. The lock is waited for so long.
+    pub fn existing(path: &Path, read_only: bool, wait: Duration) -> Result<Files, Error> {
+        let path = resolved(path)?;
+        let main = open_locked(&path, read_only, wait)?;
+        let log_path = wal_path_for(&path);
+        let log = match open_regular(&log_path, read_only) {
+            Err(Error::NotFound { .. }) => None,
+            found => Some(found?),
+        };
+        if !read_only {
+            // A log whose name is in the cache alone would be gone after a power cut, and all that is committed to it.
+            sync_folder(&path).map_err(|error| Error::of_file(folder_of(&path), error))?;
+        }
+        Ok(Files {
+            main: OneFile::new(path, Some(main), Stage::Named),
+            log: OneFile::new(log_path, log, Stage::Named),
+            replaced: None,
+            owns_log: false,
+            direct: None,
+        })
+    }
+
+    /// Two new files; if either is there already, it is left alone. What a creation that was cut has left is written over.
+    pub fn fresh(path: &Path) -> Result<Files, Error> {
+        let was_cut = is_there(&new_path(path))?;
+        for file in [path.to_path_buf(), wal_path_for(path)] {
+            if is_there(&file)? && (file == path || !was_cut) {
+                return Err(Error::AlreadyExists { file });
+            }
+        }
+        let files = Files::begin(path, None)?;
+        match is_there(path)? {
+            true => Err(Error::AlreadyExists { file: path.to_path_buf() }),
+            false => Ok(files),
+        }
+    }
+
+    /// Two new files in the place of whatever stands there, which stays until the new ones are whole. The lock of a main file that is
+    /// there is waited for so long.
+    pub fn overwriting(path: &Path, wait: Duration) -> Result<Files, Error> {
+        if !is_there(path)? {
+            return Files::begin(path, None);
+        }
+        let path = resolved(path)?;
+        let replaced = open_locked(&path, false, wait)?;
+        Files::begin(&path, Some(replaced))
+    }
+
+    /// The main file begun, and locked.
+    fn begin(path: &Path, replaced: Option<File>) -> Result<Files, Error> {
+        let new_path = new_path(path);
+        let main = open_new(path).map_err(|error| Error::of_file(&new_path, error))?;
+        lock(&main, &new_path, false, Duration::ZERO)?;
+        if !names(&new_path, &main)? {
+            // Another creation has just published it.
+            return Err(Error::AlreadyExists { file: path.to_path_buf() });
+        }
+        Ok(Files {
+            main: OneFile::new(path.to_path_buf(), Some(main), Stage::Begun),
+            log: OneFile::new(wal_path_for(path), None, Stage::Named),
+            replaced,
+            owns_log: false,
+            direct: None,
+        })
+    }
+
+    fn of(&self, area: Area) -> &OneFile {
+        match area {
+            Area::Main => &self.main,
+            Area::Log => &self.log,
+        }
+    }
+
+    fn of_mut(&mut self, area: Area) -> &mut OneFile {
+        match area {
+            Area::Main => &mut self.main,
+            Area::Log => &mut self.log,
+        }
+    }
+
+    /// Takes away the main file that a creation replaces, before its log: an old main file is never seen with a new log, nor the
+    /// other way round.
+    fn remove_replaced(&mut self) -> io::Result<()> {
+        if self.replaced.is_none() || self.owns_log {
+            return Ok(());
+        }
+        fs::remove_file(&self.main.path)?;
+        self.owns_log = true;
+        sync_folder(&self.main.path)
+    }
+}
+
+impl Disk for Files {
+    fn name(&self, area: Area) -> PathBuf {
+        self.of(area).path.clone()
+    }
+
+    fn read(&mut self, area: Area, buffer: &mut [u8]) -> io::Result<Option<usize>> {
+        let one = self.of_mut(area);
+        let Some(file) = &one.file else { return Ok(None) };
+        let mut len = 0;
+        while len < buffer.len() {
+            match file.read_at(&mut buffer[len..], len as u64) {
+                Ok(0) => {
+                    one.len = Some(len);
+                    return Ok(Some(len));
+                }
+                Ok(n) => len += n,
+                Err(error) if error.kind() == io::ErrorKind::Interrupted => {}
+                Err(error) => return Err(error),
+            }
+        }
+        let behind = file.metadata()?.len() > len as u64;
+        one.len = (!behind).then_some(len);
+        Ok(Some(len + usize::from(behind)))
+    }
+
+    fn read_medium(&mut self, area: Area, at: usize, buffer: &mut [u8]) -> io::Result<Medium> {
+        if self.direct.as_ref().is_none_or(|(of, _)| *of != area) {
+            let one = self.of(area);
+            self.direct = Direct::open(&one.path, one.open_file()?)?.map(|direct| (area, direct));
+        }
+        match &mut self.direct {
+            Some((_, direct)) => direct.read_at(buffer, at as u64),
+            None => Ok(Medium::Unknown),
+        }
+    }
+
+    fn create(&mut self, area: Area) -> io::Result<()> {
+        if self.of(area).file.is_none() {
+            let file = open_new(&self.of(area).path)?;
+            let one = self.of_mut(area);
+            (one.file, one.stage) = (Some(file), Stage::Begun);
+        }
+        self.of_mut(area).len = None;
+        self.set_len(area, 0)
+    }
+
+    fn publish(&mut self, area: Area) -> io::Result<()> {
+        self.remove_replaced()?;
+        let one = self.of_mut(area);
+        if one.stage == Stage::Named {
+            return Ok(());
+        }
+        fs::rename(new_path(&one.path), &one.path)?;
+        one.stage = Stage::Named;
+        self.owns_log = true;
+        sync_folder(&self.main.path)
+    }
+
+    fn write_at(&mut self, area: Area, at: usize, bytes: &[u8]) -> io::Result<()> {
+        let one = self.of_mut(area);
+        let known = one.len.take();
+        one.open_file()?.write_all_at(bytes, at as u64)?;
+        let end = if bytes.is_empty() { 0 } else { at + bytes.len() };
+        one.len = known.map(|len| len.max(end));
+        Ok(())
+    }
+
+    fn set_len(&mut self, area: Area, len: usize) -> io::Result<()> {
+        let one = self.of_mut(area);
+        if one.len.take() != Some(len) {
+            one.open_file()?.set_len(len as u64)?;
+        }
+        one.len = Some(len);
+        Ok(())
+    }
+
+    fn sync(&mut self, area: Area) -> io::Result<()> {
+        self.of(area).open_file()?.sync_all()
+    }
+
+    fn is_intact(&mut self, area: Area) -> io::Result<bool> {
+        let one = self.of(area);
+        let now = one.open_file()?.metadata()?;
+        Ok(now.nlink() > 0 && one.len.is_none_or(|len| len as u64 == now.len()))
+    }
+}
+
+fn is_there(path: &Path) -> Result<bool, Error> {
+    match fs::symlink_metadata(path) {
+        Ok(_) => Ok(true),
+        Err(error) if error.kind() == io::ErrorKind::NotFound => Ok(false),
+        Err(error) => Err(Error::of_file(path, error)),
+    }
+}
+
+/// Where a symbolic link leads, so that a store has one log whatever name it is opened by.
+fn resolved(path: &Path) -> Result<PathBuf, Error> {
+    let found = |error| Error::of_file(path, error);
+    match fs::symlink_metadata(path).map_err(found)?.is_symlink() {
+        true => fs::canonicalize(path).map_err(found),
+        false => Ok(path.to_path_buf()),
+    }
+}
+
+fn is_same_file(one: &Metadata, other: &Metadata) -> bool {
+    (one.dev(), one.ino()) == (other.dev(), other.ino())
+}
+
+/// Whether the path is that file's name.
+fn names(path: &Path, file: &File) -> Result<bool, Error> {
+    let found = |error| Error::of_file(path, error);
+    match fs::symlink_metadata(path) {
+        Ok(named) => Ok(is_same_file(&named, &file.metadata().map_err(found)?)),
+        Err(error) if error.kind() == io::ErrorKind::NotFound => Ok(false),
+        Err(error) => Err(found(error)),
+    }
+}
+
+/// Opens a main file and locks it. While the lock was waited for, a creation may have put another file there.
+fn open_locked(path: &Path, read_only: bool, wait: Duration) -> Result<File, Error> {
+    loop {
+        let file = open_regular(path, read_only)?;
+        lock(&file, path, read_only, wait)?;
+        if names(path, &file)? {
+            return Ok(file);
+        }
+    }
+}
+
+/// Opens a regular file with one name.
+fn open_regular(path: &Path, read_only: bool) -> Result<File, Error> {
+    let found = |error| Error::of_file(path, error);
+    let mut options = OpenOptions::new();
+    options.read(true).write(!read_only).custom_flags(O_NONBLOCK | O_NOFOLLOW);
+    let file = options.open(path).map_err(found)?;
+    let (file_is, path) = (file.metadata().map_err(found)?, path.to_path_buf());
+    match file_is.nlink() {
+        _ if !file_is.is_file() => Err(Error::NotAFile { file: path }),
+        links @ 2.. => Err(Error::Linked { file: path, links }),
+        _ => Ok(file),
+    }
+}
+
+/// Opens a file's other name for its creation, whatever a cut one has left there.
+fn open_new(path: &Path) -> io::Result<File> {
+    let mut options = OpenOptions::new();
+    options.read(true).write(true).create(true).custom_flags(O_NONBLOCK | O_NOFOLLOW);
+    options.open(new_path(path))
+}
+
+fn folder_of(file: &Path) -> &Path {
+    match file.parent() {
+        Some(parent) if !parent.as_os_str().is_empty() => parent,
+        _ => Path::new("."),
+    }
+}
+
+/// A new name outlasts a power cut only when its folder was synced too.
+fn sync_folder(file: &Path) -> io::Result<()> {
+    File::open(folder_of(file))?.sync_all()
+}

@@ -1,0 +1,72 @@
+//! A disk's files made, and read for an opening so that what it goes by is on the medium.
+use crate::{Area, Disk, Error, MEDIUM_CHUNK, Medium};
+use std::io;
+
+/// An error of the disk's, about one of its files.
+pub fn failed<D: Disk>(disk: &D, area: Area, source: io::Error) -> Error {
+    Error::of_file(disk.name(area), source)
+}
+
+pub fn sync<D: Disk>(disk: &mut D, area: Area) -> Result<(), Error> {
+    disk.sync(area).map_err(|source| failed(disk, area, source))
+}
+
+/// Makes both files of a store and lets them appear, the log first: a main file is a store, and has its log.
+pub fn make_files<D: Disk>(disk: &mut D, main: &[u8], log: &[u8]) -> Result<(), Error> {
+    make_file(disk, Area::Main, main)?;
+    make_file(disk, Area::Log, log)?;
+    publish(disk, Area::Log)?;
+    publish(disk, Area::Main)
+}
+
+/// Makes a file that has still to be published.
+pub fn make_file<D: Disk>(disk: &mut D, area: Area, bytes: &[u8]) -> Result<(), Error> {
+    let made = disk.create(area).and_then(|()| disk.write_at(area, 0, bytes));
+    made.map_err(|source| failed(disk, area, source))?;
+    sync(disk, area)
+}
+
+pub fn publish<D: Disk>(disk: &mut D, area: Area) -> Result<(), Error> {
+    disk.publish(area).map_err(|source| failed(disk, area, source))
+}
+
+/// Reads a file into its area, as the system shows it: its length, as [`Disk::read`] tells it.
+pub fn read_cached<D: Disk>(disk: &mut D, area: Area, bytes: &mut [u8]) -> Result<Option<usize>, Error> {
+    disk.read(area, bytes).map_err(|source| failed(disk, area, source))
+}
+
+/// Reads a file into its area as it lies on the medium. After a flush that failed, in this program or in one before it, the system's
+/// cache may hold bytes that never reached the medium and that no later flush takes there. A commit behind such bytes would be
+/// gone with them. So the file is flushed and read past the cache; where the cache has other bytes, or the medium can't be asked,
+/// what was read is written again and flushed, so that later writes join it.
+pub fn read_settled<D: Disk>(disk: &mut D, area: Area, bytes: &mut [u8]) -> Result<Option<usize>, Error> {
+    let len = read_cached(disk, area, bytes)?;
+    match len {
+        // A file that is too long is refused.
+        Some(len) if len <= bytes.len() => {
+            sync(disk, area)?;
+            settle(disk, area, &mut bytes[..len]).map_err(|source| failed(disk, area, source))?;
+        }
+        _ => {}
+    }
+    Ok(len)
+}
+
+fn settle<D: Disk>(disk: &mut D, area: Area, bytes: &mut [u8]) -> io::Result<()> {
+    let mut medium = vec![0; MEDIUM_CHUNK.min(bytes.len())];
+    let mut is_settled = true;
+    for (n, cached) in bytes.chunks_mut(MEDIUM_CHUNK).enumerate() {
+        let (at, medium) = (n * MEDIUM_CHUNK, &mut medium[..cached.len()]);
+        match disk.read_medium(area, at, medium)? {
+            Medium::Read if *medium == *cached => continue,
+            Medium::Read => cached.copy_from_slice(medium),
+            Medium::Unknown => {}
+        }
+        disk.write_at(area, at, cached)?;
+        is_settled = false;
+    }
+    match is_settled {
+        true => Ok(()),
+        false => disk.sync(area),
+    }
+}
