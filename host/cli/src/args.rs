@@ -1,9 +1,11 @@
 //! The words of a command line: what stands alone, flags, and options with a value. Words are bytes, as file names are.
 use crate::failure::Failure;
+use lateenbael::DEFAULT_WAIT;
 use std::ffi::{OsStr, OsString};
 use std::os::unix::ffi::OsStrExt;
 use std::slice;
 use std::str::FromStr;
+use std::time::Duration;
 
 /// Which options a command knows, and the line that says how it is called.
 #[derive(Clone, Copy)]
@@ -69,6 +71,16 @@ impl Args {
         value
             .map(|value| number(value).map_err(|f| f.about(format!("--{option}"))))
             .transpose()
+    }
+
+    /// How long a lock is waited for.
+    pub fn wait(&self) -> Result<Duration, Failure> {
+        let Some(value) = self.all("wait").last() else {
+            return Ok(DEFAULT_WAIT);
+        };
+        let seconds: Option<f64> = value.to_str().and_then(|value| value.parse().ok());
+        let wait = seconds.and_then(|seconds| Duration::try_from_secs_f64(seconds).ok());
+        wait.ok_or_else(|| Failure::Usage(format!("--wait: \"{}\" is no number of seconds", value.display())))
     }
 }
 

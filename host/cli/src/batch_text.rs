@@ -72,7 +72,8 @@ pub fn parse(name: &str, text: &str) -> Result<Vec<BatchBuilder>, Failure> {
     Ok(batches)
 }
 
-fn add_line(batches: &mut Vec<BatchBuilder>, line: &str) -> Result<(), Failure> {
+/// One line: a batch begun, or something added to the last one.
+pub fn add_line(batches: &mut Vec<BatchBuilder>, line: &str) -> Result<(), Failure> {
     let tokens = tokens(line)?;
     let Some((Token::Word(word), rest)) = tokens.split_first() else {
         return if tokens.is_empty() {

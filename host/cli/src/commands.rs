@@ -3,7 +3,7 @@ use crate::args::{Args, Known};
 use crate::failure::Failure;
 use crate::help;
 use crate::output::Answer;
-use crate::{showing, writing};
+use crate::{backup, showing, writing};
 use std::ffi::OsString;
 
 struct Command {
@@ -20,21 +20,21 @@ const COMMANDS: &[Command] = &[
     Command {
         names: &["create"],
         flags: &["over", "json"],
-        valued: &[],
+        valued: &["wait"],
         help: help::CREATE,
         run: writing::create,
     },
     Command {
         names: &["info"],
         flags: &["json"],
-        valued: &[],
+        valued: &["wait"],
         help: help::INFO,
         run: showing::info,
     },
     Command {
         names: &["check"],
         flags: &["json"],
-        valued: &[],
+        valued: &["wait"],
         help: help::CHECK,
         run: showing::check,
     },
@@ -48,44 +48,65 @@ const COMMANDS: &[Command] = &[
     Command {
         names: &["batches"],
         flags: &["json"],
-        valued: &[],
+        valued: &["wait"],
         help: help::BATCHES,
         run: showing::batches,
     },
     Command {
         names: &["read"],
         flags: &[],
-        valued: &[],
+        valued: &["wait"],
         help: help::READ,
         run: showing::read,
     },
     Command {
         names: &["page"],
         flags: &[],
-        valued: &[],
+        valued: &["wait"],
         help: help::PAGE,
         run: showing::page,
     },
     Command {
         names: &["commit"],
-        flags: &["plain", "json"],
-        valued: &["clock", "cut-after-bytes", "count", "root", "version", "freelist", "batch"],
+        flags: &["plain", "fold", "json"],
+        valued: &["wait", "clock", "cut-after-bytes", "count", "root", "version", "freelist", "batch"],
         help: help::COMMIT,
         run: writing::commit,
     },
     Command {
         names: &["append"],
-        flags: &["plain", "json"],
-        valued: &["clock", "cut-after-bytes"],
+        flags: &["plain", "fold", "json"],
+        valued: &["wait", "clock", "cut-after-bytes"],
         help: help::APPEND,
         run: writing::append,
     },
     Command {
         names: &["checkpoint", "fold"],
         flags: &["plain", "json"],
-        valued: &["clock", "cut-after-bytes"],
+        valued: &["wait", "clock", "cut-after-bytes"],
         help: help::CHECKPOINT,
         run: writing::checkpoint,
+    },
+    Command {
+        names: &["copy"],
+        flags: &["json"],
+        valued: &["wait"],
+        help: help::COPY,
+        run: backup::copy,
+    },
+    Command {
+        names: &["dump"],
+        flags: &[],
+        valued: &["wait"],
+        help: help::DUMP,
+        run: backup::dump,
+    },
+    Command {
+        names: &["restore"],
+        flags: &["json"],
+        valued: &[],
+        help: help::RESTORE,
+        run: backup::restore,
     },
 ];
 
@@ -143,7 +164,7 @@ mod tests {
         for command in COMMANDS {
             let name = command.names[0];
             assert!(help::HELP.contains(&format!("\n  lateenbael {name} ")), "{name}");
-            assert!(command.help.starts_with(&format!("lateenbael {name} STORE")), "{name}");
+            assert!(command.help.starts_with(&format!("lateenbael {name} ")), "{name}");
         }
     }
 

@@ -18,6 +18,14 @@ impl Failure {
         Failure::Refused(format!("{}: {error}", path.display()))
     }
 
+    /// A call on a store failed. A bare refusal does not name the store.
+    pub fn of_store(path: &Path, error: Error) -> Failure {
+        match error {
+            Error::Refused(_) => Failure::from(error).about(path.display()),
+            named => named.into(),
+        }
+    }
+
     /// The same failure, with what it is about in front.
     pub fn about(self, what: impl fmt::Display) -> Failure {
         match self {

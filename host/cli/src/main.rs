@@ -1,8 +1,10 @@
 //! The program `lateenbael` for the service desk: makes, shows, writes and checks a store on two files.
 mod args;
+mod backup;
 mod batch_json;
 mod batch_text;
 mod commands;
+mod dump_text;
 mod failure;
 mod help;
 mod hex_view;

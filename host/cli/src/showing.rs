@@ -7,22 +7,20 @@ use crate::json::Json;
 use crate::output::{Answer, write_new_file};
 use crate::{batch_json, batch_text};
 use lateenbael::sys::LOG_AREA;
-use lateenbael::{Error, Frame, Log, Mode, Store, wal_path_for};
+use lateenbael::{Frame, Log, Mode, OpenOptions, Store, wal_path_for};
 use std::ffi::OsStr;
 use std::fmt::Write;
 use std::fs;
 use std::path::{Path, PathBuf};
 
-fn open_read_only(path: &OsStr) -> Result<Store, Failure> {
-    Store::open(path, Mode::ReadOnly).map_err(|error| match error {
-        Error::Io(error) => Failure::file(Path::new(path), error),
-        other => other.into(),
-    })
+/// Opens a store to look at it.
+pub fn open_read_only(path: &OsStr, args: &Args) -> Result<Store, Failure> {
+    Ok(OpenOptions::new().mode(Mode::ReadOnly).wait(args.wait()?).open(path)?)
 }
 
 pub fn info(args: &Args) -> Result<Answer, Failure> {
     let [path] = args.words()?;
-    let store = open_read_only(path)?;
+    let store = open_read_only(path, args)?;
     Ok(Answer::shown(match args.has("json") {
         true => info_json(&store)?.line(),
         false => info_text(&store)?,
@@ -48,6 +46,7 @@ fn info_text(store: &Store) -> Result<String, Failure> {
             line("log sequence", log.header().checkpoint_seq.to_string());
             line("frames", log.frame_count().to_string());
             line("commit point", log.commit_point().to_string());
+            line("until a fold", store.frames_before_checkpoint()?.to_string());
         }
     }
     Ok(lines)
@@ -70,12 +69,13 @@ fn info_json(store: &Store) -> Result<Json, Failure> {
         ("checkpoint_seq", log.map(|log| log.header().checkpoint_seq).into()),
         ("frame_count", log.map(Log::frame_count).into()),
         ("commit_point", log.map(Log::commit_point).into()),
+        ("frames_before_checkpoint", store.frames_before_checkpoint()?.into()),
     ]))
 }
 
 pub fn check(args: &Args) -> Result<Answer, Failure> {
     let [path] = args.words()?;
-    let store = open_read_only(path)?;
+    let store = open_read_only(path, args)?;
     let missing = missing_pages(&store)?;
     let shown = match args.has("json") {
         true => check_json(&store, &missing)?.line(),
@@ -196,7 +196,7 @@ fn frame_json(frame: Frame) -> Json {
 
 pub fn batches(args: &Args) -> Result<Answer, Failure> {
     let [path] = args.words()?;
-    let store = open_read_only(path)?;
+    let store = open_read_only(path, args)?;
     let batches = store.recovered_mvcc_commits()?;
     Ok(Answer::shown(match args.has("json") {
         true => Json::object([("batches", Json::list(batches.map(|batch| batch_json::of(&batch))))]).line(),
@@ -206,7 +206,7 @@ pub fn batches(args: &Args) -> Result<Answer, Failure> {
 
 pub fn read(args: &Args) -> Result<Answer, Failure> {
     let [path, page, out] = args.words()?;
-    let bytes = page_of(path, page)?;
+    let bytes = page_of(path, page, args)?;
     if out == "-" {
         return Ok(Answer::shown(bytes));
     }
@@ -216,12 +216,12 @@ pub fn read(args: &Args) -> Result<Answer, Failure> {
 
 pub fn page(args: &Args) -> Result<Answer, Failure> {
     let [path, page] = args.words()?;
-    Ok(Answer::shown(hex_view(&page_of(path, page)?)))
+    Ok(Answer::shown(hex_view(&page_of(path, page, args)?)))
 }
 
-fn page_of(path: &OsStr, page: &OsStr) -> Result<Vec<u8>, Failure> {
+fn page_of(path: &OsStr, page: &OsStr, args: &Args) -> Result<Vec<u8>, Failure> {
     let page = number(page).map_err(|f| f.about("PAGE"))?;
-    let store = open_read_only(path)?;
+    let store = open_read_only(path, args)?;
     match store.read_page(page)? {
         Some(bytes) => Ok(bytes.to_vec()),
         None => Err(Failure::Refused(format!("{}: page {page} is nowhere", path.display()))),

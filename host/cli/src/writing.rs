@@ -7,17 +7,18 @@ use crate::output::Answer;
 use lateenbael::sys::PAGE_SIZE;
 use lateenbael::{BatchBuilder, DbHeader, Disk, DryRun, Error, Files, Mode, PowerCut, Refusal, Store, salts_of_the_clock};
 use std::ffi::OsStr;
-use std::path::Path;
+use std::path::{Path, PathBuf};
+use std::time::Duration;
 
 pub fn create(args: &Args) -> Result<Answer, Failure> {
     let [path] = args.words()?;
     let file = Path::new(path);
     let files = if args.has("over") {
-        Files::overwriting(file)
+        Files::overwriting(file, args.wait()?)?
     } else {
-        Files::fresh(file)
+        Files::fresh(file)?
     };
-    let store = Store::create_on(files.map_err(|e| Failure::file(file, e))?, salts_of_the_clock())?;
+    let store = Store::create_on(files, salts_of_the_clock())?;
     let count = store.header()?.page_count;
     let object = Json::object([("command", "create".into()), ("page_count", count.into())]);
     Ok(Answer::report_as(args.has("json"), object, format!("created; pages: {count}\n")))
@@ -30,6 +31,7 @@ pub fn commit(args: &Args) -> Result<Answer, Failure> {
     at_most_one_standard_input(pages.iter().map(|(_, source)| source).chain(&batches))?;
     let mut operation = Commit {
         command: "commit",
+        store: path.into(),
         count: args.number("count")?,
         root: args.number("root")?,
         version: args.number("version")?,
@@ -38,6 +40,7 @@ pub fn commit(args: &Args) -> Result<Answer, Failure> {
         ..Commit::default()
     };
     let opening = Opening::of(args)?;
+    operation.check_count(pages.iter().map(|(page, _)| *page))?;
     let bytes = pages.into_iter().map(|(page, source)| Ok((page, source.page()?)));
     operation.pages = bytes.collect::<Result<_, Failure>>()?;
     operation.batches = batches_of(&batches)?;
@@ -51,6 +54,7 @@ pub fn append(args: &Args) -> Result<Answer, Failure> {
     let opening = Opening::of(args)?;
     let operation = Commit {
         command: "append",
+        store: path.into(),
         clock: args.number("clock")?,
         batches: batches_of(&sources)?,
         ..Commit::default()
@@ -64,15 +68,18 @@ pub fn append(args: &Args) -> Result<Answer, Failure> {
 pub fn checkpoint(args: &Args) -> Result<Answer, Failure> {
     let [path] = args.words()?;
     let operation = Checkpoint {
+        store: path.into(),
         clock: args.number("clock")?,
     };
     execute(path, &Opening::of(args)?, &operation)
 }
 
-/// How the store is opened, after how many bytes its power is cut, and how the report looks.
+/// How the store is opened, after how many bytes its power is cut, whether batches may go, and how the report looks.
 struct Opening {
     mode: Mode,
+    wait: Duration,
     power_cut: Option<u64>,
+    may_drop: bool,
     json: bool,
 }
 
@@ -80,7 +87,9 @@ impl Opening {
     fn of(args: &Args) -> Result<Opening, Failure> {
         Ok(Opening {
             mode: if args.has("plain") { Mode::Plain } else { Mode::ReadWrite },
+            wait: args.wait()?,
             power_cut: args.number("cut-after-bytes")?,
+            may_drop: args.has("fold"),
             json: args.has("json"),
         })
     }
@@ -90,6 +99,8 @@ impl Opening {
 struct Report {
     object: Json,
     text: String,
+    /// The batches that a checkpoint took away which was not asked for.
+    dropped: usize,
 }
 
 /// Calls on an open store, and the report of them.
@@ -97,14 +108,16 @@ trait Operation {
     fn run<D: Disk>(&self, store: &mut Store<D>) -> Result<Report, Failure>;
 }
 
-/// Does the operation on a dry run, then on the files.
+/// Does the operation on a dry run, then on the files, under one lock.
 fn execute(path: &OsStr, opening: &Opening, operation: &impl Operation) -> Result<Answer, Failure> {
-    let file = Path::new(path);
-    let unusable = |error| Failure::file(file, error);
-    let dry_run = DryRun::of(file).map_err(unusable)?;
-    operation.run(&mut Store::open_on(dry_run, opening.mode, salts_of_the_clock())?)?;
-    let disk = PowerCut::new(Files::existing(file, false).map_err(unusable)?);
-    let mut store = Store::open_on(disk, opening.mode, salts_of_the_clock())?;
+    let mut files = Files::existing(Path::new(path), false, opening.wait)?;
+    let mut tried = Store::open_on(DryRun::over(&mut files), opening.mode, salts_of_the_clock())?;
+    let dropped = operation.run(&mut tried)?.dropped;
+    if dropped > 0 && !opening.may_drop {
+        return Err(would_drop(path, dropped));
+    }
+    drop(tried);
+    let mut store = Store::open_on(PowerCut::new(files), opening.mode, salts_of_the_clock())?;
     if let Some(bytes) = opening.power_cut {
         store.disk_mut().arm(bytes);
     }
@@ -112,10 +125,19 @@ fn execute(path: &OsStr, opening: &Opening, operation: &impl Operation) -> Resul
     Ok(Answer::report_as(opening.json, report.object, report.text))
 }
 
+fn would_drop(path: &OsStr, dropped: usize) -> Failure {
+    Failure::Refused(format!(
+        "{}: this commit brings the log to 100 frames, so a fold follows, and batches end with a fold: {dropped} would be gone. Read them \
+         out and fold first (lateenbael batches, lateenbael fold), or give --fold to let them go. Nothing was altered",
+        path.display()
+    ))
+}
+
 /// A commit: what of the header is given, pages to stage and batches to append.
 #[derive(Default)]
 struct Commit {
     command: &'static str,
+    store: PathBuf,
     count: Option<u32>,
     root: Option<u32>,
     version: Option<u16>,
@@ -137,31 +159,42 @@ impl Commit {
         }
     }
 
-    /// A refused commit, with the option that it is about.
+    /// Refuses a page that the given count would leave out. A count of 0 has a refusal of its own.
+    fn check_count(&self, mut pages: impl Iterator<Item = u32>) -> Result<(), Failure> {
+        let count = self.count.filter(|count| *count > 0).unwrap_or(u32::MAX);
+        match pages.find(|page| *page >= count) {
+            Some(page) => Err(Failure::Refused(format!("page {page}: --count {count} would leave it out"))),
+            None => Ok(()),
+        }
+    }
+
+    /// A refused commit, with what it is about.
     fn refused(&self, error: Error) -> Failure {
         let about = match (error.refusal(), self.count, self.version) {
             (Some(Refusal::NewHeader), Some(count), _) if !(1..=1024).contains(&count) => format!("--count {count}"),
             (Some(Refusal::NewHeader), _, Some(version)) => format!("--version {version}"),
-            _ => return error.into(),
+            _ => return Failure::of_store(&self.store, error),
         };
         Failure::from(error).about(about)
     }
 
-    fn report(&self, written: usize, checkpointed: bool) -> Report {
+    fn report(&self, written: usize, checkpointed: bool, dropped: usize) -> Report {
         let mut text = format!("committed; pages that differed: {written}");
         if !self.batches.is_empty() {
             text += &format!("; batches sealed: {}", self.batches.len());
         }
         if checkpointed {
-            text += "; the log was folded, and its batches are gone";
+            text += &format!("; the log was folded; batches gone with it: {dropped}");
         }
         let object = Json::object([
             ("command", self.command.into()),
             ("pages_that_differed", written.into()),
             ("batches_committed", self.batches.len().into()),
             ("checkpointed", checkpointed.into()),
+            ("batches_dropped", dropped.into()),
         ]);
-        Report { object, text: text + "\n" }
+        let text = text + "\n";
+        Report { object, text, dropped }
     }
 }
 
@@ -176,24 +209,27 @@ impl Operation for Commit {
             let appended = store.append_mvcc_batch(batch.body());
             appended.map_err(|error| Failure::from(error).about(format!("batch {n} of {}", self.batches.len())))?;
         }
-        let sequence = store.wal_header()?.checkpoint_seq;
+        let (sequence, batches) = (store.wal_header()?.checkpoint_seq, store.batch_count()?);
         let written = store.commit(self.header(store.header()?)).map_err(|error| self.refused(error))?;
-        Ok(self.report(written, store.wal_header()?.checkpoint_seq != sequence))
+        let checkpointed = store.wal_header()?.checkpoint_seq != sequence;
+        Ok(self.report(written, checkpointed, if checkpointed { batches } else { 0 }))
     }
 }
 
 /// A checkpoint: document 01's fold.
 struct Checkpoint {
+    store: PathBuf,
     clock: Option<u64>,
 }
 
 impl Operation for Checkpoint {
     fn run<D: Disk>(&self, store: &mut Store<D>) -> Result<Report, Failure> {
         raise_clock(store, self.clock)?;
-        let written = store.checkpoint()?;
+        let written = store.checkpoint().map_err(|error| Failure::of_store(&self.store, error))?;
         Ok(Report {
             object: Json::object([("command", "checkpoint".into()), ("pages_written", written.into())]),
             text: format!("folded; pages written: {written}\n"),
+            dropped: 0,
         })
     }
 }

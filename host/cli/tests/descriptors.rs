@@ -4,7 +4,7 @@ mod common;
 use common::WorkDir;
 use std::fs;
 
-const SHOWING: [&str; 10] = [
+const SHOWING: [&str; 11] = [
     "--help",
     "--version",
     "help commit",
@@ -15,6 +15,7 @@ const SHOWING: [&str; 10] = [
     "batches grips",
     "read grips 5 -",
     "page grips 5",
+    "dump grips",
 ];
 
 fn with_batch() -> WorkDir {
@@ -56,6 +57,20 @@ fn a_full_file_is_told() {
         printed.err
     );
     assert!(!dir.path("out2").exists());
+    let printed = dir.shell("trap '' XFSZ; ulimit -f 2; exec $P dump grips dumped");
+    assert!(
+        printed.status == 1 && printed.err.starts_with("lateenbael: dumped: "),
+        "{}",
+        printed.err
+    );
+    assert!(!dir.path("dumped").exists());
+    let printed = dir.shell("trap '' XFSZ; ulimit -f 2; exec $P copy grips copied");
+    assert!(
+        printed.status == 1 && printed.err.starts_with("lateenbael: copied: "),
+        "{}",
+        printed.err
+    );
+    assert!(!dir.files().iter().any(|(path, ..)| path.display().to_string().contains("copied")));
     dir.fails("read grips 5 p1", 1, "p1: ");
     assert_eq!(fs::read(dir.path("p1")).unwrap(), [1; 4096]);
 }
@@ -63,11 +78,14 @@ fn a_full_file_is_told() {
 #[test]
 fn what_has_altered_the_store_ends_with_0() {
     let dir = with_batch();
+    dir.done("dump grips dumped");
     for line in [
         "commit grips 1=p9",
         "append grips batch",
         "checkpoint grips",
         "create fresh",
+        "copy grips copied",
+        "restore dumped restored",
         "commit grips 1=p8 --json",
     ] {
         let printed = dir.shell(&format!("$P {line} > /dev/full"));

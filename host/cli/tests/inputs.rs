@@ -47,7 +47,7 @@ fn more_batches_than_a_log_has_frames_are_refused_by_their_line() {
     dir.text("many", &"batch 1\n".repeat(1_000_000));
     dir.fails("append grips many", 1, "many, line 1025: more than 1024 batches");
     dir.text("full", &"batch 1\n".repeat(1024));
-    dir.fails("append grips full", 1, "refused 15 LogFull");
+    dir.fails("append grips full", 1, "batch 1019 of 1024: refused 15 LogFull");
 }
 
 #[test]
@@ -67,6 +67,52 @@ fn the_log_command_does_not_wait_for_a_fifo() {
     assert_eq!(dir.shell("rm grips-wal; mkdir grips-wal").status, 0);
     let printed = dir.call("log grips");
     assert_eq!((printed.status, printed.err.as_str()), (1, expected(&dir).as_str()));
+}
+
+#[test]
+fn a_store_is_two_plain_files() {
+    let dir = WorkDir::with_store();
+    assert_eq!(
+        dir.shell("mkfifo pipe; mkdir folder; ln grips linked; cp grips other; mkfifo other-wal")
+            .status,
+        0
+    );
+    let table = [
+        ("pipe", "pipe is no regular file"),
+        ("folder", "folder is no regular file"),
+        ("/dev/zero", "/dev/zero is no regular file"),
+        ("other", "other-wal is no regular file"),
+        ("linked", "linked has 2 hard links"),
+        ("grips", "grips has 2 hard links"),
+    ];
+    for (store, message) in table {
+        for (command, more) in [
+            ("info", ""),
+            ("check", ""),
+            ("page", "1"),
+            ("commit", ""),
+            ("dump", ""),
+            ("copy", "new"),
+        ] {
+            let printed = dir.shell(&format!("timeout 20 $P {command} {store} {more}"));
+            assert!(
+                printed.status == 1 && printed.err.contains(message),
+                "{command} {store}: {}",
+                printed.err
+            );
+        }
+    }
+}
+
+#[test]
+fn a_link_and_its_store_have_one_log() {
+    let dir = WorkDir::with_store();
+    assert_eq!(dir.shell("mkdir folder; ln -s ../grips folder/current").status, 0);
+    dir.done("commit folder/current 5=p9");
+    dir.done("commit grips 6=p9");
+    assert_eq!((dir.page(5), dir.page(6)), (vec![9; 4096], vec![9; 4096]));
+    assert_eq!(dir.done("log folder/current"), dir.done("log grips"));
+    assert_eq!(dir.shell("ls folder").out, "current\n");
 }
 
 fn expected(dir: &WorkDir) -> String {

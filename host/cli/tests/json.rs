@@ -107,7 +107,7 @@ fn stores_are_told() {
         format!(
             "{{\"page_count\":7,\"schema_root_page\":3,\"format_version\":4,\"freelist_head\":0,\
              \"clock_high_water\":18446744073709551615,\"main_len\":28672,\"log_len\":8256,\"log_version\":3,\
-             \"salt\":{salt},\"checkpoint_seq\":1,\"frame_count\":2,\"commit_point\":8256}}"
+             \"salt\":{salt},\"checkpoint_seq\":1,\"frame_count\":2,\"commit_point\":8256,\"frames_before_checkpoint\":97}}"
         )
     );
     let log = object(dir.shows("log grips --json"));
@@ -124,7 +124,7 @@ fn stores_are_told() {
     fs::remove_file(dir.path("grips-wal")).unwrap();
     let info = object(dir.shows("info grips --json"));
     assert!(info.ends_with(
-        "\"log_len\":null,\"log_version\":null,\"salt\":null,\"checkpoint_seq\":null,\"frame_count\":null,\"commit_point\":null}"
+        "\"log_len\":null,\"log_version\":null,\"salt\":null,\"checkpoint_seq\":null,\"frame_count\":null,\"commit_point\":null,\"frames_before_checkpoint\":99}"
     ));
     let check = object(dir.shows("check grips --json"));
     assert!(check.contains("\"uncommitted_frames\":null"), "{check}");
@@ -181,17 +181,25 @@ fn reports_are_told() {
         ("create other --json", r#"{"command":"create","page_count":2}"#),
         (
             "commit grips 1=p1 2=p2 --batch batch --json",
-            r#"{"command":"commit","pages_that_differed":1,"batches_committed":1,"checkpointed":false}"#,
+            r#"{"command":"commit","pages_that_differed":1,"batches_committed":1,"checkpointed":false,"batches_dropped":0}"#,
         ),
         (
             "append --json grips batch",
-            r#"{"command":"append","pages_that_differed":0,"batches_committed":1,"checkpointed":false}"#,
+            r#"{"command":"append","pages_that_differed":0,"batches_committed":1,"checkpointed":false,"batches_dropped":0}"#,
         ),
+        ("dump grips dumped", ""),
         ("checkpoint grips --json", r#"{"command":"checkpoint","pages_written":6}"#),
+        ("copy grips copied --json", r#"{"command":"copy","main_len":28672,"log_len":32}"#),
+        (
+            "restore --json dumped restored",
+            r#"{"command":"restore","page_count":7,"batches_committed":2}"#,
+        ),
         ("fold grips --json", r#"{"command":"checkpoint","pages_written":0}"#),
     ];
     for (line, expected) in table {
-        assert_eq!(object(dir.done(line)), expected, "{line}");
+        let printed = dir.done(line);
+        let printed = if printed.is_empty() { printed } else { object(printed) };
+        assert_eq!(printed, expected, "{line}");
     }
     dir.fails("info none --json", 1, "none: ");
 }

@@ -1,9 +1,9 @@
 //! The program as it is called: what it prints, its exit status, and which files it leaves alone.
 mod common;
 
-use common::{PROGRAM, WorkDir, damage};
+use common::{WorkDir, damage, forge_log};
 use std::fs;
-use std::process::{Command, Output};
+use std::process::Command;
 
 #[test]
 fn fold_is_another_name_of_checkpoint() {
@@ -24,6 +24,8 @@ fn refusals_are_status_1_by_number_and_name() {
         ("commit grips 2=long", "long: 4097 bytes or more, and a page has 4096"),
         ("commit grips 2=/dev/zero", "/dev/zero: 4097 bytes or more"),
         ("commit none 2=long", "long: 4097 bytes or more"),
+        ("commit grips 6=p6 --count 2", "page 6: --count 2 would leave it out"),
+        ("commit none 2=none --count 2", "page 2: --count 2 would leave it out"),
         ("commit grips 1024=p1", "page 1024: refused 11 Page: "),
         ("commit grips --count 0", "--count 0: refused 13 NewHeader: "),
         ("commit grips --count 1025", "--count 1025: refused 13 NewHeader: "),
@@ -36,9 +38,10 @@ fn refusals_are_status_1_by_number_and_name() {
         ("read grips 7 out", "grips: page 7 is nowhere"),
         ("page grips 7", "grips: page 7 is nowhere"),
         ("read grips 1 p1", "p1: "),
-        ("read none 1 out", "none: "),
+        ("read none 1 out", "lateenbael: none: there is no such file\n"),
         ("log none", "none-wal: "),
-        ("checkpoint none", "none: "),
+        ("checkpoint none", "lateenbael: none: there is no such file\n"),
+        ("create none/none", "lateenbael: none/none-new: there is no such file\n"),
     ];
     for (line, message) in table {
         dir.fails(line, 1, message);
@@ -56,16 +59,21 @@ fn a_damaged_store_is_refused_by_every_command() {
         "batches grips",
         "read grips 1 out",
         "commit grips 1=p1",
+        "page grips 1",
+        "append grips batch",
+        "copy grips other",
+        "dump grips",
         "checkpoint grips",
     ];
+    dir.text("batch", "batch 1\n");
     for line in commands {
-        dir.fails(line, 1, "refused 4 Version: ");
+        dir.fails(line, 1, "lateenbael: grips: refused 4 Version: ");
     }
     damage(&main, 16, 4);
     dir.shows("check grips");
     damage(&dir.path("grips-wal"), 0, 0);
     for line in commands.iter().chain(&["log grips"]) {
-        dir.fails(line, 1, "refused 3 Magic: ");
+        dir.fails(line, 1, "grips-wal: refused 3 Magic: ");
     }
 }
 
@@ -111,26 +119,10 @@ fn commits_and_checkpoints_are_read_back() {
         "log sequence   1",
         "frames         1",
         "commit point   4144",
+        "until a fold   98",
     ] {
         assert!(info.contains(&format!("{line}\n")), "{line}: {info}");
     }
-}
-
-#[test]
-fn the_hundredth_frame_brings_a_checkpoint_and_is_reported() {
-    let dir = WorkDir::with_store();
-    dir.text("batch", "batch 1\n");
-    for n in 0..46 {
-        let page = 1 + n % 2;
-        assert_eq!(dir.done(&format!("commit grips 1=p{page}")), "committed; pages that differed: 1\n");
-    }
-    assert!(dir.shows("info grips").contains("frames         98\n"));
-    let printed = dir.done("append grips batch");
-    assert_eq!(
-        printed,
-        "committed; pages that differed: 0; batches sealed: 1; the log was folded, and its batches are gone\n"
-    );
-    assert_eq!(dir.shows("batches grips"), "");
 }
 
 #[test]
@@ -155,7 +147,7 @@ fn a_cut_commit_leaves_no_trace() {
         let printed = dir.call("commit grips 5=p9 --cut-after-bytes 4112");
         assert_eq!(
             (printed.status, printed.err.as_str()),
-            (1, "lateenbael: the disk failed: the power was cut\n")
+            (1, "lateenbael: grips-wal: the disk failed: the power was cut\n")
         );
         let found = dir.shows("check grips");
         assert!(found.contains("tail: frame 6 is good and unsealed: page 5\n"), "{found}");
@@ -178,34 +170,16 @@ fn creation_can_write_over() {
 fn a_full_disk_stops_a_commit_and_loses_nothing() {
     let dir = WorkDir::with_store();
     // Files may have 28 KiB: the log, of 24,704 bytes, has no room for another frame.
-    let line = format!("trap '' XFSZ; ulimit -f 28; exec {} commit grips 5=p9 3=p9", PROGRAM);
-    let Output { stderr, status, .. } = Command::new("bash").current_dir(&dir.0.0).args(["-c", &line]).output().unwrap();
-    let printed = String::from_utf8(stderr).unwrap();
+    let printed = dir.shell("trap '' XFSZ; ulimit -f 28; exec $P commit grips 5=p9 3=p9");
     assert!(
-        status.code() == Some(1) && printed.starts_with("lateenbael: the disk failed: "),
-        "{printed}"
+        printed.status == 1 && printed.err.starts_with("lateenbael: grips-wal: the disk failed: "),
+        "{}",
+        printed.err
     );
     assert!(dir.shows("check grips").contains("tail: 3968 bytes are no good frame\n"));
     assert_eq!(dir.page(5), [5; 4096]);
     dir.done("commit grips 3=p9");
     assert_eq!((dir.page(3), dir.page(5)), (vec![9; 4096], vec![5; 4096]));
-}
-
-#[test]
-fn a_store_in_use_is_left_alone() {
-    let dir = WorkDir::with_store();
-    let store = lateenbael::Store::open(dir.path("grips"), lateenbael::Mode::Plain).unwrap();
-    for line in ["info grips", "commit grips 1=p1", "checkpoint grips", "create grips --over"] {
-        dir.fails(line, 1, "grips: another program has the store open");
-    }
-    drop(store);
-    // A program that another test has just started shares this one's lock until it runs on its own.
-    let mut tries = 0;
-    while dir.call("info grips").status != 0 && tries < 100 {
-        std::thread::sleep(std::time::Duration::from_millis(10));
-        tries += 1;
-    }
-    dir.shows("info grips");
 }
 
 #[test]
@@ -221,18 +195,7 @@ fn a_foreign_store_may_lack_pages() {
     let main = dir.path("grips");
     fs::write(&main, &fs::read(&main).unwrap()[..8192]).unwrap();
     damage(&main, 20, 2);
-    dir.done("commit grips 6=p6 --count 2");
-    let log = dir.path("grips-wal");
-    let mut bytes = fs::read(&log).unwrap();
-    // The commit frame, of page 0, goes, and page 6 is one with count 7 instead: its sum changes by what the count adds.
-    bytes.truncate(32 + 4112);
-    bytes[36] = 7;
-    let sum = bytes[32..44]
-        .iter()
-        .chain(&bytes[48..])
-        .fold(0u32, |sum, b| sum.rotate_left(1).wrapping_add((*b).into()));
-    bytes[44..48].copy_from_slice(&sum.to_le_bytes());
-    fs::write(&log, bytes).unwrap();
+    forge_log(&dir.path("grips-wal"), &[(6, 7, &[6; 4096])]);
     let printed = dir.call("check grips");
     assert_eq!(
         (printed.status, printed.err.as_str()),

@@ -22,6 +22,9 @@ fn help_names_every_command() {
         "commit",
         "append",
         "checkpoint",
+        "copy",
+        "dump",
+        "restore",
     ] {
         assert!(help.contains(&format!("  lateenbael {command} ")), "{command}");
         let more = dir.done(&format!("help {command}"));
@@ -58,6 +61,15 @@ fn what_is_not_understood_is_status_2() {
         ("commit grips --count x", "--count: \"x\" is no number"),
         ("commit grips --version 70000", "--version: \"70000\" is no number that fits"),
         ("append grips", "no batch to append"),
+        ("dump grips one two", "expected: lateenbael dump STORE [OUTFILE]"),
+        ("copy grips", "expected: lateenbael copy STORE NEW"),
+        ("restore grips", "expected: lateenbael restore FILE NEW"),
+        ("info grips --wait", "--wait wants a value"),
+        ("info grips --wait soon", "--wait: \"soon\" is no number of seconds"),
+        ("info grips --wait=-1", "--wait: \"-1\" is no number of seconds"),
+        ("commit grips --wait nan", "--wait: \"nan\" is no number of seconds"),
+        ("create grips --over --wait inf", "--wait: \"inf\" is no number of seconds"),
+        ("log grips --wait 1", "--wait is no option here"),
         (
             "checkpoint grips --cut-after-bytes many",
             "--cut-after-bytes: \"many\" is no number",

@@ -129,3 +129,23 @@ pub fn damage(path: &Path, at: usize, byte: u8) {
     bytes[at] = byte;
     fs::write(path, bytes).unwrap();
 }
+
+pub const BATCH: u32 = u32::MAX;
+
+/// Puts frames of other making behind a log's header, which stays: page number, commit count, body.
+pub fn forge_log(path: &Path, frames: &[(u32, u32, &[u8])]) {
+    let mut log = fs::read(path).unwrap();
+    log.truncate(32);
+    for (page_num, commit_page_count, body) in frames {
+        let heading = [
+            page_num.to_le_bytes(),
+            commit_page_count.to_le_bytes(),
+            log[16..20].try_into().unwrap(),
+        ]
+        .concat();
+        let bytes = heading.iter().chain(*body);
+        let sum = bytes.fold(0u32, |sum, b| sum.rotate_left(1).wrapping_add((*b).into()));
+        log.extend([&heading, &sum.to_le_bytes()[..], body].concat());
+    }
+    fs::write(path, log).unwrap();
+}
