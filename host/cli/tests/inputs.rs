@@ -22,6 +22,9 @@ fn a_text_that_no_log_has_room_for_is_refused_by_its_length() {
         );
     }
     assert!(begun.elapsed() < Duration::from_secs(5));
+    // Nor is any of it read: there is no memory for that.
+    let printed = dir.shell("ulimit -v 32768; exec $P append grips long");
+    assert!(printed.status == 1 && printed.err.contains("which is the limit"), "{}", printed.err);
 }
 
 #[test]

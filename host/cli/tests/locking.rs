@@ -8,11 +8,18 @@ use std::time::{Duration, Instant};
 
 const WRITING: [&str; 4] = ["commit grips 1=p1", "append grips batch", "checkpoint grips", "create grips --over"];
 
-/// Fails at once, and says who may hold the lock.
 fn is_locked(dir: &WorkDir, line: &str) {
-    let begun = Instant::now();
     dir.fails(&format!("{line} --wait 0"), 1, "grips: another program has the store open");
-    assert!(begun.elapsed() < Duration::from_millis(900), "{line}");
+}
+
+/// The shortest of three calls: others may be slowed by what else runs.
+fn shortest(dir: &WorkDir, line: &str) -> Duration {
+    let one = || {
+        let begun = Instant::now();
+        assert_eq!(dir.call(line).status, 1);
+        begun.elapsed()
+    };
+    one().min(one()).min(one())
 }
 
 #[test]
@@ -29,6 +36,8 @@ fn a_store_in_use_is_left_alone() {
     for line in ["read grips 1 out", "dump grips", "copy grips other"] {
         is_locked(&dir, line);
     }
+    assert!(shortest(&dir, "info grips --wait 0") < Duration::from_millis(900));
+    assert!(shortest(&dir, "info grips") >= Duration::from_millis(900));
     let printed = dir.call("info grips --wait 0");
     assert!(!printed.err.contains("the disk failed"), "{}", printed.err);
     drop(store);
@@ -66,7 +75,7 @@ fn a_writer_waits_for_a_reader_that_is_soon_done() {
     let dir = WorkDir::with_store();
     assert_eq!(waited(&dir, "commit grips 1=p9", Duration::from_millis(300)), 0);
     assert_eq!(dir.page(1), [9; 4096]);
-    assert_eq!(waited(&dir, "commit grips 1=p8 --wait 0.1", Duration::from_millis(600)), 1);
+    assert_eq!(waited(&dir, "commit grips 1=p8 --wait 0.1", Duration::from_millis(1500)), 1);
     assert_eq!(waited(&dir, "commit grips 1=p7", Duration::from_millis(2500)), 1);
     assert_eq!(waited(&dir, "commit grips 1=p6 --wait 20", Duration::from_millis(1500)), 0);
     assert_eq!(dir.page(1), [6; 4096]);
