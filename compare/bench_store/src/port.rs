@@ -59,7 +59,7 @@ macro_rules! called_alike {
         #[inline]
         fn read(&self, page_num: u32) -> Option<&[u8]> {
             let read = self.called().read_page(page_num);
-            read.expect("nothing is part done")
+            read.expect("nothing is part done").map(|bytes| &bytes[..])
         }
 
         fn stage(&mut self, page_num: u32, bytes: &Page) {

@@ -54,6 +54,7 @@ pub fn compare_pages(engine: &Engine, expected: &Expected) -> Check {
         let found = engine
             .read_page(page)
             .map_err(|refusal| format!("page {page}: {refusal}"))?;
+        let found = found.map(|bytes| &bytes[..]);
         let wanted = expected.model.read(page).map(|bytes| &bytes[..]);
         let what = || {
             format!(

@@ -9,7 +9,9 @@ use crate::model::{Header, PAGE};
 use crate::port::{from_port, to_port};
 use crate::writes::{FRAME, LOG_HEADER};
 use crate::wrong::Wrong;
-use lateenbael::{Area, Disk, Engine, Error, Files, Mode, Store, salts_of_the_clock, wal_path_for};
+use lateenbael::{
+    Area, DEFAULT_WAIT, Disk, Engine, Files, Medium, Mode, Store, salts_of_the_clock, wal_path_for,
+};
 use splitmix::Random;
 use std::io::{self, Read, Write};
 use std::os::unix::process::ExitStatusExt;
@@ -75,8 +77,20 @@ impl Disk for Pieces {
         self.files.read(area, buffer)
     }
 
+    fn drop_cached(&mut self, area: Area) -> io::Result<()> {
+        self.files.drop_cached(area)
+    }
+
+    fn read_medium(&mut self, area: Area, at: usize, buffer: &mut [u8]) -> io::Result<Medium> {
+        self.files.read_medium(area, at, buffer)
+    }
+
     fn create(&mut self, area: Area) -> io::Result<()> {
         self.files.create(area)
+    }
+
+    fn publish(&mut self, area: Area) -> io::Result<()> {
+        self.files.publish(area)
     }
 
     fn write_at(&mut self, area: Area, at: usize, bytes: &[u8]) -> io::Result<()> {
@@ -100,6 +114,10 @@ impl Disk for Pieces {
     fn sync(&mut self, area: Area) -> io::Result<()> {
         self.files.sync(area)
     }
+
+    fn is_intact(&mut self, area: Area) -> io::Result<bool> {
+        self.files.is_intact(area)
+    }
 }
 
 fn now() -> u64 {
@@ -110,9 +128,9 @@ fn now() -> u64 {
 
 /// Opens the store and commits on and on; each commit's number goes to the standard output as
 /// soon as the commit is done. Ends only by an error.
-pub fn child(path: &Path, seed: u64, longest: usize) -> Result<(), Error> {
+pub fn child(path: &Path, seed: u64, longest: usize) -> Result<(), Box<dyn std::error::Error>> {
     let disk = Pieces {
-        files: Files::existing(path, false)?,
+        files: Files::existing(path, false, DEFAULT_WAIT)?,
         random: Random::new(now()),
         longest,
     };
@@ -122,7 +140,10 @@ pub fn child(path: &Path, seed: u64, longest: usize) -> Result<(), Error> {
         let number = store.header()?.freelist_head + 1;
         for call in calls(seed, number) {
             match call {
-                Call::Stage(page, seed, len) => store.stage_page(page, &page_bytes(seed, len))?,
+                Call::Stage(page, seed, len) => {
+                    let bytes = page_bytes(seed, len);
+                    store.stage_page(page, bytes[..].try_into()?)?;
+                }
                 Call::Append(body) => store.append_mvcc_batch(&body)?,
                 Call::Checkpoint(_) => store.checkpoint().map(drop)?,
                 Call::Commit(header, _) => store.commit(to_port(&header)).map(drop)?,

@@ -48,7 +48,7 @@ pub fn run(engine: &mut Engine, call: &Call) -> Result<Answer, Refused> {
         Call::DropStaging => engine.clear_staged().map(nothing),
         Call::Read(page) => engine
             .read_page(*page)
-            .map(|bytes| Answer::Page(bytes.map(Into::into))),
+            .map(|bytes| Answer::Page(bytes.map(|bytes| bytes[..].into()))),
         Call::Query => return query(engine),
         Call::Clock(value) => engine.observe_clock_high_water(*value).map(nothing),
         Call::Append(body) => engine

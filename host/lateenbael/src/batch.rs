@@ -148,7 +148,7 @@ impl<'a> Batch<'a> {
     }
 
     /// Its records, in their order.
-    pub fn records(&self) -> impl Iterator<Item = Record<'a>> {
+    pub fn records(&self) -> impl Iterator<Item = Record<'a>> + use<'a> {
         let body = self.body;
         let mut at = FIRST_RECORD;
         (0..self.numbers.records).map_while(move |_| {

@@ -1,8 +1,9 @@
-//! Reading a file past the system's cache.
+//! The system's cache: what it holds of a file dropped, and a file read past it.
 use crate::{MEDIUM_CHUNK, Medium};
 use std::fmt;
 use std::fs::{File, OpenOptions};
 use std::io;
+use std::os::fd::AsRawFd;
 use std::os::unix::fs::{FileExt, MetadataExt, OpenOptionsExt};
 use std::path::Path;
 
@@ -55,6 +56,19 @@ impl Direct {
         bytes.copy_from_slice(&aligned[..bytes.len()]);
         Ok(Medium::Read)
     }
+}
+
+unsafe extern "C" {
+    fn posix_fadvise(fd: i32, offset: i64, len: i64, advice: i32) -> i32;
+}
+
+/// The pages are not needed soon.
+const POSIX_FADV_DONTNEED: i32 = 4;
+
+/// Lets the cache go of a file. It is advice: whether it was taken is not told, and a system that takes none may say so.
+pub fn drop_cached(file: &File) {
+    // SAFETY: numbers alone go over, and the descriptor is open.
+    unsafe { posix_fadvise(file.as_raw_fd(), 0, 0, POSIX_FADV_DONTNEED) };
 }
 
 fn is_unsupported(error: &io::Error) -> bool {

@@ -17,11 +17,14 @@ pub trait Disk {
     /// it; none if there is no such file. What a cache holds may answer.
     fn read(&mut self, area: Area, buffer: &mut [u8]) -> io::Result<Option<usize>>;
 
-    /// Reads bytes of a file past any cache, as they lie on the medium and outlast a power cut, or answers that it can't. The place
-    /// is a multiple of [`MEDIUM_CHUNK`], and no more bytes are asked for.
+    /// Lets the cache go of a file that was just synced, as far as it does, so that what is read next comes from the medium.
     ///
     /// A system may answer a failed flush by forgetting which bytes were to be written: they stay in its cache, and a later flush finds
-    /// nothing to do. So an opening for writing asks the medium. A disk without such a cache reads as `read` does.
+    /// nothing to do. So an opening for writing does this first, and then asks the medium.
+    fn drop_cached(&mut self, area: Area) -> io::Result<()>;
+
+    /// Reads bytes of a file past any cache, as they lie on the medium and outlast a power cut, or answers that it can't. The place
+    /// is a multiple of [`MEDIUM_CHUNK`], and no more bytes are asked for. A disk without a cache reads as `read` does.
     fn read_medium(&mut self, area: Area, at: usize, buffer: &mut [u8]) -> io::Result<Medium>;
 
     /// Begins a new, empty file. It may stand under another name until it is published.
@@ -36,7 +39,8 @@ pub trait Disk {
     /// Cuts the file, or lengthens it by zeros.
     fn set_len(&mut self, area: Area, len: usize) -> io::Result<()>;
 
-    /// Returns when everything written to the file so far, its length too, will outlast a power cut.
+    /// Returns when everything written to the file so far, its length too, will outlast a power cut; `NotFound` if there is no such
+    /// file.
     fn sync(&mut self, area: Area) -> io::Result<()>;
 
     /// Whether the file still has its name and the length that these calls gave it, as far as that is told at little cost.

@@ -5,29 +5,38 @@ use std::path::PathBuf;
 
 /// A disk that reads and never writes: it shows what calls would answer. The files stay open and locked, for the same calls in earnest.
 #[derive(Debug)]
-pub struct DryRun<'a>(&'a mut Files);
+pub struct DryRun<'a> {
+    files: &'a mut Files,
+    /// The log, if it would have been made.
+    made: Option<Area>,
+}
 
 impl<'a> DryRun<'a> {
     /// Over the files of a store that is there.
     pub fn over(files: &'a mut Files) -> DryRun<'a> {
-        DryRun(files)
+        DryRun { files, made: None }
     }
 }
 
 impl Disk for DryRun<'_> {
     fn name(&self, area: Area) -> PathBuf {
-        self.0.name(area)
+        self.files.name(area)
     }
 
     fn read(&mut self, area: Area, buffer: &mut [u8]) -> io::Result<Option<usize>> {
-        self.0.read(area, buffer)
+        self.files.read(area, buffer)
+    }
+
+    fn drop_cached(&mut self, area: Area) -> io::Result<()> {
+        self.files.drop_cached(area)
     }
 
     fn read_medium(&mut self, area: Area, at: usize, buffer: &mut [u8]) -> io::Result<Medium> {
-        self.0.read_medium(area, at, buffer)
+        self.files.read_medium(area, at, buffer)
     }
 
-    fn create(&mut self, _: Area) -> io::Result<()> {
+    fn create(&mut self, area: Area) -> io::Result<()> {
+        self.made = Some(area);
         Ok(())
     }
 
@@ -45,10 +54,9 @@ impl Disk for DryRun<'_> {
 
     /// What other programs have written goes to the medium, as it would before the calls in earnest.
     fn sync(&mut self, area: Area) -> io::Result<()> {
-        match self.0.sync(area) {
-            // A log that would have been made.
-            Err(error) if error.kind() == io::ErrorKind::NotFound => Ok(()),
-            done => done,
+        match self.made == Some(area) {
+            true => Ok(()),
+            false => self.files.sync(area),
         }
     }
 }

@@ -123,10 +123,17 @@ impl fmt::Display for Error {
                 file.display()
             ),
             Error::Replaced { file } => write!(f, "{} was removed, replaced or altered while the store was open", file.display()),
+            Error::Io { file, source } if is_forbidden(source) => write!(f, "{}: {source}", file.display()),
             Error::Io { file, source } => write!(f, "{}: the disk failed: {source}", file.display()),
             Error::Stopped => write!(f, "the store has stopped in an earlier call; open it again"),
         }
     }
+}
+
+/// Whether the file is out of reach, and the disk has not failed.
+fn is_forbidden(error: &io::Error) -> bool {
+    use io::ErrorKind::*;
+    matches!(error.kind(), PermissionDenied | ReadOnlyFilesystem | NotADirectory | ResourceBusy)
 }
 
 impl std::error::Error for Error {

@@ -1,11 +1,11 @@
 //! A store's two real files.
-use crate::direct::Direct;
+use crate::direct::{Direct, drop_cached};
 use crate::lock::lock;
 use crate::{Area, Disk, Error, Medium};
 use std::ffi::OsString;
 use std::fs::{self, File, Metadata, OpenOptions};
 use std::io;
-use std::os::unix::fs::{FileExt, MetadataExt, OpenOptionsExt};
+use std::os::unix::fs::{FileExt, MetadataExt, OpenOptionsExt, fchown};
 use std::path::{Path, PathBuf};
 use std::time::Duration;
 
@@ -146,6 +146,7 @@ impl Files {
         let new_path = new_path(path);
         let main = open_new(path).map_err(|error| Error::of_file(&new_path, error))?;
         lock(&main, &new_path, false, Duration::ZERO)?;
+        give_away(&main, replaced.as_ref());
         if !names(&new_path, &main)? {
             // Another creation has just published it.
             return Err(Error::AlreadyExists { file: path.to_path_buf() });
@@ -210,6 +211,11 @@ impl Disk for Files {
         Ok(Some(len + usize::from(behind)))
     }
 
+    fn drop_cached(&mut self, area: Area) -> io::Result<()> {
+        drop_cached(self.of(area).open_file()?);
+        Ok(())
+    }
+
     fn read_medium(&mut self, area: Area, at: usize, buffer: &mut [u8]) -> io::Result<Medium> {
         if self.direct.as_ref().is_none_or(|(of, _)| *of != area) {
             let one = self.of(area);
@@ -224,6 +230,7 @@ impl Disk for Files {
     fn create(&mut self, area: Area) -> io::Result<()> {
         if self.of(area).file.is_none() {
             let file = open_new(&self.of(area).path)?;
+            give_away(&file, self.main.file.as_ref());
             let one = self.of_mut(area);
             (one.file, one.stage) = (Some(file), Stage::Begun);
         }
@@ -333,6 +340,16 @@ fn open_new(path: &Path) -> io::Result<File> {
     let mut options = OpenOptions::new();
     options.read(true).write(true).create(true).custom_flags(O_NONBLOCK | O_NOFOLLOW);
     options.open(new_path(path))
+}
+
+/// Gives a new file the mode and owner of the one that it belongs to, as far as that is allowed: who looks after a store as another
+/// user must not lock its controller out.
+fn give_away(file: &File, like: Option<&File>) {
+    let Some(like) = like.and_then(|like| like.metadata().ok()) else {
+        return;
+    };
+    let _ = file.set_permissions(like.permissions());
+    let _ = fchown(file, Some(like.uid()), Some(like.gid()));
 }
 
 fn folder_of(file: &Path) -> &Path {

@@ -93,7 +93,7 @@ impl<'a> Log<'a> {
     }
 
     /// The good frames.
-    pub fn frames(&self) -> impl Iterator<Item = Frame<'a>> {
+    pub fn frames(&self) -> impl Iterator<Item = Frame<'a>> + use<'a> {
         let log = *self;
         (0..)
             .map_while(move |index| log.frame(index))

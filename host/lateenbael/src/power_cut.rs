@@ -45,6 +45,10 @@ impl<D: Disk> Disk for PowerCut<D> {
         self.disk.name(area)
     }
 
+    fn drop_cached(&mut self, area: Area) -> io::Result<()> {
+        self.disk.drop_cached(area)
+    }
+
     fn read_medium(&mut self, area: Area, at: usize, buffer: &mut [u8]) -> io::Result<Medium> {
         self.disk.read_medium(area, at, buffer)
     }

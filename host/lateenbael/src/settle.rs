@@ -36,37 +36,42 @@ pub fn read_cached<D: Disk>(disk: &mut D, area: Area, bytes: &mut [u8]) -> Resul
 }
 
 /// Reads a file into its area as it lies on the medium. After a flush that failed, in this program or in one before it, the system's
-/// cache may hold bytes that never reached the medium and that no later flush takes there. A commit behind such bytes would be
-/// gone with them. So the file is flushed and read past the cache; where the cache has other bytes, or the medium can't be asked,
-/// what was read is written again and flushed, so that later writes join it.
+/// cache may hold bytes that never reached the medium; a later flush does not take them there, and to write into the same pages again
+/// may not help either. A commit behind such bytes, or in them, would be gone with them. So the file is flushed, the cache lets go of it,
+/// and what is read then is compared with the medium.
 pub fn read_settled<D: Disk>(disk: &mut D, area: Area, bytes: &mut [u8]) -> Result<Option<usize>, Error> {
+    let settled = match disk.sync(area) {
+        Err(error) if error.kind() == io::ErrorKind::NotFound => return Ok(None),
+        synced => synced.and_then(|()| disk.drop_cached(area)),
+    };
+    settled.map_err(|source| failed(disk, area, source))?;
     let len = read_cached(disk, area, bytes)?;
-    match len {
-        // A file that is too long is refused.
-        Some(len) if len <= bytes.len() => {
-            sync(disk, area)?;
-            settle(disk, area, &mut bytes[..len]).map_err(|source| failed(disk, area, source))?;
-        }
-        _ => {}
+    // A file that is longer than its area is refused.
+    if let Some(bytes) = len.and_then(|len| bytes.get(..len)) {
+        compare_with_medium(disk, area, bytes).map_err(|source| failed(disk, area, source))?;
     }
     Ok(len)
 }
 
-fn settle<D: Disk>(disk: &mut D, area: Area, bytes: &mut [u8]) -> io::Result<()> {
+/// Fails where the cache has other bytes than the medium. Where the medium can't be read past the cache, the bytes are written again.
+fn compare_with_medium<D: Disk>(disk: &mut D, area: Area, bytes: &[u8]) -> io::Result<()> {
     let mut medium = vec![0; MEDIUM_CHUNK.min(bytes.len())];
-    let mut is_settled = true;
-    for (n, cached) in bytes.chunks_mut(MEDIUM_CHUNK).enumerate() {
+    let mut is_known = true;
+    for (n, cached) in bytes.chunks(MEDIUM_CHUNK).enumerate() {
         let (at, medium) = (n * MEDIUM_CHUNK, &mut medium[..cached.len()]);
         match disk.read_medium(area, at, medium)? {
-            Medium::Read if *medium == *cached => continue,
-            Medium::Read => cached.copy_from_slice(medium),
-            Medium::Unknown => {}
+            Medium::Read if *medium == *cached => {}
+            Medium::Read => return Err(io::Error::other(NOT_DROPPED)),
+            Medium::Unknown => {
+                disk.write_at(area, at, cached)?;
+                is_known = false;
+            }
         }
-        disk.write_at(area, at, cached)?;
-        is_settled = false;
     }
-    match is_settled {
+    match is_known {
         true => Ok(()),
         false => disk.sync(area),
     }
 }
+
+const NOT_DROPPED: &str = "an earlier write did not reach the medium, and a program that has the file mapped keeps it in the cache";

@@ -217,11 +217,11 @@ fn in_an_opening_that_makes_the_log() {
     prepared(&path, 0);
     open(&path, Mode::ReadWrite).checkpoint().unwrap();
     let before = contents(&open(&path, Mode::ReadOnly));
-    // The main file flushed; the log made, written, synced, published; its length, and a flush.
-    for fails_at in 0..7 {
+    // The main file flushed, the log looked for; made, written, synced, published; its length, and a flush.
+    for fails_at in 0..8 {
         let _ = std::fs::remove_file(wal_path_for(&path));
         assert_eq!(fails_in_opening(&path, fails_at).unwrap(), before);
-        assert_eq!(wal_path_for(&path).exists(), fails_at > 4);
-        assert_eq!(std::fs::read_dir(&folder.0).unwrap().count(), 1 + usize::from(fails_at > 4));
+        assert_eq!(wal_path_for(&path).exists(), fails_at > 5);
+        assert_eq!(std::fs::read_dir(&folder.0).unwrap().count(), 1 + usize::from(fails_at > 5));
     }
 }

@@ -29,6 +29,10 @@ impl Disk for Recording {
         Ok(None)
     }
 
+    fn drop_cached(&mut self, _: Area) -> io::Result<()> {
+        Ok(())
+    }
+
     fn read_medium(&mut self, _: Area, _: usize, _: &mut [u8]) -> io::Result<Medium> {
         Ok(Medium::Unknown)
     }

@@ -76,3 +76,29 @@ fn a_full_log_refuses_and_a_checkpoint_makes_room() {
     assert_eq!(store.checkpoint().unwrap(), 0);
     assert_eq!(store.commit(header).unwrap(), 0);
 }
+
+#[test]
+fn a_page_that_the_count_leaves_out_is_refused() {
+    let folder = Folder::new();
+    let path = folder.store();
+    seven_pages(&path);
+    let mut store = open(&path, Mode::ReadWrite);
+    let (header, before) = (store.header().unwrap(), bytes_of(&path));
+    for n in [9, 5, 6] {
+        store.stage_page(n, &page(1)).unwrap();
+    }
+    for (count, beyond) in [(7, 9), (6, 6), (1, 5), (9, 9)] {
+        let answer = store.commit(with_count(header, count));
+        assert!(
+            matches!(answer, Err(Error::StagedBeyond { page, page_count }) if (page, page_count) == (beyond, count)),
+            "{answer:?}"
+        );
+    }
+    // What the library refuses, it refuses.
+    assert_eq!(refusal(store.commit(with_count(header, 0))), Some(Refusal::NewHeader));
+    assert!(matches!(store.commit(with_count(header, 10)), Err(Error::Joining { page: 7 })));
+    assert_eq!(bytes_of(&path), before);
+    store.clear_staged().unwrap();
+    store.stage_page(6, &page(1)).unwrap();
+    assert_eq!(store.commit(header).unwrap(), 1);
+}

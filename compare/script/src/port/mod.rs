@@ -221,7 +221,8 @@ impl Side for Port {
     }
 
     fn read(&self, page: u32) -> Option<&[u8]> {
-        self.engine.read_page(page).expect("nothing is part done")
+        let page = self.engine.read_page(page).expect("nothing is part done");
+        page.map(|bytes| &bytes[..])
     }
 
     fn header(&self) -> DbHeader {

@@ -159,6 +159,10 @@ impl Disk for Failing {
         self.files.read(area, buffer)
     }
 
+    fn drop_cached(&mut self, area: Area) -> io::Result<()> {
+        self.files.drop_cached(area)
+    }
+
     fn read_medium(&mut self, area: Area, at: usize, buffer: &mut [u8]) -> io::Result<Medium> {
         self.files.read_medium(area, at, buffer)
     }

@@ -1,0 +1,152 @@
+//! Creation: what was there, what a cut or failed one leaves, and copies.
+mod common;
+use common::*;
+use lateenbael::{Error, Files, Mode, OpenOptions, Store, wal_path_for};
+use std::fs;
+use std::os::unix::fs::PermissionsExt;
+use std::path::{Path, PathBuf};
+
+type Creation = fn(&Path) -> Result<Store, Error>;
+
+const CREATIONS: [Creation; 3] = [
+    |path| Store::create(path),
+    |path| Store::open_or_create(path),
+    |path| Store::create_over(path),
+];
+
+fn new_name(path: &Path) -> PathBuf {
+    PathBuf::from(format!("{}-new", path.display()))
+}
+
+/// The folder's files, but a store's own two.
+fn others(folder: &Folder) -> usize {
+    let own = [folder.store(), wal_path_for(&folder.store())];
+    let paths = fs::read_dir(&folder.0).unwrap().map(|entry| entry.unwrap().path());
+    paths.filter(|path| !own.contains(path)).count()
+}
+
+#[test]
+fn a_store_is_opened_or_made() {
+    let folder = Folder::new();
+    let path = folder.store();
+    commit_pages(&mut Store::open_or_create(&path).unwrap(), 2, &[7]);
+    assert_eq!(Store::open_or_create(&path).unwrap().read_page(2).unwrap(), Some(&page(7)));
+    let other = folder.0.join("other");
+    assert!(matches!(
+        OpenOptions::new().create(true).mode(Mode::ReadOnly).open(&other),
+        Err(Error::NotFound { .. })
+    ));
+    assert!(matches!(Store::open(&other, Mode::Plain), Err(Error::NotFound { .. })));
+}
+
+/// What a creation that was cut may have left: files under their other names, whole or in part, the log under its own.
+#[test]
+fn a_cut_creation_is_done_again() {
+    let folder = Folder::new();
+    let path = folder.store();
+    let log = wal_path_for(&path);
+    seven_pages(&path);
+    let [main_bytes, log_bytes] = bytes_of(&path).map(Option::unwrap);
+    let left: [&[(&Path, &[u8])]; 5] = [
+        &[(&new_name(&path), &[])],
+        &[(&new_name(&path), &main_bytes[..5000])],
+        &[(&new_name(&path), &main_bytes), (&new_name(&log), &[])],
+        &[(&new_name(&path), &main_bytes), (&new_name(&log), &log_bytes)],
+        &[(&new_name(&path), &main_bytes), (&log, &log_bytes)],
+    ];
+    for files in left {
+        for create in CREATIONS {
+            for file in [&path, &log] {
+                let _ = fs::remove_file(file);
+            }
+            files.iter().for_each(|(file, bytes)| fs::write(file, bytes).unwrap());
+            assert!(matches!(Store::open(&path, Mode::ReadOnly), Err(Error::NotFound { .. })));
+            let mut store = create(&path).unwrap();
+            assert_eq!(store.header().unwrap().page_count, 2);
+            commit_pages(&mut store, 2, &[1]);
+            assert_eq!(others(&folder), 0);
+        }
+    }
+}
+
+#[test]
+fn a_log_alone_is_left() {
+    let folder = Folder::new();
+    let (path, log) = (folder.store(), wal_path_for(&folder.store()));
+    seven_pages(&path);
+    fs::remove_file(&path).unwrap();
+    let before = bytes_of(&path);
+    for create in &CREATIONS[..2] {
+        assert!(matches!(create(&path), Err(Error::AlreadyExists { file }) if file == log));
+    }
+    assert_eq!(bytes_of(&path), before);
+    assert_eq!(others(&folder), 0);
+}
+
+#[test]
+fn two_creations_at_once_make_one_store() {
+    let folder = Folder::new();
+    let path = folder.store();
+    let first = Files::fresh(&path).unwrap();
+    assert!(matches!(Files::fresh(&path), Err(Error::Locked { .. })));
+    let store = Store::create_on(first, counting_salts(1)).unwrap();
+    assert!(matches!(Files::fresh(&path), Err(Error::AlreadyExists { .. })));
+    drop(store);
+    assert_eq!(others(&folder), 0);
+}
+
+#[test]
+fn many_creations_at_once_make_one_store() {
+    let folder = Folder::new();
+    let path = folder.store();
+    let made = std::thread::scope(|scope| {
+        let tries: Vec<_> = (0..8).map(|_| scope.spawn(|| Store::create(&path).is_ok())).collect();
+        tries.into_iter().map(|one| one.join().unwrap()).filter(|made| *made).count()
+    });
+    assert_eq!(made, 1);
+    assert_eq!(open(&path, Mode::ReadWrite).header().unwrap().page_count, 2);
+}
+
+#[test]
+fn a_copy_has_the_same_files() {
+    let folder = Folder::new();
+    let (path, copy) = (folder.store(), folder.0.join("copy"));
+    seven_pages(&path);
+    let mut store = open(&path, Mode::ReadWrite);
+    store.append_mvcc_batch(batch(8).body()).unwrap();
+    commit_pages(&mut store, 3, &[33]);
+    store.append_mvcc_batch(batch(9).body()).unwrap();
+    store.copy_to(&copy).unwrap();
+    assert_eq!(bytes_of(&copy), bytes_of(&path));
+    assert!(matches!(store.copy_to(&copy), Err(Error::AlreadyExists { file }) if file == copy));
+    assert!(matches!(store.copy_to(&path), Err(Error::AlreadyExists { .. })));
+    drop(store);
+    fs::remove_file(wal_path_for(&path)).unwrap();
+    let bare = folder.0.join("bare");
+    open(&path, Mode::ReadOnly).copy_to(&bare).unwrap();
+    assert_eq!(bytes_of(&bare), bytes_of(&path));
+}
+
+#[test]
+fn new_files_have_the_mode_of_those_that_they_belong_to() {
+    let folder = Folder::new();
+    let (path, log) = (folder.store(), wal_path_for(&folder.store()));
+    let mode = |path: &Path| fs::metadata(path).unwrap().permissions().mode() & 0o777;
+    drop(Store::create(&path).unwrap());
+    fs::set_permissions(&path, fs::Permissions::from_mode(0o640)).unwrap();
+    fs::remove_file(&log).unwrap();
+    open(&path, Mode::ReadWrite);
+    assert_eq!(mode(&log), 0o640);
+    drop(Store::create_over(&path).unwrap());
+    assert_eq!((mode(&path), mode(&log)), (0o640, 0o640));
+}
+
+#[test]
+fn a_folder_that_is_not_there_is_named() {
+    let folder = Folder::new();
+    let error = Store::create(folder.0.join("none/grips")).unwrap_err();
+    assert!(
+        matches!(&error, Error::NotFound { file } if file.ends_with("none/grips-new")),
+        "{error}"
+    );
+}
