@@ -26,12 +26,9 @@ pub fn print(snapshot: &Snapshot) -> String {
         h.page_count, h.schema_root_page, h.format_version, h.freelist_head
     );
     let _ = writeln!(text, "clock {}", snapshot.clock_high_water);
-    for (number, page) in snapshot.pages.iter().enumerate() {
-        text += &page_text(number, page.as_ref());
-    }
-    for body in &snapshot.batches {
-        text += &body_text(body);
-    }
+    let pages = snapshot.pages.iter().enumerate();
+    text.extend(pages.map(|(number, page)| page_text(number, page.as_ref())));
+    text.extend(snapshot.batches.iter().map(body_text));
     text + LAST_LINE + "\n"
 }
 
@@ -50,10 +47,16 @@ fn hex_lines(bytes: &[u8; PAGE_SIZE]) -> String {
     for run in lines.chunk_by(|one, next| one == next && *one == [0; LINE]) {
         match run[0] == [0; LINE] {
             true => text += &format!("zeros {}\n", run.len()),
-            false => text.extend(run[0].iter().map(|byte| format!("{byte:02x}")).chain(["\n".to_string()])),
+            false => text += &hex_line(&run[0]),
         }
     }
     text
+}
+
+fn hex_line(bytes: &[u8; LINE]) -> String {
+    let digit = |value: u8| char::from(b"0123456789abcdef"[usize::from(value)]);
+    let digits = bytes.iter().flat_map(|byte| [digit(byte >> 4), digit(byte & 15)]);
+    digits.chain(['\n']).collect()
 }
 
 /// A batch's rows, or its bytes where the rows don't give them back: another program may have written it otherwise.

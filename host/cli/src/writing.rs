@@ -168,6 +168,22 @@ impl Commit {
         }
     }
 
+    fn stage_pages<D: Disk>(&self, store: &mut Store<D>) -> Result<(), Failure> {
+        for (page, bytes) in &self.pages {
+            let staged = store.stage_page(*page, bytes);
+            staged.map_err(|error| Failure::from(error).about(format!("page {page}")))?;
+        }
+        Ok(())
+    }
+
+    fn append_batches<D: Disk>(&self, store: &mut Store<D>) -> Result<(), Failure> {
+        for (n, batch) in (1..).zip(&self.batches) {
+            let appended = store.append_mvcc_batch(batch.body());
+            appended.map_err(|error| Failure::from(error).about(format!("batch {n} of {}", self.batches.len())))?;
+        }
+        Ok(())
+    }
+
     /// A refused commit, with what it is about.
     fn refused(&self, error: Error) -> Failure {
         let about = match (error.refusal(), self.count, self.version) {
@@ -201,14 +217,8 @@ impl Commit {
 impl Operation for Commit {
     fn run<D: Disk>(&self, store: &mut Store<D>) -> Result<Report, Failure> {
         raise_clock(store, self.clock)?;
-        for (page, bytes) in &self.pages {
-            let staged = store.stage_page(*page, bytes);
-            staged.map_err(|error| Failure::from(error).about(format!("page {page}")))?;
-        }
-        for (n, batch) in (1..).zip(&self.batches) {
-            let appended = store.append_mvcc_batch(batch.body());
-            appended.map_err(|error| Failure::from(error).about(format!("batch {n} of {}", self.batches.len())))?;
-        }
+        self.stage_pages(store)?;
+        self.append_batches(store)?;
         let (sequence, batches) = (store.wal_header()?.checkpoint_seq, store.batch_count()?);
         let written = store.commit(self.header(store.header()?)).map_err(|error| self.refused(error))?;
         let checkpointed = store.wal_header()?.checkpoint_seq != sequence;

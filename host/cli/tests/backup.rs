@@ -161,77 +161,61 @@ fn a_cut_dump_is_refused_wherever_it_is_cut() {
     dir.done("restore text new");
 }
 
+const HEAD: &str = "lateenbael-dump 1\nheader 2 1 4 0\nclock 0\n";
+
+/// Restoring a text fails so, and leaves no file.
+fn refused(dir: &WorkDir, text: &str, status: i32, message: &str) {
+    dir.text("text", text);
+    dir.fails("restore text new", status, message);
+}
+
 #[test]
-fn an_unclear_dump_is_told_by_its_line() {
+fn an_unclear_line_of_a_dump_is_told() {
     let dir = WorkDir::with_store();
-    let (head, line) = ("lateenbael-dump 1\nheader 2 1 4 0\nclock 0\n", "0".repeat(64));
-    let whole = format!("{head}page 1\nzeros 128\n");
+    let zeros = "0".repeat(64);
     let table = [
-        ("".to_string(), 2, "text, line 1: no dump"),
-        ("lateenbael-dump 2\nend\n".to_string(), 2, "text, line 1: no dump"),
-        (whole.clone(), 1, "text: cut off"),
-        ("lateenbael-dump 1\nclock 0\nend\n".to_string(), 2, "text: no line says the header"),
-        (
-            "lateenbael-dump 1\nheader 0 1 4 0\nend\n".to_string(),
-            2,
-            "text: no line says the clock",
-        ),
-        (format!("{head}clock 1\nend\n"), 2, "text, line 4: told for the second time"),
-        (
-            "lateenbael-dump 1\nheader 2 1 4\nend\n".to_string(),
-            2,
-            "text, line 2: no line of a dump",
-        ),
-        (
-            "lateenbael-dump 1\nheader 2 1 70000 0\nend\n".to_string(),
-            2,
-            "line 2: \"70000\" is no number",
-        ),
-        (format!("{head}page 2\nend\n"), 2, "text, line 4: page 2, where page 0"),
-        (format!("{whole}page 1\nend\n"), 2, "text, line 6: page 1, where page 2"),
-        (format!("{head}page 1\nzeros 127\nend\n"), 2, "text, line 6: 64 hexadecimal digits"),
-        (
-            format!("{head}page 1\nzeros 127\nzeros 2\nend\n"),
-            2,
-            "text, line 6: 32 bytes more would be enough",
-        ),
-        (
-            format!("{head}page 1\nzeros 99999999999999\nend\n"),
-            2,
-            "text, line 5: 4096 bytes more would be enough",
-        ),
-        (
-            format!("{head}page 1\n{}x\nend\n", &line[1..]),
-            2,
-            "text, line 5: not all of these are hexadecimal",
-        ),
-        (
-            format!("{head}page 1\n{}\nend\n", &line[2..]),
-            2,
-            "text, line 5: 64 hexadecimal digits",
-        ),
-        (format!("{whole}column \"c\" null\nend\n"), 2, "text, line 6: no batch has begun"),
-        (format!("{whole}body\nzeros 128\nend\n"), 1, "text: batch 1 is refused 3 Magic"),
-        (format!("{whole}end\nbatch 1\nend\n"), 2, "text, line 7: a line behind the last one"),
-        (format!("{whole}{}end\n", "batch 1\n".repeat(1025)), 1, "more than 1024 batches"),
-        (format!("{head}end\n"), 1, "text: the header has a page count of 2"),
-        (
-            whole.replace("2 1 4 0", "2 1 7 0") + "end\n",
-            1,
-            "text: the header is refused 4 Version",
-        ),
-        (
-            whole.replace("clock", "page 0\nzeros 128\nclock") + "end\n",
-            1,
-            "text: the header is refused 8 PageZero",
-        ),
+        ("clock 1\n", "line 4: told for the second time"),
+        ("header 2 1 4\n", "line 4: no line of a dump"),
+        ("header 2 1 70000 0\n", "line 4: \"70000\" is no number"),
+        ("page 2\n", "line 4: page 2, where page 0"),
+        ("page 1\nzeros 128\npage 1\n", "line 6: page 1, where page 2"),
+        ("page 1\nzeros 127\n", "line 6: 64 hexadecimal digits"),
+        ("page 1\nzeros 127\nzeros 2\n", "line 6: 32 bytes more would be enough"),
+        ("page 1\nzeros 99999999999999\n", "line 5: 4096 bytes more would be enough"),
+        (&format!("page 1\n{}x\n", &zeros[1..]), "line 5: not all of these are hexadecimal"),
+        (&format!("page 1\n{}\n", &zeros[2..]), "line 5: 64 hexadecimal digits"),
+        ("column \"c\" null\n", "line 4: no batch has begun"),
+        ("end\nbatch 1\n", "line 5: a line behind the last one"),
     ];
-    for (text, status, message) in table {
-        dir.text("text", &text);
-        dir.fails("restore text new", status, message);
+    for (lines, message) in table {
+        refused(&dir, &format!("{HEAD}{lines}end\n"), 2, &format!("text, {message}"));
     }
+}
+
+#[test]
+fn a_dump_of_no_store_is_refused() {
+    let dir = WorkDir::with_store();
+    let whole = format!("{HEAD}page 1\nzeros 128\n");
+    refused(&dir, "", 2, "text, line 1: no dump");
+    refused(&dir, "lateenbael-dump 2\nend\n", 2, "text, line 1: no dump");
+    refused(&dir, "lateenbael-dump 1\nclock 0\nend\n", 2, "text: no line says the header");
+    refused(&dir, "lateenbael-dump 1\nheader 0 1 4 0\nend\n", 2, "text: no line says the clock");
+    refused(&dir, &whole, 1, "text: cut off");
+    refused(&dir, &format!("{HEAD}end\n"), 1, "text: the header has a page count of 2");
+    refused(
+        &dir,
+        &format!("{whole}body\nzeros 128\nend\n"),
+        1,
+        "text: batch 1 is refused 3 Magic",
+    );
+    let batches = "batch 1\n".repeat(1025);
+    refused(&dir, &format!("{whole}{batches}end\n"), 1, "more than 1024 batches");
+    let version = whole.replace("2 1 4 0", "2 1 7 0") + "end\n";
+    refused(&dir, &version, 1, "text: the header is refused 4 Version");
+    let page_zero = whole.replace("page 1", "page 0\nzeros 128\npage 1") + "end\n";
+    refused(&dir, &page_zero, 1, "text: the header is refused 8 PageZero");
+    dir.fails("restore /dev/zero new", 1, "/dev/zero: longer than 67108864 bytes");
     dir.text("text", &format!("{}\n# remark\n\nend\n", whole.replace("page 1", "page\t1")));
     assert_eq!(dir.done("restore text new"), "restored; pages: 2; batches: 0\n");
     dir.fails("restore text new", 1, "new is there already");
-    dir.fails("restore /dev/zero other", 1, "/dev/zero: longer than 67108864 bytes");
 }

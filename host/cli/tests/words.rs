@@ -36,7 +36,7 @@ fn help_names_every_command() {
 }
 
 #[test]
-fn what_is_not_understood_is_status_2() {
+fn words_that_are_not_understood_are_status_2() {
     let dir = WorkDir::with_store();
     let table = [
         ("", "no command"),
@@ -44,9 +44,6 @@ fn what_is_not_understood_is_status_2() {
         ("help lift", "lift is no command"),
         ("create", "expected: lateenbael create"),
         ("info grips grips", "expected: lateenbael info"),
-        ("info grips --over", "--over is no option here"),
-        ("create --over=yes grips", "--over=yes is no option here"),
-        ("info -x grips", "-x is no option here"),
         ("read grips one out", "PAGE: \"one\" is no number"),
         ("page grips one", "PAGE: \"one\" is no number"),
         ("commit grips 2", "2 is not PAGE=FILE"),
@@ -56,14 +53,28 @@ fn what_is_not_understood_is_status_2() {
         ("commit grips 2=- 3=-", "standard input (-) is given more than once"),
         ("commit grips 2=- --batch -", "standard input (-) is given more than once"),
         ("append grips - -", "standard input (-) is given more than once"),
-        ("commit grips --count", "--count wants a value"),
-        ("commit grips --count=-1", "--count: \"-1\" is no number"),
-        ("commit grips --count x", "--count: \"x\" is no number"),
-        ("commit grips --version 70000", "--version: \"70000\" is no number that fits"),
         ("append grips", "no batch to append"),
         ("dump grips one two", "expected: lateenbael dump STORE [OUTFILE]"),
         ("copy grips", "expected: lateenbael copy STORE NEW"),
         ("restore grips", "expected: lateenbael restore FILE NEW"),
+        ("--version grips", "expected: lateenbael --version"),
+    ];
+    for (line, message) in table {
+        dir.fails(line, 2, message);
+    }
+}
+
+#[test]
+fn options_that_are_not_understood_are_status_2() {
+    let dir = WorkDir::with_store();
+    let table = [
+        ("info grips --over", "--over is no option here"),
+        ("create --over=yes grips", "--over=yes is no option here"),
+        ("info -x grips", "-x is no option here"),
+        ("commit grips --count", "--count wants a value"),
+        ("commit grips --count=-1", "--count: \"-1\" is no number"),
+        ("commit grips --count x", "--count: \"x\" is no number"),
+        ("commit grips --version 70000", "--version: \"70000\" is no number that fits"),
         ("info grips --wait", "--wait wants a value"),
         ("info grips --wait soon", "--wait: \"soon\" is no number of seconds"),
         ("info grips --wait=-1", "--wait: \"-1\" is no number of seconds"),
@@ -74,7 +85,6 @@ fn what_is_not_understood_is_status_2() {
             "checkpoint grips --cut-after-bytes many",
             "--cut-after-bytes: \"many\" is no number",
         ),
-        ("--version grips", "expected: lateenbael --version"),
     ];
     for (line, message) in table {
         dir.fails(line, 2, message);

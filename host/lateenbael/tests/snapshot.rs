@@ -175,52 +175,58 @@ fn a_missing_log_is_one_without_frames() {
     assert!(!wal_path_for(&path).exists());
 }
 
-#[test]
-fn what_no_store_can_be_is_refused_and_leaves_no_file() {
+/// Why a snapshot that is edited so is refused. No file is left.
+fn refused(edit: impl Fn(&mut Snapshot)) -> SnapshotError {
     let folder = Folder::new();
-    let path = folder.store();
-    let mut store = Store::create(&path).unwrap();
+    let mut store = Store::create(folder.store()).unwrap();
     commit_pages(&mut store, 2, &[2, 3]);
-    drop(store);
-    let good = Snapshot::of(&open(&path, Mode::ReadOnly)).unwrap();
-    let other = folder.0.join("other");
-    let refused = |edit: &dyn Fn(&mut Snapshot)| {
-        let mut snapshot = good.clone();
-        edit(&mut snapshot);
-        let error = snapshot.create(&other).unwrap_err();
-        assert_eq!(fs::read_dir(&folder.0).unwrap().count(), 2, "{error}");
-        error
-    };
-    let nowhere = refused(&|s| s.pages[2] = None);
+    let mut snapshot = Snapshot::of(&store).unwrap();
+    edit(&mut snapshot);
+    let error = snapshot.create(folder.0.join("other")).unwrap_err();
+    assert_eq!(fs::read_dir(&folder.0).unwrap().count(), 2, "{error}");
+    error
+}
+
+#[test]
+fn pages_that_no_store_has_are_refused() {
+    let nowhere = refused(|s| s.pages[2] = None);
     assert!(matches!(nowhere, SnapshotError::PageNowhere { page: 2 }), "{nowhere}");
-    let count = refused(&|s| s.header.page_count = 5);
+    let count = refused(|s| s.header.page_count = 5);
     assert!(matches!(count, SnapshotError::PageCount { page_count: 5, pages: 4 }), "{count}");
-    let many = refused(&|s| {
+    let many = refused(|s| {
         s.pages.resize(1025, Some(Box::new([0; PAGE_SIZE])));
         s.header.page_count = 1025;
     });
     assert!(matches!(many, SnapshotError::PageCount { pages: 1025, .. }), "{many}");
-    let not_a_batch = refused(&|s| s.batches.push(Box::new([0; PAGE_SIZE])));
-    let refusal = Refusal::Magic;
+    let version = refused(|s| s.header.format_version = 7);
+    let refusal = Refusal::Version;
+    assert!(matches!(version, SnapshotError::Header { refusal: r } if r == refusal), "{version}");
+    let other_header = refused(|s| s.header.schema_root_page = 70);
+    assert!(matches!(other_header, SnapshotError::Different), "{other_header}");
+}
+
+#[test]
+fn batches_that_no_log_has_are_refused() {
+    let not_a_batch = refused(|s| s.batches.push(Box::new([0; PAGE_SIZE])));
+    let (index, refusal) = (0, Refusal::Magic);
     assert!(
-        matches!(not_a_batch, SnapshotError::Batch { index: 0, refusal: r } if r == refusal),
+        matches!(not_a_batch, SnapshotError::Batch { index: i, refusal: r } if (i, r) == (index, refusal)),
         "{not_a_batch}"
     );
-    let full = refused(&|s| s.batches = vec![Box::new(*batch(1).body()); 1024]);
+    let full = refused(|s| s.batches = vec![Box::new(*batch(1).body()); 1024]);
+    let (index, refusal) = (1024, Refusal::LogFull);
     assert!(
-        matches!(
-            full,
-            SnapshotError::Batch {
-                index: 1024,
-                refusal: Refusal::LogFull
-            }
-        ),
+        matches!(full, SnapshotError::Batch { index: i, refusal: r } if (i, r) == (index, refusal)),
         "{full}"
     );
-    let version = refused(&|s| s.header.format_version = 7);
-    assert!(matches!(version, SnapshotError::Header { refusal: Refusal::Version }), "{version}");
-    let other_header = refused(&|s| s.header.schema_root_page = 70);
-    assert!(matches!(other_header, SnapshotError::Different), "{other_header}");
-    let taken = good.create(&path).unwrap_err();
+}
+
+#[test]
+fn a_store_that_is_there_is_left_alone() {
+    let folder = Folder::new();
+    let snapshot = Snapshot::of(&Store::create(folder.store()).unwrap()).unwrap();
+    let before = bytes_of(&folder.store());
+    let taken = snapshot.create(folder.store()).unwrap_err();
     assert!(matches!(taken, SnapshotError::Store(Error::AlreadyExists { .. })), "{taken}");
+    assert!(bytes_of(&folder.store()) == before);
 }
