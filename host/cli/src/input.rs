@@ -1,4 +1,4 @@
-//! What a command is given to read: pages, batches as text, and files that must be plain ones.
+//! What a command is given to read: pages, batches as text, and files that must be regular ones.
 use crate::args::{number, split_at_equals};
 use crate::batch_text;
 use crate::failure::Failure;
@@ -50,7 +50,7 @@ impl Source<'_> {
         bytes.try_into().map_err(|_| Failure::Refused(wrong))
     }
 
-    /// A text of at most so many bytes. A longer plain file is refused before it is read.
+    /// A text of at most so many bytes. A longer regular file is refused before it is read.
     pub fn text(self, limit: usize) -> Result<String, Failure> {
         let too_long = || Failure::Refused(format!("{}: longer than {limit} bytes, which is the limit", self.name()));
         if !self.is_standard_input() && fs::metadata(self.0).is_ok_and(|found| found.is_file() && found.len() > limit as u64) {
@@ -100,16 +100,16 @@ pub fn batches_of(sources: &[Source]) -> Result<Vec<BatchBuilder>, Failure> {
     Ok(batches)
 }
 
-/// A plain file's bytes, no more than so many. Opening anything else could wait for ever.
-pub fn read_plain_file(path: &Path, most: usize) -> Result<Vec<u8>, Failure> {
+/// A regular file's bytes, no more than so many. Opening anything else could wait for ever.
+pub fn read_regular_file(path: &Path, most: usize) -> Result<Vec<u8>, Failure> {
     let failed = |error| Failure::file(path, error);
-    let plain = |found: fs::Metadata| match found.is_file() {
+    let regular = |found: fs::Metadata| match found.is_file() {
         true => Ok(()),
-        false => Err(Failure::Refused(format!("{}: not a plain file", path.display()))),
+        false => Err(Failure::Refused(format!("{} is no regular file", path.display()))),
     };
-    plain(fs::metadata(path).map_err(failed)?)?;
+    regular(fs::metadata(path).map_err(failed)?)?;
     let file = OpenOptions::new().read(true).custom_flags(O_NONBLOCK).open(path).map_err(failed)?;
-    plain(file.metadata().map_err(failed)?)?;
+    regular(file.metadata().map_err(failed)?)?;
     read_at_most(file, most).map_err(failed)
 }
 

@@ -2,7 +2,7 @@
 use crate::args::{Args, number};
 use crate::failure::Failure;
 use crate::hex_view::hex_view;
-use crate::input::read_plain_file;
+use crate::input::read_regular_file;
 use crate::json::Json;
 use crate::output::{Answer, write_new_file};
 use crate::{batch_json, batch_text};
@@ -155,7 +155,7 @@ fn check_json(store: &Store, missing: &[u32]) -> Result<Json, Failure> {
 pub fn log(args: &Args) -> Result<Answer, Failure> {
     let [path] = args.words()?;
     let path = log_path(Path::new(path));
-    let bytes = read_plain_file(&path, LOG_AREA + 1)?;
+    let bytes = read_regular_file(&path, LOG_AREA + 1)?;
     let log = Log::open(&bytes).map_err(|refusal| Failure::from(refusal).about(path.display()))?;
     Ok(Answer::shown(match args.has("json") {
         true => log_json(&log).line(),
@@ -165,7 +165,8 @@ pub fn log(args: &Args) -> Result<Answer, Failure> {
 
 /// The log of a store, which stands beside the main file itself and not beside a link to it. The main file may be missing.
 fn log_path(store: &Path) -> PathBuf {
-    wal_path_for(&fs::canonicalize(store).unwrap_or_else(|_| store.to_path_buf()))
+    let main = if store.is_symlink() { fs::canonicalize(store).ok() } else { None };
+    wal_path_for(main.as_deref().unwrap_or(store))
 }
 
 fn log_json(log: &Log) -> Json {
