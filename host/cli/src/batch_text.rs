@@ -60,19 +60,20 @@ fn quoted(text: &str) -> String {
 
 // ---- reading
 
+/// More batches than a log has frames are no use, and each takes a page's memory.
+const LOG_FRAMES: usize = 1024;
+
 /// The batches of a text; `name` says where it comes from.
 pub fn parse(name: &str, text: &str) -> Result<Vec<BatchBuilder>, Failure> {
     let mut batches = Vec::new();
     for (n, line) in (1..).zip(text.lines()) {
-        add_line(&mut batches, line).map_err(|failure| match failure {
-            Failure::Usage(why) => Failure::Usage(format!("{name}, line {n}: {why}")),
-            Failure::Refused(why) => Failure::Refused(format!("{name}, line {n}: {why}")),
-        })?;
+        add_line(&mut batches, line).map_err(|failure| failure.about(format!("{name}, line {n}")))?;
     }
     Ok(batches)
 }
 
-fn add_line(batches: &mut Vec<BatchBuilder>, line: &str) -> Result<(), Failure> {
+/// One line: a batch begun, or something added to the last one.
+pub fn add_line(batches: &mut Vec<BatchBuilder>, line: &str) -> Result<(), Failure> {
     let tokens = tokens(line)?;
     let Some((Token::Word(word), rest)) = tokens.split_first() else {
         return if tokens.is_empty() {
@@ -85,6 +86,11 @@ fn add_line(batches: &mut Vec<BatchBuilder>, line: &str) -> Result<(), Failure> 
         let [Token::Word(time)] = rest else {
             return Err(unclear("expected: batch TIME"));
         };
+        if batches.len() == LOG_FRAMES {
+            return Err(Failure::Refused(format!(
+                "more than {LOG_FRAMES} batches, and a log has {LOG_FRAMES} frames"
+            )));
+        }
         batches.push(BatchBuilder::new(parsed(time)?));
         return Ok(());
     }

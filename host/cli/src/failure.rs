@@ -2,7 +2,9 @@
 use lateenbael::{Error, Refusal};
 use std::fmt;
 use std::io;
+use std::path::Path;
 
+#[derive(Debug)]
 pub enum Failure {
     /// Refused, or the disk failed: status 1.
     Refused(String),
@@ -12,8 +14,24 @@ pub enum Failure {
 
 impl Failure {
     /// A file could not be used.
-    pub fn file(name: &str, error: io::Error) -> Failure {
-        Failure::Refused(format!("{name}: {error}"))
+    pub fn file(path: &Path, error: io::Error) -> Failure {
+        Failure::Refused(format!("{}: {error}", path.display()))
+    }
+
+    /// A call on a store failed. A bare refusal does not name the store.
+    pub fn of_store(path: &Path, error: Error) -> Failure {
+        match error {
+            Error::Refused(_) => Failure::from(error).about(path.display()),
+            named => named.into(),
+        }
+    }
+
+    /// The same failure, with what it is about in front.
+    pub fn about(self, what: impl fmt::Display) -> Failure {
+        match self {
+            Failure::Refused(why) => Failure::Refused(format!("{what}: {why}")),
+            Failure::Usage(why) => Failure::Usage(format!("{what}: {why}")),
+        }
     }
 
     pub fn exit_status(&self) -> u8 {

@@ -9,39 +9,55 @@ lateenbael looks after a store of pages of 4,096 bytes on two files, STORE and S
   lateenbael log STORE                       lists the log, frame by frame
   lateenbael batches STORE                   the recovered batches with their rows, as text
   lateenbael read STORE PAGE OUTFILE         writes a page to a new file, or to standard output (-)
+  lateenbael page STORE PAGE                 shows a page: offset, 16 bytes, ASCII
   lateenbael commit STORE [PAGE=FILE]...     stages pages from files and commits them
   lateenbael append STORE FILE...            appends batches from text, and seals them by a commit
   lateenbael checkpoint STORE                writes the log's pages to the main file and empties it; also called fold
-  lateenbael help [COMMAND]                  this, or more about a command
+  lateenbael copy STORE NEW                  copies both files to a new store, while no one writes
+  lateenbael dump STORE [OUTFILE]            the whole store as text, to a new file or to standard output (-)
+  lateenbael restore FILE NEW                makes a new store of such a text
+  lateenbael help [COMMAND]                  this, or more about a command; so does -h or --help behind a command
+  lateenbael --version                       the program's version
 
-create, commit, append and checkpoint write; the others open read-only and alter nothing.
+create, commit, append and checkpoint write to STORE; the others open it read-only and alter nothing in it.
 Before anything is written, the calls are tried out in memory: a refused one alters no file.
-Exit status: 0 done; 1 refused, with the refusal's number and name, or the disk failed; 2 not understood.
+Batches end with a fold, and a commit that brings the log to 100 frames brings one on.
+
+  --wait SECONDS
+                 how long another program's lock of the store is waited for: 1 if it is not given, 0 not at all
+  --json         for all but read, page and dump: one JSON object on one line, in place of the text; messages stay as they are
+  --             ends the options: what follows is a file, also where it begins with a dash
+
+Exit status: 0 done; 1 refused, with the refusal's number and name, or the disk failed; 2 not understood. It tells what happened to
+the store: a command that has altered it ends with 0 even where its report can't be printed, and one that shows something ends
+with 1 where that can't be written. Nobody reading any more (a broken pipe) is no failure. A closed standard output is as /dev/null.
 ";
 
-const CREATE: &str = "\
-lateenbael create STORE [--over]
+pub const CREATE: &str = "\
+lateenbael create STORE [--over] [--wait SECONDS] [--json]
 
 Makes STORE, of 2 pages, and STORE-wal, a log without frames. Files that are there already are left alone and the call fails,
 unless --over is given: then the store in them is lost.
 ";
 
-const INFO: &str = "\
-lateenbael info STORE
+pub const INFO: &str = "\
+lateenbael info STORE [--wait SECONDS] [--json]
 
 Opens the store read-only and shows the header that counts, both files' lengths, the clock, and the log's header, frames and
-commit point.
+commit point; also how many frames can be added until a commit brings on a fold. As JSON, what is told of the log is null where there
+is none.
 ";
 
-const CHECK: &str = "\
-lateenbael check STORE
+pub const CHECK: &str = "\
+lateenbael check STORE [--wait SECONDS] [--json]
 
 Opens the store read-only and says whether it opens, which pages below the page count are nowhere, and what lies in the log behind
 the commit point: good frames that no seal closes, and other bytes. A clean opening drops all of that. Nothing is altered.
+The status is 1 where the store does not open, and where a page below the page count is nowhere.
 ";
 
-const LOG: &str = "\
-lateenbael log STORE
+pub const LOG: &str = "\
+lateenbael log STORE [--json]
 
 Lists STORE-wal, of any length that a store reads:
 
@@ -51,16 +67,23 @@ Lists STORE-wal, of any length that a store reads:
   end FRAMES COMMITPOINT LASTCOMMITCOUNT
 ";
 
-const READ: &str = "\
-lateenbael read STORE PAGE OUTFILE
+pub const READ: &str = "\
+lateenbael read STORE PAGE OUTFILE [--wait SECONDS]
 
 Opens the store read-only and writes the page's 4,096 bytes to OUTFILE, which must not be there yet, or to standard output if it
-is - .
+is - . A writing that fails leaves no OUTFILE.
+";
+
+pub const PAGE: &str = "\
+lateenbael page STORE PAGE [--wait SECONDS]
+
+Opens the store read-only and shows the page as hexdump -C does: offset, 16 bytes, ASCII. Lines equal to the one before are one
+line * .
 ";
 
 /// The text form of batches, which `batches` prints and `append` reads.
-const BATCHES: &str = "\
-lateenbael batches STORE
+pub const BATCHES: &str = "\
+lateenbael batches STORE [--wait SECONDS] [--json]
 
 Opens the store read-only and prints the batches that the opening recovered, in the form that append reads:
 
@@ -76,51 +99,80 @@ Opens the store read-only and prints the batches that the opening recovered, in 
 
 TABLE, NAME and TEXT stand in double quotes, with \\\" \\\\ \\n \\r \\t and \\u{HEX} inside. Empty lines are passed over, and so is
 what follows a # outside of quotes.
+
+As JSON, integers stand whole, also those beyond 2^53. A real has a value, null if it is infinite or a NaN, and beside it bits, the
+16 hexadecimal digits of its 64 bits; a vector has the same in two lists, with 8 digits each.
 ";
 
-const COMMIT: &str = "\
+pub const COMMIT: &str = "\
 lateenbael commit STORE [OPTION]... [PAGE=FILE]...
 
-Stages each FILE, of 4,096 bytes, as that page and commits them.
+Stages each FILE, of 4,096 bytes, as that page and commits them. FILE - is standard input, once.
 
-  --count N      the new page count; without it the present one, or as many as the pages given need
+  --count N      the new page count; without it the present one, or as many as the pages given need. A page given at or above it
+                 is refused, for it would read as nothing
   --root N       the new schema root page; --version N the new format version; --freelist N the new freelist head
   --clock N      raises the clock; it reaches the log's header with the next checkpoint
   --batch FILE   appends a file's batches before the commit, which seals them
   --plain        opens as the Rust does: an unsealed tail of the log stays, and this commit takes it in
+  --fold         commits also where a fold would follow and take batches with it
+  --wait SECONDS how long a lock is waited for; --json reports in JSON
   --cut-after-bytes N
                  for trying out: stops the disk after N bytes of the commit and exits as if the power had gone (a new length counts
                  as 1 byte, and a file's first 32 bytes are stored together or not at all)
 
-A commit that brings the log to 100 frames is followed by a checkpoint, and sealed batches go with the log.
+Batches end with a fold, and a commit that brings the log to 100 frames brings one on. Where batches would go that way, sealed ones or
+the commit's own, it is refused unless --fold is given.
 ";
 
-const APPEND: &str = "\
-lateenbael append STORE FILE... [--plain] [--clock N] [--cut-after-bytes N]
+pub const APPEND: &str = "\
+lateenbael append STORE FILE... [--fold] [--plain] [--clock N] [--wait SECONDS] [--json] [--cut-after-bytes N]
 
 Appends the batches of text files, in the form that lateenbael help batches tells, and seals them by a commit without pages.
-FILE - is standard input. The options are those of commit.
+FILE - is standard input, once. The options are those of commit.
+
+Batches end with a fold, and a commit that brings the log to 100 frames brings one on. Where batches would go that way, sealed ones or
+those being appended, the call is refused unless --fold is given: read out the sealed ones, fold, and append at most 98 at once.
+
+A file has at most 32 MiB: a log has 1,024 frames, and a batch's text is at most 7 times as long as its frame's 4,096 bytes.
 ";
 
-const CHECKPOINT: &str = "\
-lateenbael checkpoint STORE [--plain] [--clock N] [--cut-after-bytes N]
+pub const CHECKPOINT: &str = "\
+lateenbael checkpoint STORE [--plain] [--clock N] [--wait SECONDS] [--json] [--cut-after-bytes N]
 
 Writes the log's pages to the main file and empties the log; its batches go with it. The options are those of commit.
 ";
 
-/// More about a command.
-pub fn about(command: &str) -> Option<&'static str> {
-    Some(match command {
-        "create" => CREATE,
-        "info" => INFO,
-        "check" => CHECK,
-        "log" => LOG,
-        "batches" => BATCHES,
-        "read" => READ,
-        "commit" => COMMIT,
-        "append" => APPEND,
-        "checkpoint" | "fold" => CHECKPOINT,
-        "help" => HELP,
-        _ => return None,
-    })
-}
+pub const COPY: &str = "\
+lateenbael copy STORE NEW [--wait SECONDS] [--json]
+
+Copies both files as they lie, an unsealed tail of the log too, to a new store. STORE is open read-only meanwhile, so that no program
+alters it. NEW and NEW-wal must not be there yet, and appear when they are whole.
+";
+
+pub const DUMP: &str = "\
+lateenbael dump STORE [OUTFILE] [--wait SECONDS]
+
+Opens the store read-only and prints it as text that restore reads, or writes that to OUTFILE, which must not be there yet:
+
+  lateenbael-dump 1
+  header PAGECOUNT ROOT VERSION FREELIST
+  clock N
+  page N                                 its 4,096 bytes follow, 32 on a line as 64 hexadecimal digits
+  zeros LINES                            so many lines of zeros
+  page N nowhere                         a page below the page count that is nowhere: restore refuses it
+  batch TIME ...                         a batch, in the form that lateenbael help batches tells
+  body                                   a batch as its 4,096 bytes, where its rows would not give them back
+  end
+
+Pages stand in order. Page 0 is the header's, and is there only if the log has it. Empty lines are passed over, and so are those that
+begin with #. What no seal closes is not in it.
+";
+
+pub const RESTORE: &str = "\
+lateenbael restore FILE NEW [--json]
+
+Makes the new store NEW of a text that dump has printed; FILE - is standard input. Header, clock, every page and every batch are then
+the same, byte for byte. NEW and NEW-wal must not be there yet, and appear when they are whole. A text that is cut off is refused; it
+has at most 64 MiB.
+";

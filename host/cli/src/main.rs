@@ -1,30 +1,26 @@
 //! The program `lateenbael` for the service desk: makes, shows, writes and checks a store on two files.
 mod args;
+mod backup;
+mod batch_json;
 mod batch_text;
 mod commands;
+mod dump_text;
 mod failure;
 mod help;
+mod hex_view;
+mod input;
+mod json;
+mod output;
+mod showing;
 mod writing;
 
-use failure::Failure;
-use std::io::Write;
+use std::ffi::OsString;
 use std::process::ExitCode;
 
 fn main() -> ExitCode {
-    match answer() {
-        Ok(()) => ExitCode::SUCCESS,
-        Err(failure) => {
-            eprintln!("lateenbael: {failure}");
-            ExitCode::from(failure.exit_status())
-        }
-    }
-}
-
-fn answer() -> Result<(), Failure> {
-    let words: Result<Vec<String>, _> = std::env::args_os().skip(1).map(|word| word.into_string()).collect();
-    let words = words.map_err(|word| Failure::Usage(format!("{word:?} is not UTF-8")))?;
-    let answer = commands::run(&words)?;
-    std::io::stdout()
-        .write_all(&answer)
-        .map_err(|e| Failure::file("standard output", e))
+    let words: Vec<OsString> = std::env::args_os().skip(1).collect();
+    ExitCode::from(match commands::run(&words) {
+        Ok(answer) => answer.print(),
+        Err(failure) => output::complain(&failure),
+    })
 }

@@ -1,58 +1,150 @@
 //! The commands that write: each is a dry run in memory first, so that a refused one alters no file.
-use crate::args::{Args, Known};
+use crate::args::Args;
 use crate::failure::Failure;
-use lateenbael::{BatchBuilder, DbHeader, Disk, DryRun, Error, Files, Mode, PowerCut, Store, salts_of_the_clock};
-use std::path::Path;
+use crate::input::{Source, at_most_one_standard_input, batches_of, page_word};
+use crate::json::Json;
+use crate::output::Answer;
+use lateenbael::sys::PAGE_SIZE;
+use lateenbael::{BatchBuilder, DbHeader, Disk, DryRun, Error, Files, Mode, PowerCut, Refusal, Store, salts_of_the_clock};
+use std::ffi::OsStr;
+use std::path::{Path, PathBuf};
+use std::time::Duration;
 
-/// The options of every command that opens a store for writing.
-pub const OPENING: Known = Known {
-    flags: &["plain"],
-    valued: &["clock", "cut-after-bytes"],
-};
+pub fn create(args: &Args) -> Result<Answer, Failure> {
+    let [path] = args.words()?;
+    let file = Path::new(path);
+    let files = if args.has("over") {
+        Files::overwriting(file, args.wait()?)?
+    } else {
+        Files::fresh(file)?
+    };
+    let store = Store::create_on(files, salts_of_the_clock())?;
+    let count = store.header()?.page_count;
+    let object = Json::object([("command", "create".into()), ("page_count", count.into())]);
+    Ok(Answer::report_as(args.has("json"), object, format!("created; pages: {count}\n")))
+}
 
-/// How the store is opened, and after how many bytes its power is cut.
-pub struct Opening {
+pub fn commit(args: &Args) -> Result<Answer, Failure> {
+    let (path, words) = args.first_and_rest()?;
+    let pages = words.iter().map(|word| page_word(word)).collect::<Result<Vec<_>, Failure>>()?;
+    let batches: Vec<Source> = args.all("batch").map(Source).collect();
+    at_most_one_standard_input(pages.iter().map(|(_, source)| source).chain(&batches))?;
+    let mut operation = Commit {
+        command: "commit",
+        store: path.into(),
+        count: args.number("count")?,
+        root: args.number("root")?,
+        version: args.number("version")?,
+        freelist: args.number("freelist")?,
+        clock: args.number("clock")?,
+        ..Commit::default()
+    };
+    let opening = Opening::of(args)?;
+    operation.check_count(pages.iter().map(|(page, _)| *page))?;
+    let bytes = pages.into_iter().map(|(page, source)| Ok((page, source.page()?)));
+    operation.pages = bytes.collect::<Result<_, Failure>>()?;
+    operation.batches = batches_of(&batches)?;
+    execute(path, &opening, &operation)
+}
+
+pub fn append(args: &Args) -> Result<Answer, Failure> {
+    let (path, files) = args.first_and_rest()?;
+    let sources: Vec<Source> = files.iter().map(|file| Source(file)).collect();
+    at_most_one_standard_input(sources.iter())?;
+    let opening = Opening::of(args)?;
+    let operation = Commit {
+        command: "append",
+        store: path.into(),
+        clock: args.number("clock")?,
+        batches: batches_of(&sources)?,
+        ..Commit::default()
+    };
+    if operation.batches.is_empty() {
+        return Err(Failure::Usage("no batch to append".to_string()));
+    }
+    execute(path, &opening, &operation)
+}
+
+pub fn checkpoint(args: &Args) -> Result<Answer, Failure> {
+    let [path] = args.words()?;
+    let operation = Checkpoint {
+        store: path.into(),
+        clock: args.number("clock")?,
+    };
+    execute(path, &Opening::of(args)?, &operation)
+}
+
+/// How the store is opened, after how many bytes its power is cut, whether batches may go, and how the report looks.
+struct Opening {
     mode: Mode,
+    wait: Duration,
     power_cut: Option<u64>,
+    may_drop: bool,
+    json: bool,
 }
 
 impl Opening {
-    pub fn of(args: &Args) -> Result<Opening, Failure> {
-        let mode = if args.has("plain") { Mode::Plain } else { Mode::ReadWrite };
-        let power_cut = args.number("cut-after-bytes")?;
-        Ok(Opening { mode, power_cut })
+    fn of(args: &Args) -> Result<Opening, Failure> {
+        Ok(Opening {
+            mode: if args.has("plain") { Mode::Plain } else { Mode::ReadWrite },
+            wait: args.wait()?,
+            power_cut: args.number("cut-after-bytes")?,
+            may_drop: args.has("fold"),
+            json: args.has("json"),
+        })
     }
 }
 
-/// Calls on an open store, and the line that reports them.
-pub trait Operation {
-    fn run<D: Disk>(&self, store: &mut Store<D>) -> Result<String, Error>;
+/// What an operation did.
+struct Report {
+    object: Json,
+    text: String,
+    /// The batches that a checkpoint took away which was not asked for.
+    dropped: usize,
 }
 
-/// Does the operation on a dry run, then on the files.
-pub fn execute(path: &str, opening: &Opening, operation: &impl Operation) -> Result<Vec<u8>, Failure> {
-    let file = Path::new(path);
-    let unusable = |error| Failure::file(path, error);
-    let dry_run = DryRun::of(file).map_err(unusable)?;
-    operation.run(&mut Store::open_on(dry_run, opening.mode, salts_of_the_clock())?)?;
-    let disk = PowerCut::new(Files::existing(file, false).map_err(unusable)?);
-    let mut store = Store::open_on(disk, opening.mode, salts_of_the_clock())?;
+/// Calls on an open store, and the report of them.
+trait Operation {
+    fn run<D: Disk>(&self, store: &mut Store<D>) -> Result<Report, Failure>;
+}
+
+/// Does the operation on a dry run, then on the files, under one lock.
+fn execute(path: &OsStr, opening: &Opening, operation: &impl Operation) -> Result<Answer, Failure> {
+    let mut files = Files::existing(Path::new(path), false, opening.wait)?;
+    let mut tried = Store::open_on(DryRun::over(&mut files), opening.mode, salts_of_the_clock())?;
+    let dropped = operation.run(&mut tried)?.dropped;
+    if dropped > 0 && !opening.may_drop {
+        return Err(would_drop(path, dropped));
+    }
+    drop(tried);
+    let mut store = Store::open_on(PowerCut::new(files), opening.mode, salts_of_the_clock())?;
     if let Some(bytes) = opening.power_cut {
         store.disk_mut().arm(bytes);
     }
-    Ok(operation.run(&mut store)?.into_bytes())
+    let report = operation.run(&mut store)?;
+    Ok(Answer::report_as(opening.json, report.object, report.text))
+}
+
+fn would_drop(path: &OsStr, dropped: usize) -> Failure {
+    Failure::Refused(format!(
+        "{}: this commit brings the log to 100 frames, so a fold follows, and batches end with a fold: {dropped} would be gone. Read them \
+         out and fold first (lateenbael batches, lateenbael fold), or give --fold to let them go. Nothing was altered",
+        path.display()
+    ))
 }
 
 /// A commit: what of the header is given, pages to stage and batches to append.
 #[derive(Default)]
-pub struct Commit {
-    pub count: Option<u32>,
-    pub root: Option<u32>,
-    pub version: Option<u16>,
-    pub freelist: Option<u32>,
-    pub clock: Option<u64>,
-    pub pages: Vec<(u32, Vec<u8>)>,
-    pub batches: Vec<BatchBuilder>,
+struct Commit {
+    command: &'static str,
+    store: PathBuf,
+    count: Option<u32>,
+    root: Option<u32>,
+    version: Option<u16>,
+    freelist: Option<u32>,
+    clock: Option<u64>,
+    pages: Vec<(u32, [u8; PAGE_SIZE])>,
+    batches: Vec<BatchBuilder>,
 }
 
 impl Commit {
@@ -67,43 +159,88 @@ impl Commit {
         }
     }
 
-    fn report(&self, written: usize, checkpointed: bool) -> String {
-        let mut report = format!("committed; pages that differed: {written}");
+    /// Refuses a page that the given count would leave out. A count of 0 has a refusal of its own.
+    fn check_count(&self, mut pages: impl Iterator<Item = u32>) -> Result<(), Failure> {
+        let count = self.count.filter(|count| *count > 0).unwrap_or(u32::MAX);
+        match pages.find(|page| *page >= count) {
+            Some(page) => Err(Failure::Refused(format!("page {page}: --count {count} would leave it out"))),
+            None => Ok(()),
+        }
+    }
+
+    fn stage_pages<D: Disk>(&self, store: &mut Store<D>) -> Result<(), Failure> {
+        for (page, bytes) in &self.pages {
+            let staged = store.stage_page(*page, bytes);
+            staged.map_err(|error| Failure::from(error).about(format!("page {page}")))?;
+        }
+        Ok(())
+    }
+
+    fn append_batches<D: Disk>(&self, store: &mut Store<D>) -> Result<(), Failure> {
+        for (n, batch) in (1..).zip(&self.batches) {
+            let appended = store.append_mvcc_batch(batch.body());
+            appended.map_err(|error| Failure::from(error).about(format!("batch {n} of {}", self.batches.len())))?;
+        }
+        Ok(())
+    }
+
+    /// A refused commit, with what it is about.
+    fn refused(&self, error: Error) -> Failure {
+        let about = match (error.refusal(), self.count, self.version) {
+            (Some(Refusal::NewHeader), Some(count), _) if !(1..=1024).contains(&count) => format!("--count {count}"),
+            (Some(Refusal::NewHeader), _, Some(version)) => format!("--version {version}"),
+            _ => return Failure::of_store(&self.store, error),
+        };
+        Failure::from(error).about(about)
+    }
+
+    fn report(&self, written: usize, checkpointed: bool, dropped: usize) -> Report {
+        let mut text = format!("committed; pages that differed: {written}");
         if !self.batches.is_empty() {
-            report += &format!("; batches sealed: {}", self.batches.len());
+            text += &format!("; batches sealed: {}", self.batches.len());
         }
         if checkpointed {
-            report += "; the log was folded, and its batches are gone";
+            text += &format!("; the log was folded; batches gone with it: {dropped}");
         }
-        report + "\n"
+        let object = Json::object([
+            ("command", self.command.into()),
+            ("pages_that_differed", written.into()),
+            ("batches_committed", self.batches.len().into()),
+            ("checkpointed", checkpointed.into()),
+            ("batches_dropped", dropped.into()),
+        ]);
+        let text = text + "\n";
+        Report { object, text, dropped }
     }
 }
 
 impl Operation for Commit {
-    fn run<D: Disk>(&self, store: &mut Store<D>) -> Result<String, Error> {
+    fn run<D: Disk>(&self, store: &mut Store<D>) -> Result<Report, Failure> {
         raise_clock(store, self.clock)?;
-        for (page, bytes) in &self.pages {
-            store.stage_page(*page, bytes)?;
-        }
-        for batch in &self.batches {
-            store.append_mvcc_batch(batch.body())?;
-        }
-        let sequence = store.wal_header()?.checkpoint_seq;
-        let written = store.commit(self.header(store.header()?))?;
-        Ok(self.report(written, store.wal_header()?.checkpoint_seq != sequence))
+        self.stage_pages(store)?;
+        self.append_batches(store)?;
+        let (sequence, batches) = (store.wal_header()?.checkpoint_seq, store.batch_count()?);
+        let written = store.commit(self.header(store.header()?)).map_err(|error| self.refused(error))?;
+        let checkpointed = store.wal_header()?.checkpoint_seq != sequence;
+        Ok(self.report(written, checkpointed, if checkpointed { batches } else { 0 }))
     }
 }
 
 /// A checkpoint: document 01's fold.
-pub struct Checkpoint {
-    pub clock: Option<u64>,
+struct Checkpoint {
+    store: PathBuf,
+    clock: Option<u64>,
 }
 
 impl Operation for Checkpoint {
-    fn run<D: Disk>(&self, store: &mut Store<D>) -> Result<String, Error> {
+    fn run<D: Disk>(&self, store: &mut Store<D>) -> Result<Report, Failure> {
         raise_clock(store, self.clock)?;
-        let written = store.checkpoint()?;
-        Ok(format!("folded; pages written: {written}\n"))
+        let written = store.checkpoint().map_err(|error| Failure::of_store(&self.store, error))?;
+        Ok(Report {
+            object: Json::object([("command", "checkpoint".into()), ("pages_written", written.into())]),
+            text: format!("folded; pages written: {written}\n"),
+            dropped: 0,
+        })
     }
 }
 

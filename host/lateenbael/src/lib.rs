@@ -45,6 +45,7 @@ mod power_cut;
 mod refusal;
 mod salts;
 mod settle;
+mod snapshot;
 mod store;
 
 pub use batch::{Batch, BatchBuilder, Column, Columns, Record, Value, Vector};
@@ -60,6 +61,7 @@ pub use options::{DEFAULT_WAIT, Mode, OpenOptions};
 pub use power_cut::PowerCut;
 pub use refusal::Refusal;
 pub use salts::{Salts, salts_of_the_clock};
+pub use snapshot::{Page, Snapshot, SnapshotError};
 pub use store::Store;
 
 /// The crate's version.

@@ -1,0 +1,155 @@
+//! The words of a call: commands, options, and names of any bytes.
+mod common;
+
+use common::WorkDir;
+use std::ffi::{OsStr, OsString};
+use std::fs;
+use std::os::unix::ffi::OsStrExt;
+
+#[test]
+fn help_names_every_command() {
+    let dir = WorkDir::new();
+    let help = dir.done("--help");
+    assert_eq!(dir.done("help"), help);
+    for command in [
+        "create",
+        "info",
+        "check",
+        "log",
+        "batches",
+        "read",
+        "page",
+        "commit",
+        "append",
+        "checkpoint",
+        "copy",
+        "dump",
+        "restore",
+    ] {
+        assert!(help.contains(&format!("  lateenbael {command} ")), "{command}");
+        let more = dir.done(&format!("help {command}"));
+        assert!(more.starts_with(&format!("lateenbael {command} ")), "{command}");
+        for line in ["--help", "-h", "grips -h", "--help --nonsense"] {
+            assert_eq!(dir.done(&format!("{command} {line}")), more);
+        }
+    }
+}
+
+#[test]
+fn words_that_are_not_understood_are_status_2() {
+    let dir = WorkDir::with_store();
+    let table = [
+        ("", "no command"),
+        ("lift grips", "lift is no command"),
+        ("help lift", "lift is no command"),
+        ("create", "expected: lateenbael create"),
+        ("info grips grips", "expected: lateenbael info"),
+        ("read grips one out", "PAGE: \"one\" is no number"),
+        ("page grips one", "PAGE: \"one\" is no number"),
+        ("commit grips 2", "2 is not PAGE=FILE"),
+        ("commit grips 2=", "2= names no file"),
+        ("commit grips x=p1", "x=p1: \"x\" is no number"),
+        ("commit grips =p1", "=p1: \"\" is no number"),
+        ("commit grips 2=- 3=-", "standard input (-) is given more than once"),
+        ("commit grips 2=- --batch -", "standard input (-) is given more than once"),
+        ("append grips - -", "standard input (-) is given more than once"),
+        ("append grips", "no batch to append"),
+        ("dump grips one two", "expected: lateenbael dump STORE [OUTFILE]"),
+        ("copy grips", "expected: lateenbael copy STORE NEW"),
+        ("restore grips", "expected: lateenbael restore FILE NEW"),
+        ("--version grips", "expected: lateenbael --version"),
+    ];
+    for (line, message) in table {
+        dir.fails(line, 2, message);
+    }
+}
+
+#[test]
+fn options_that_are_not_understood_are_status_2() {
+    let dir = WorkDir::with_store();
+    let table = [
+        ("info grips --over", "--over is no option here"),
+        ("create --over=yes grips", "--over=yes is no option here"),
+        ("info -x grips", "-x is no option here"),
+        ("commit grips --count", "--count wants a value"),
+        ("commit grips --count=-1", "--count: \"-1\" is no number"),
+        ("commit grips --count x", "--count: \"x\" is no number"),
+        ("commit grips --version 70000", "--version: \"70000\" is no number that fits"),
+        ("info grips --wait", "--wait wants a value"),
+        ("info grips --wait soon", "--wait: \"soon\" is no number of seconds"),
+        ("info grips --wait=-1", "--wait: \"-1\" is no number of seconds"),
+        ("commit grips --wait nan", "--wait: \"nan\" is no number of seconds"),
+        ("create grips --over --wait inf", "--wait: \"inf\" is no number of seconds"),
+        ("log grips --wait 1", "--wait is no option here"),
+        (
+            "checkpoint grips --cut-after-bytes many",
+            "--cut-after-bytes: \"many\" is no number",
+        ),
+    ];
+    for (line, message) in table {
+        dir.fails(line, 2, message);
+    }
+}
+
+#[test]
+fn the_version_is_the_packages() {
+    let dir = WorkDir::new();
+    assert_eq!(dir.done("--version"), concat!("lateenbael ", env!("CARGO_PKG_VERSION"), "\n"));
+    assert_eq!(dir.done("-V"), dir.done("--version"));
+}
+
+#[test]
+fn what_follows_two_dashes_is_no_option() {
+    let dir = WorkDir::with_store();
+    dir.done("create -- -h");
+    dir.fails("info --json -- grips --json", 2, "expected: lateenbael info STORE");
+    assert!(dir.shows("info -- -h").starts_with("page count     2\n"));
+    dir.text("--plain", "batch 5\n");
+    dir.done("append -- grips --plain");
+    dir.text("=odd=", "batch 6\n");
+    dir.done("commit grips --batch==odd=");
+    assert_eq!(dir.shows("batches grips"), "batch 5\nbatch 6\n");
+}
+
+#[test]
+fn names_need_not_be_utf_8() {
+    let dir = WorkDir::with_store();
+    let odd = |text: &[u8]| OsStr::from_bytes(text).to_os_string();
+    let store = odd(b"gr\xffps");
+    let call = |words: &[&OsStr]| {
+        let printed = dir.call_with(words);
+        assert_eq!((printed.status, printed.err.as_str()), (0, ""), "{words:?}");
+        printed.out
+    };
+    fs::write(dir.path("p1").with_file_name(odd(b"p\xfe")), [7; 4096]).unwrap();
+    fs::write(dir.path("p1").with_file_name(odd(b"b\xfe=")), "batch 9\n").unwrap();
+    call(&["create".as_ref(), &store]);
+    call(&["commit".as_ref(), &store, &odd(b"1=p\xfe"), &odd(b"--batch=b\xfe=")]);
+    assert!(call(&["log".as_ref(), &store]).contains("0 batch 0 0\n1 page 1 0\n"));
+    assert_eq!(call(&["batches".as_ref(), &store]), "batch 9\n");
+    call(&["read".as_ref(), &store, "1".as_ref(), &odd(b"out\xfe")]);
+    assert_eq!(fs::read(dir.path("p1").with_file_name(odd(b"out\xfe"))).unwrap(), [7; 4096]);
+    let missing: Vec<OsString> = vec!["commit".into(), store, odd(b"1=none\xfe")];
+    let printed = dir.call_with(&missing);
+    assert!(
+        printed.status == 1 && printed.err.starts_with("lateenbael: none\u{fffd}: "),
+        "{}",
+        printed.err
+    );
+}
+
+#[test]
+fn a_page_comes_from_standard_input() {
+    let dir = WorkDir::with_store();
+    let printed = dir.shell("$P commit grips 2=- 3=p4 < p8");
+    assert_eq!((printed.status, printed.err.as_str()), (0, ""));
+    assert_eq!((dir.page(2), dir.page(3)), (vec![8; 4096], vec![4; 4096]));
+    let printed = dir.shell("cat p8 p8 | $P commit grips 2=-");
+    assert_eq!(
+        (printed.status, printed.err.as_str()),
+        (1, "lateenbael: standard input: 4097 bytes or more, and a page has 4096\n")
+    );
+    let printed = dir.shell("echo batch 4 | $P commit grips 2=p2 --batch -");
+    assert_eq!((printed.status, printed.err.as_str()), (0, ""));
+    assert_eq!(dir.shows("batches grips"), "batch 4\n");
+}
