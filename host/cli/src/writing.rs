@@ -40,7 +40,7 @@ pub fn commit(args: &Args) -> Result<Answer, Failure> {
         ..Commit::default()
     };
     let opening = Opening::of(args)?;
-    operation.check_count(pages.iter().map(|(page, _)| *page))?;
+    operation.check_pages(pages.iter().map(|(page, _)| *page))?;
     let bytes = pages.into_iter().map(|(page, source)| Ok((page, source.page()?)));
     operation.pages = bytes.collect::<Result<_, Failure>>()?;
     operation.batches = batches_of(&batches)?;
@@ -159,10 +159,12 @@ impl Commit {
         }
     }
 
-    /// Refuses a page that the given count would leave out. A count of 0 has a refusal of its own.
-    fn check_count(&self, mut pages: impl Iterator<Item = u32>) -> Result<(), Failure> {
+    /// Refuses a page that would be committed and never read: page 0, which every commit makes of the header, and one that the given count
+    /// leaves out. A count of 0 has a refusal of its own.
+    fn check_pages(&self, mut pages: impl Iterator<Item = u32>) -> Result<(), Failure> {
         let count = self.count.filter(|count| *count > 0).unwrap_or(u32::MAX);
-        match pages.find(|page| *page >= count) {
+        match pages.find(|page| *page == 0 || *page >= count) {
+            Some(0) => Err(Failure::Refused("page 0 is the header's, which the options tell".to_string())),
             Some(page) => Err(Failure::Refused(format!("page {page}: --count {count} would leave it out"))),
             None => Ok(()),
         }

@@ -24,6 +24,7 @@ fn refusals_are_status_1_by_number_and_name() {
         ("commit grips 2=long", "long: 4097 bytes or more, and a page has 4096"),
         ("commit grips 2=/dev/zero", "/dev/zero: 4097 bytes or more"),
         ("commit none 2=long", "long: 4097 bytes or more"),
+        ("commit grips 0=p6", "page 0 is the header's"),
         ("commit grips 6=p6 --count 2", "page 6: --count 2 would leave it out"),
         ("commit none 2=none --count 2", "page 2: --count 2 would leave it out"),
         ("commit grips 1024=p1", "page 1024: refused 11 Page: "),
