@@ -117,7 +117,7 @@ static bool open_engine(store_file *s, enum store_mode mode, store_error *error)
     size_t main_len = 0, log_len = 0;
     bool has_log = s->log.fd >= 0, writing = mode == STORE_READ_WRITE;
     if ((writing && !flush_before_reading(s, error)) || !load(&s->main, mode, &main_len, error) ||
-        (has_log && !load(&s->log, mode, &log_len, error)) || !flush(s, error)) {
+        (has_log && !load(&s->log, mode, &log_len, error))) {
         return false;
     }
     lateenbael_answered opened = writing ? lateenbael_open_clean(AREAS(s), main_len, log_len, 0, has_log, new_salt(0))
@@ -129,7 +129,7 @@ static bool open_engine(store_file *s, enum store_mode mode, store_error *error)
     if (!writing) {
         return true;
     }
-    return has_log ? set_len(&s->log, s->store.wal.len, error) && flush(s, error) : make_log(s, error);
+    return (has_log ? set_len(&s->log, s->store.wal.len, error) : make_log(s, error)) && flush(s, error);
 }
 
 static uint8_t *new_area(size_t size) {
