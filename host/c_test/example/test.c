@@ -377,6 +377,11 @@ static void strange_files(void) {
     CHECK(mkfifo("pipe", 0600) == 0 && store_file_open("pipe", STORE_READ_ONLY, &error) == NULL && error.code == EINVAL);
     CHECK(store_file_open("nothing", STORE_READ_WRITE, &error) == NULL && error.code == ENOENT);
     CHECK(store_file_create("no/folder", &error) == NULL && error.code == ENOENT);
+    CHECK(store_file_create("folder/", &error) == NULL && error.code == ENOENT);
+    char path[5000];
+    memset(path, 'a', sizeof path - 1);
+    path[sizeof path - 1] = 0;
+    CHECK(store_file_create(path, &error) == NULL && error.code == ENAMETOOLONG);
     CHECK(files_here(true) == 1);
 }
 

@@ -39,23 +39,25 @@ static bool flush(store_file *s, store_error *error) {
 /* ---- opening */
 
 static bool joined(char out[NAME_SIZE], const char *first, const char *second) {
-    int len = snprintf(out, NAME_SIZE, "%s%s", first, second);
+    if ((size_t)snprintf(out, NAME_SIZE, "%s%s", first, second) < NAME_SIZE) {
+        return true;
+    }
     errno = ENAMETOOLONG;
-    return len >= 0 && len < NAME_SIZE;
+    return false;
 }
 
 /* The path of a file that is not there yet: its folder's resolved path, and its name. */
 static bool resolve_new(const char *path, char out[NAME_SIZE]) {
-    char folder[NAME_SIZE], resolved[PATH_MAX];
+    char folder[NAME_SIZE], resolved[PATH_MAX], start[NAME_SIZE];
     const char *slash = strrchr(path, '/');
     const char *name = slash == NULL ? path : slash + 1;
-    int len = snprintf(folder, sizeof folder, "%.*s.", (int)(name - path), path);
-    errno = *name == 0 ? ENOENT : ENAMETOOLONG;
-    if (*name == 0 || len < 0 || len >= NAME_SIZE || realpath(folder, resolved) == NULL) {
+    if (*name == 0) {
+        errno = ENOENT;
         return false;
     }
-    char start[NAME_SIZE];
-    return joined(start, strcmp(resolved, "/") == 0 ? "" : resolved, "/") && joined(out, start, name);
+    /* "x" has the folder ".", "a/x" has "a/."; one that has no room here is too long for realpath as well */
+    snprintf(folder, sizeof folder, "%.*s.", (int)(name - path), path);
+    return realpath(folder, resolved) != NULL && joined(start, strcmp(resolved, "/") == 0 ? "" : resolved, "/") && joined(out, start, name);
 }
 
 /* The log is named by the main file's resolved path: a store that is opened by a symbolic link must not get a second log. */
@@ -77,12 +79,12 @@ static bool has_one_name(const one_file *f, store_error *error) {
 }
 
 static bool open_both(store_file *s, enum store_mode mode, store_error *error) {
-    int access = mode == STORE_READ_ONLY ? O_RDONLY : O_RDWR;
-    s->main.fd = open_locked(s->main.path, access, mode == STORE_READ_ONLY ? LOCK_SH : LOCK_EX, error);
+    int flags = mode == STORE_READ_ONLY ? O_RDONLY : O_RDWR;
+    s->main.fd = open_locked(s->main.path, flags, mode == STORE_READ_ONLY ? LOCK_SH : LOCK_EX, error);
     if (s->main.fd < 0 || !has_one_name(&s->main, error)) {
         return false;
     }
-    s->log.fd = open(s->log.path, access | O_CLOEXEC | O_NONBLOCK);
+    s->log.fd = open(s->log.path, flags | O_CLOEXEC | O_NONBLOCK);
     return s->log.fd >= 0 || errno == ENOENT || failed(error, "opening", s->log.path);
 }
 
@@ -159,7 +161,7 @@ static store_file *new_store(store_error *error) {
 /* Header and archive must belong together before any struct goes over. */
 static store_file *new_store_at(const char *path, store_error *error) {
     if (lateenbael_version() != LATEENBAEL_VERSION) {
-        tell(error, LATEENBAEL_OK, EINVAL, "%s is not of the archive's version", "lateenbael.h");
+        tell(error, LATEENBAEL_OK, EINVAL, "lateenbael.h is not of the archive's version");
         return NULL;
     }
     store_file *s = new_store(error);
