@@ -41,6 +41,25 @@
  *         } while (step.kind == LATEENBAEL_STEP_WRITE);
  *
  * If the disk fails on the way, the host stops using the store, and opens the files anew.
+ *
+ * What a host on files owes, which the crate and the program lateenbael do too; host/examples/c does all of it:
+ *
+ *     names     STORE is the main file's path with symbolic links followed (realpath), STORE-wal is the log. A main file with more than
+ *               one hard link has two names and thus two logs: refuse it.
+ *     lock      flock on the main file for as long as the store is open: LOCK_EX to write, LOCK_SH to read only. When it is had, see
+ *               whether STORE is still that file (device and inode of fstat and stat); if not, open again.
+ *     creation  Make both files as STORE-new, locked, and STORE-wal-new, write and fsync them, rename the log, then the main file, and
+ *               fsync the folder. A creation that was cut leaves no STORE and is done again; of its files only STORE-wal may have its
+ *               name already, with 32 bytes. A missing log is made the same way: STORE-wal-new, fsync, rename, fsync of the folder.
+ *     flush     fsync of every file with writes since its last one, the log first; not only of the step's own file.
+ *     opening   To write, go by what is on the medium: fsync both files and the folder, then read past the cache (O_DIRECT, into an
+ *               aligned buffer), write again what was read where the cache differs, and fsync. For after an fsync that failed, in an
+ *               earlier process too, the cache may hold bytes that the medium has not, and the next fsync succeeds without storing
+ *               them. Where the file system has no O_DIRECT, read as usual, write all of it again, and fsync.
+ *     failure   After a write or fsync that failed: stop using the store, open anew.
+ *     batches   A checkpoint ends them, and a commit that brings the log to LATEENBAEL_CHECKPOINT_FRAMES frames brings one on: read
+ *               committed batches before. store.wal.frame_count tells how many frames the log has.
+ *     count     A page staged at or above the new page count is committed and then reads as nothing: refuse it before the commit.
  */
 #ifndef LATEENBAEL_H
 #define LATEENBAEL_H
@@ -52,6 +71,15 @@
 extern "C" {
 #endif
 
+/* The version of this header; lateenbael_version() is the archive's. */
+#define LATEENBAEL_VERSION_MAJOR 0
+#define LATEENBAEL_VERSION_MINOR 1
+#define LATEENBAEL_VERSION_PATCH 0
+#define LATEENBAEL_VERSION (LATEENBAEL_VERSION_MAJOR * 1000000 + LATEENBAEL_VERSION_MINOR * 1000 + LATEENBAEL_VERSION_PATCH)
+
+/* The archive's version: where it is not LATEENBAEL_VERSION, header and archive do not belong together. */
+uint32_t lateenbael_version(void);
+
 #define LATEENBAEL_PAGE_SIZE 4096
 #define LATEENBAEL_FRAME_SIZE 4112 /* a page's frame in the log: 16 bytes of heading, and the page */
 #define LATEENBAEL_LOG_AREA 4210720
@@ -59,6 +87,7 @@ extern "C" {
 #define LATEENBAEL_STAGING_AREA 262144
 #define LATEENBAEL_PAGES 1024
 #define LATEENBAEL_STAGED_PAGES 64
+#define LATEENBAEL_CHECKPOINT_FRAMES 100 /* a commit that brings the log to so many frames is followed by a checkpoint */
 #define LATEENBAEL_LISTING_SIZE 2048
 #define LATEENBAEL_MVCC_FRAME_MARKER 4294967295u /* the page number of a frame that holds a batch */
 
@@ -88,6 +117,14 @@ enum lateenbael_refusal {
     LATEENBAEL_REFUSED_FIT = 20,        /* a batch being built would pass 4,096 bytes */
     LATEENBAEL_REFUSED_NO_RECORD = 21   /* a column with no present record last */
 };
+
+/* A refusal's name, as the program lateenbael prints it; "OK" for 0, "unknown" for a number that none has. */
+static inline const char *lateenbael_refusal_name(uint32_t refusal) {
+    static const char *const names[] = {"OK",       "Area",      "Short",    "Magic", "Version", "PageSize",  "Limit",   "MainShort",
+                                        "PageZero", "Busy",      "ReadOnly", "Page",  "Staging", "NewHeader", "Joining", "LogFull",
+                                        "Clock",    "Truncated", "Tag",      "Text",  "Fit",     "NoRecord"};
+    return refusal < sizeof names / sizeof *names ? names[refusal] : "unknown";
+}
 
 /* ---- the store */
 

@@ -131,8 +131,24 @@ PLACE(building, counted, 8);
 PLACE(building, records, 12);
 PLACE(building, columns, 14);
 
+_Static_assert(LATEENBAEL_VERSION == 1000, "0.1.0 as one number");
+
+/* Header and archive belong together, and every refusal has its name. */
+static void names(void) {
+    static const char *const expected[] = {"OK",       "Area",      "Short",    "Magic", "Version", "PageSize",  "Limit",   "MainShort",
+                                           "PageZero", "Busy",      "ReadOnly", "Page",  "Staging", "NewHeader", "Joining", "LogFull",
+                                           "Clock",    "Truncated", "Tag",      "Text",  "Fit",     "NoRecord",  "unknown"};
+    CHECK(lateenbael_version() == LATEENBAEL_VERSION);
+    for (uint32_t i = 0; i < sizeof expected / sizeof *expected; i++) {
+        CHECK(strcmp(lateenbael_refusal_name(i), expected[i]) == 0);
+    }
+    CHECK(strcmp(lateenbael_refusal_name(LATEENBAEL_REFUSED_JOINING), "Joining") == 0);
+    CHECK(strcmp(lateenbael_refusal_name(UINT32_MAX), "unknown") == 0);
+}
+
 /* The compiler has checked all of that; here, that a call fills the very fields that are named. */
 void test_layout(void) {
+    names();
     uint8_t buffer[PAGE];
     lateenbael_db_header header = {0x01020304, 0x05060708, 6, 0x0b0c0d0e};
     CHECK(lateenbael_encode_header(header, buffer, PAGE) == LATEENBAEL_OK);

@@ -2,3 +2,4 @@
 pub mod Batch
 pub mod Log
 pub mod Store
+pub mod Version

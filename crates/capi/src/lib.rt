@@ -3,3 +3,4 @@
 pub mod batch;
 pub mod log;
 pub mod store;
+pub mod version;

@@ -2,6 +2,8 @@
 //! Nothing here is safe; the crate `lateenbael` is.
 #![no_std]
 
+/// The version of these declarations, major * 1,000,000 + minor * 1,000 + patch; [`lateenbael_version`] is the archive's.
+pub const VERSION: u32 = 1000;
 pub const PAGE_SIZE: usize = 4096;
 pub const FRAME_SIZE: usize = 4112;
 pub const LOG_AREA: usize = 4210720;
@@ -9,6 +11,8 @@ pub const MAIN_AREA: usize = 4194304;
 pub const STAGING_AREA: usize = 262144;
 pub const PAGES: usize = 1024;
 pub const STAGED_PAGES: usize = 64;
+/// A commit that brings the log to so many frames is followed by a checkpoint.
+pub const CHECKPOINT_FRAMES: usize = 100;
 pub const LISTING_SIZE: usize = 2048;
 pub const MVCC_FRAME_MARKER: u32 = 4294967295;
 
@@ -262,6 +266,8 @@ pub struct Building {
 }
 
 unsafe extern "C" {
+    /// The archive's version; it reads and writes nothing.
+    pub safe fn lateenbael_version() -> u32;
     pub fn lateenbael_create(
         table: *mut u32,
         table_entries: usize,

@@ -6,9 +6,12 @@ use std::mem::size_of;
 const HEADER: &str = include_str!("../../lateenbael.h");
 const DECLARATIONS: &str = include_str!("../src/lib.rs");
 
-/// The functions that a text declares: names with a parenthesis right behind, outside of comments.
+/// The functions that a text declares: names with a parenthesis right behind, outside of comments. What the header itself defines
+/// (`static inline`) is no function of the archive.
 fn functions(text: &str) -> BTreeSet<&str> {
-    let lines = text.lines().filter(|line| !line.trim_start().starts_with(['*', '/']));
+    let lines = text
+        .lines()
+        .filter(|line| !line.trim_start().starts_with(['*', '/']) && !line.starts_with("static inline"));
     let words = lines.flat_map(|line| line.split([' ', '*']));
     words
         .filter_map(|word| word.split_once('(').map(|(name, _)| name))
@@ -19,7 +22,7 @@ fn functions(text: &str) -> BTreeSet<&str> {
 #[test]
 fn the_functions_are_the_same() {
     assert_eq!(functions(HEADER), functions(DECLARATIONS));
-    assert_eq!(functions(HEADER).len(), 50);
+    assert_eq!(functions(HEADER).len(), 51);
 }
 
 #[test]
@@ -32,6 +35,7 @@ fn the_constants_are_the_same() {
         ("STAGING_AREA", sys::STAGING_AREA),
         ("PAGES", sys::PAGES),
         ("STAGED_PAGES", sys::STAGED_PAGES),
+        ("CHECKPOINT_FRAMES", sys::CHECKPOINT_FRAMES),
         ("LISTING_SIZE", sys::LISTING_SIZE),
         ("MVCC_FRAME_MARKER", sys::MVCC_FRAME_MARKER as usize),
     ];
@@ -43,6 +47,37 @@ fn the_constants_are_the_same() {
                 .is_some_and(|rest| !rest.starts_with(|c: char| c.is_ascii_digit()))),
             "{line}"
         );
+    }
+}
+
+/// The number that a `#define` of the header gives.
+fn defined(name: &str) -> u32 {
+    let prefix = format!("#define LATEENBAEL_{name} ");
+    let mut found = HEADER.lines().filter_map(|line| line.strip_prefix(&prefix));
+    found.next().unwrap().parse().unwrap()
+}
+
+#[test]
+fn header_archive_and_crate_have_one_version() {
+    let parts = ["VERSION_MAJOR", "VERSION_MINOR", "VERSION_PATCH"].map(defined);
+    assert_eq!(parts.map(|part| part.to_string()).join("."), env!("CARGO_PKG_VERSION"));
+    assert_eq!(parts[0] * 1_000_000 + parts[1] * 1_000 + parts[2], sys::VERSION);
+    assert_eq!(sys::lateenbael_version(), sys::VERSION);
+}
+
+/// The names in the header's table, in order.
+fn refusal_names() -> Vec<&'static str> {
+    let table = HEADER.split_once("names[] = {").unwrap().1.split_once('}').unwrap().0;
+    table.split(',').map(|name| name.trim().trim_matches('"')).collect()
+}
+
+#[test]
+fn refusals_have_the_names_that_the_crate_gives_them() {
+    let crate_names = include_str!("../../lateenbael/src/refusal.rs");
+    let names = refusal_names();
+    assert_eq!((names.len(), names[0]), (22, "OK"));
+    for (number, name) in names.iter().enumerate().skip(1) {
+        assert!(crate_names.contains(&format!("    {name} = {number},\n")), "{name} = {number}");
     }
 }
 

@@ -1,0 +1,416 @@
+/* The C example on real files: kills and failures at every system call, a cache that forgets, and what is refused. It makes its files in
+ * the folder that it is run in. */
+#define _GNU_SOURCE
+#include "../../examples/c/store_file.h"
+#include "calls.h"
+#include <dirent.h>
+#include <errno.h>
+#include <fcntl.h>
+#include <stdio.h>
+#include <stdlib.h>
+#include <string.h>
+#include <sys/mman.h>
+#include <sys/stat.h>
+#include <sys/wait.h>
+#include <unistd.h>
+
+#define PAGE LATEENBAEL_PAGE_SIZE
+#define CHECK(what) check(what, #what, __LINE__)
+
+static unsigned checks, failures;
+static store_error error;
+
+static bool check(bool holds, const char *what, int line) {
+    checks++;
+    if (!holds) {
+        failures++;
+        printf("test.c:%d: failed: %s (%s)\n", line, what, error.text);
+    }
+    return holds;
+}
+
+/* ---- small parts */
+
+/* How many files the folder has; with `remove` it has none any more. */
+static unsigned files_here(bool remove) {
+    unsigned count = 0;
+    DIR *folder = opendir(".");
+    for (struct dirent *entry = readdir(folder); entry != NULL; entry = readdir(folder)) {
+        if (entry->d_name[0] != '.') {
+            count++;
+            if (remove) {
+                unlink(entry->d_name);
+            }
+        }
+    }
+    closedir(folder);
+    return count;
+}
+
+static bool is_there(const char *path) {
+    struct stat status;
+    return lstat(path, &status) == 0;
+}
+
+static off_t length_of(const char *path) {
+    struct stat status;
+    return lstat(path, &status) == 0 ? status.st_size : -1;
+}
+
+static void make_file(const char *path, off_t len) {
+    int fd = open(path, O_RDWR | O_CREAT, 0600);
+    CHECK(fd >= 0 && ftruncate(fd, len) == 0);
+    close(fd);
+}
+
+/* A page is told by its first byte; all others are the same. */
+static bool commit_page(store_file *s, uint32_t page, uint8_t byte) {
+    uint8_t bytes[PAGE];
+    lateenbael_db_header header = store_file_header(s);
+    header.page_count = 3;
+    memset(bytes, byte, PAGE);
+    return store_file_stage(s, page, bytes, &error) && store_file_commit(s, header, &error);
+}
+
+static bool append_batch(store_file *s, uint64_t time) {
+    uint8_t body[PAGE];
+    return lateenbael_mvcc_start(body, PAGE, time).refusal == LATEENBAEL_OK && store_file_append(s, body, &error);
+}
+
+static int byte_of(const store_file *s, uint32_t page) {
+    const uint8_t *bytes = store_file_page(s, page);
+    return bytes != NULL && memcmp(bytes, bytes + 1, PAGE - 1) == 0 ? bytes[0] : -1;
+}
+
+static size_t batches_of(const store_file *s) {
+    size_t frame = 0, count = 0;
+    while (store_file_batch(s, &frame) != NULL) {
+        count++;
+    }
+    return count;
+}
+
+/* A store whose page 2 is that byte. */
+static void make_store(const char *path, uint8_t byte) {
+    store_file *s = store_file_create(path, &error);
+    if (CHECK(s != NULL)) {
+        CHECK(commit_page(s, 2, byte));
+        store_file_close(s);
+    }
+}
+
+/* What page 2 of a store is. */
+static int seen_in(const char *path, enum store_mode mode) {
+    store_file *s = store_file_open(path, mode, &error);
+    int byte = s == NULL ? -1 : byte_of(s, 2);
+    if (s != NULL) {
+        store_file_close(s);
+    }
+    return byte;
+}
+
+/* ---- kills: a child process does the work up to one of its system calls */
+
+/* What the child has been told is committed. */
+static volatile int *acknowledged;
+
+static bool killed_at(unsigned call, void (*work)(void)) {
+    fflush(stdout);
+    pid_t child = fork();
+    if (child == 0) {
+        kill_at(call);
+        work();
+        _exit(failures != 0);
+    }
+    int status = 0;
+    CHECK(child > 0 && waitpid(child, &status, 0) == child);
+    CHECK(WIFSIGNALED(status) || WEXITSTATUS(status) == 0);
+    return WIFSIGNALED(status);
+}
+
+static void create(void) {
+    store_file *s = store_file_create("grips", &error);
+    CHECK(s != NULL);
+    store_file_close(s);
+}
+
+/* Wherever a creation is cut, there is a whole store or none, and it can be created. */
+static void cut_creations(void) {
+    for (unsigned call = 1; killed_at(call, create); call++) {
+        CHECK(!is_there("grips") || (length_of("grips") == 2 * PAGE && length_of("grips-wal") == 32));
+        store_file *s = store_file_open_or_create("grips", &error);
+        if (CHECK(s != NULL)) {
+            CHECK(commit_page(s, 2, 1) && byte_of(s, 2) == 1);
+            store_file_close(s);
+        }
+        CHECK(files_here(true) == 2);
+    }
+    CHECK(files_here(true) == 2);
+}
+
+/* Pages and batches are committed, with a checkpoint between and a missing log at the end. */
+static void write_all_kinds(void) {
+    store_file *s = store_file_open("grips", STORE_READ_WRITE, &error);
+    CHECK(s != NULL && append_batch(s, 2) && commit_page(s, 2, 2));
+    *acknowledged = 2;
+    CHECK(store_file_checkpoint(s, &error) && append_batch(s, 3) && commit_page(s, 2, 3));
+    *acknowledged = 3;
+    CHECK(store_file_checkpoint(s, &error));
+    store_file_close(s);
+    unlink("grips-wal");
+    s = store_file_open("grips", STORE_READ_WRITE, &error);
+    CHECK(s != NULL && commit_page(s, 2, 4));
+    *acknowledged = 4;
+    store_file_close(s);
+}
+
+/* Wherever a writer is cut, what it acknowledged is there, and else at most the commit that was under way, with its batch. */
+static void cut_writers(void) {
+    bool killed = true;
+    for (unsigned call = 1; killed; call++) {
+        make_store("grips", 1);
+        *acknowledged = 1;
+        killed = killed_at(call, write_all_kinds);
+        store_file *s = store_file_open("grips", STORE_READ_WRITE, &error);
+        if (CHECK(s != NULL)) {
+            int byte = byte_of(s, 2);
+            CHECK(byte == *acknowledged || (killed && byte == *acknowledged + 1));
+            CHECK(batches_of(s) <= 1 && (byte != 1 || batches_of(s) == 0));
+            CHECK(commit_page(s, 2, 9) && byte_of(s, 2) == 9);
+            store_file_close(s);
+        }
+        CHECK(files_here(true) <= 3 && (killed || *acknowledged == 4));
+    }
+}
+
+/* ---- failures */
+
+/* A creation that finds no room leaves no file behind. */
+static void full_disk(void) {
+    store_file *s = NULL;
+    for (unsigned call = 1; s == NULL; call++) {
+        fail_at(call, ENOSPC);
+        s = store_file_create("grips", &error);
+        CHECK((s == NULL) == has_failed());
+        CHECK(s != NULL || (error.code == ENOSPC && strchr(error.text, '/') != NULL && files_here(true) == 0));
+    }
+    fail_at(0, 0);
+    store_file_close(s);
+    CHECK(names_flushed() && files_here(true) == 2);
+}
+
+/* Nor does an opening that finds no room for a missing log. */
+static void full_disk_for_a_log(void) {
+    make_store("grips", 1);
+    CHECK(unlink("grips-wal") == 0);
+    store_file *s = NULL;
+    for (unsigned call = 1; s == NULL; call++) {
+        fail_at(call, ENOSPC);
+        s = store_file_open("grips", STORE_READ_WRITE, &error);
+        CHECK((s == NULL) == has_failed());
+        CHECK(s != NULL || (error.code == ENOSPC && files_here(false) == 1));
+    }
+    fail_at(0, 0);
+    store_file_close(s);
+    CHECK(names_flushed() && length_of("grips-wal") == 32 && files_here(true) == 2);
+}
+
+/* After a failed write or fsync nothing is done any more; opened anew, the store has what was acknowledged. */
+static void stopped_store(void) {
+    make_store("grips", 1);
+    store_file *s = store_file_open("grips", STORE_READ_WRITE, &error);
+    fail_at(1, EIO);
+    CHECK(!commit_page(s, 2, 2) && error.code == EIO && strstr(error.text, "grips-wal") != NULL);
+    CHECK(!store_file_checkpoint(s, &error) && !append_batch(s, 1) && error.code == EIO);
+    store_file_close(s);
+    CHECK(seen_in("grips", STORE_READ_WRITE) == 1 && files_here(true) == 2);
+}
+
+/* Commits and a checkpoint up to the failure; answers what was acknowledged. */
+static int write_until_failure(void) {
+    store_file *s = store_file_open("grips", STORE_READ_WRITE, &error);
+    int byte = 1;
+    if (s == NULL) {
+        return byte;
+    }
+    if (append_batch(s, 2) && commit_page(s, 2, 2)) {
+        byte = 2;
+        if (store_file_checkpoint(s, &error) && commit_page(s, 2, 3)) {
+            byte = 3;
+        }
+    }
+    store_file_close(s);
+    return byte;
+}
+
+/* After an fsync that failed, in whichever call, what an opening shows and what is committed behind it is still there when the medium is
+ * all that is left. Answers whether an fsync failed. */
+static bool forgetful_cache(unsigned sync, enum reached reached, bool direct_reads) {
+    make_store("grips", 1);
+    watch("grips", "grips-wal", direct_reads);
+    fail_fsync(sync, reached);
+    int byte = write_until_failure();
+    bool happened = byte < 3;
+    fail_fsync(0, NONE_REACHED);
+    store_file *s = store_file_open("grips", STORE_READ_WRITE, &error);
+    int shown = -1;
+    if (CHECK(s != NULL)) {
+        shown = byte_of(s, 2);
+        CHECK(shown == byte || (happened && shown == byte + 1));
+        CHECK(commit_page(s, 1, 7));
+        store_file_close(s);
+    }
+    remount();
+    s = store_file_open("grips", STORE_READ_WRITE, &error);
+    if (CHECK(s != NULL)) {
+        CHECK(byte_of(s, 2) == shown && byte_of(s, 1) == 7);
+        store_file_close(s);
+    }
+    CHECK(files_here(true) == 2);
+    return happened;
+}
+
+/* An opening writes nothing where it can read past the cache, else all; a flush for the main file takes an appended batch along. */
+static void quiet_disk(void) {
+    for (int direct = 0; direct < 2; direct++) {
+        make_store("grips", 1);
+        watch("grips", "grips-wal", direct);
+        store_file *s = store_file_open("grips", STORE_READ_WRITE, &error);
+        CHECK(s != NULL && (writes_made() == 0) == (direct == 1));
+        CHECK(append_batch(s, 1) && store_file_checkpoint(s, &error) && log_went_first());
+        store_file_close(s);
+        remount();
+        CHECK(seen_in("grips", STORE_READ_WRITE) == 1 && files_here(true) == 2);
+    }
+}
+
+static void failed_fsyncs(void) {
+    for (int way = 0; way < 6; way++) {
+        unsigned sync = 1;
+        while (forgetful_cache(sync, (enum reached)(way % 3), way < 3)) {
+            sync++;
+        }
+        CHECK(sync > 8);
+    }
+}
+
+/* ---- names and locks */
+
+/* By a symbolic link it is the same store with the same log. */
+static void symbolic_link(void) {
+    make_store("grips", 1);
+    CHECK(symlink("grips", "current") == 0);
+    store_file *s = store_file_open("current", STORE_READ_WRITE, &error);
+    CHECK(s != NULL && commit_page(s, 2, 2));
+    store_file_close(s);
+    CHECK(seen_in("grips", STORE_READ_ONLY) == 2 && !is_there("current-wal"));
+    CHECK(store_file_create("current", &error) == NULL && error.code == EEXIST && !is_there("grips-new"));
+    CHECK(unlink("grips") == 0 && unlink("grips-wal") == 0);
+    CHECK(store_file_create("current", &error) == NULL && error.code == EEXIST);
+    CHECK(store_file_open_or_create("current", &error) == NULL && files_here(true) == 1);
+}
+
+static void hard_link(void) {
+    make_store("grips", 1);
+    CHECK(link("grips", "other") == 0);
+    CHECK(store_file_open("other", STORE_READ_WRITE, &error) == NULL && error.code == EMLINK);
+    CHECK(store_file_open("grips", STORE_READ_ONLY, &error) == NULL && error.code == EMLINK);
+    CHECK(!is_there("other-wal") && files_here(true) == 3);
+}
+
+static void locks(void) {
+    make_store("grips", 1);
+    store_file *s = store_file_open("grips", STORE_READ_ONLY, &error);
+    CHECK(s != NULL && !commit_page(s, 2, 2) && error.refusal == LATEENBAEL_REFUSED_READ_ONLY);
+    CHECK(seen_in("grips", STORE_READ_ONLY) == 1);
+    CHECK(store_file_open("grips", STORE_READ_WRITE, &error) == NULL && error.code == EWOULDBLOCK);
+    store_file_close(s);
+    s = store_file_open("grips", STORE_READ_WRITE, &error);
+    CHECK(s != NULL && store_file_open("grips", STORE_READ_ONLY, &error) == NULL && error.code == EWOULDBLOCK);
+    store_file_close(s);
+    CHECK(files_here(true) == 2);
+}
+
+static void replace_store(void) {
+    CHECK(rename("new-wal", "grips-wal") == 0 && rename("new", "grips") == 0);
+}
+
+/* Between opening and locking another store gets the name. */
+static void replaced(void) {
+    make_store("grips", 1);
+    make_store("new", 5);
+    before_flock(replace_store);
+    CHECK(seen_in("grips", STORE_READ_WRITE) == 5 && files_here(true) == 2);
+}
+
+/* ---- what is refused */
+
+static void refusals(void) {
+    make_store("grips", 1);
+    store_file *s = store_file_open("grips", STORE_READ_WRITE, &error);
+    uint8_t bytes[PAGE] = {0};
+    CHECK(store_file_stage(s, 3, bytes, &error) && !store_file_commit(s, store_file_header(s), &error));
+    CHECK(error.code == EINVAL && strstr(error.text, "page 3") != NULL);
+    store_file_clear_staged(s);
+    CHECK(!store_file_stage(s, 1024, bytes, &error) && error.refusal == LATEENBAEL_REFUSED_PAGE);
+    store_file_close(s);
+    make_file("grips-wal", 31);
+    CHECK(store_file_open("grips", STORE_READ_WRITE, &error) == NULL && error.refusal == LATEENBAEL_REFUSED_SHORT);
+    CHECK(strstr(error.text, "grips-wal: refused 2 Short") != NULL);
+    make_file("grips", 100);
+    CHECK(store_file_open("grips", STORE_READ_ONLY, &error) == NULL && strstr(error.text, "grips: refused 2 Short") != NULL);
+    make_file("grips-wal", (off_t)1 << 33);
+    make_file("grips", (off_t)1 << 33);
+    CHECK(store_file_open("grips", STORE_READ_WRITE, &error) == NULL && error.refusal == LATEENBAEL_REFUSED_AREA);
+    CHECK(files_here(true) == 2);
+}
+
+/* A log alone is a cut creation if it has no frames; others are not overwritten, nor are other files taken for stores. */
+static void strange_files(void) {
+    make_file("grips-wal", 33);
+    CHECK(store_file_create("grips", &error) == NULL && error.code == EEXIST && files_here(true) == 1);
+    make_file("grips-wal", 32);
+    make_file("grips-new", 100000);
+    make_file("grips-wal-new", 100000);
+    create();
+    CHECK(length_of("grips") == 2 * PAGE && length_of("grips-wal") == 32 && files_here(true) == 2);
+    CHECK(mkfifo("pipe", 0600) == 0 && store_file_open("pipe", STORE_READ_ONLY, &error) == NULL && error.code == EINVAL);
+    CHECK(store_file_open("nothing", STORE_READ_WRITE, &error) == NULL && error.code == ENOENT);
+    CHECK(store_file_create("no/folder", &error) == NULL && error.code == ENOENT);
+    CHECK(store_file_create("folder/", &error) == NULL && error.code == ENOENT);
+    char path[5000];
+    memset(path, 'a', sizeof path - 1);
+    path[sizeof path - 1] = 0;
+    CHECK(store_file_create(path, &error) == NULL && error.code == ENAMETOOLONG);
+    CHECK(files_here(true) == 1);
+}
+
+static void run(const char *name, void (*part)(void)) {
+    unsigned checks_before = checks, failures_before = failures;
+    part();
+    printf("%s: %u checks, %u failed\n", name, checks - checks_before, failures - failures_before);
+}
+
+int main(void) {
+    setvbuf(stdout, NULL, _IOLBF, 0);
+    acknowledged = mmap(NULL, sizeof *acknowledged, PROT_READ | PROT_WRITE, MAP_SHARED | MAP_ANONYMOUS, -1, 0);
+    if (acknowledged == MAP_FAILED || files_here(false) != 0) {
+        puts("run it in an empty folder");
+        return 1;
+    }
+    run("cut creations", cut_creations);
+    run("cut writers", cut_writers);
+    run("full disk", full_disk);
+    run("full disk for a log", full_disk_for_a_log);
+    run("stopped store", stopped_store);
+    run("quiet disk", quiet_disk);
+    run("failed fsyncs", failed_fsyncs);
+    run("symbolic link", symbolic_link);
+    run("hard link", hard_link);
+    run("locks", locks);
+    run("replaced", replaced);
+    run("refusals", refusals);
+    run("strange files", strange_files);
+    printf("C example's test: %u checks, %u failed\n", checks, failures);
+    return failures != 0;
+}
