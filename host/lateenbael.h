@@ -45,17 +45,18 @@
  * What a host on files owes, which the crate and the program lateenbael do too; host/examples/c does all of it:
  *
  *     names     STORE is the main file's path with symbolic links followed (realpath), STORE-wal is the log. A main file with more than
- *               one hard link has two names and thus two logs: refuse it.
+ *               one hard link has two names and thus two logs: refuse it, and a log with more than one.
  *     lock      flock on the main file for as long as the store is open: LOCK_EX to write, LOCK_SH to read only. When it is had, see
  *               whether STORE is still that file (device and inode of fstat and stat); if not, open again.
  *     creation  Make both files as STORE-new, locked, and STORE-wal-new, write and fsync them, rename the log, then the main file, and
  *               fsync the folder. A creation that was cut leaves no STORE and is done again; of its files only STORE-wal may have its
  *               name already, with 32 bytes. A missing log is made the same way: STORE-wal-new, fsync, rename, fsync of the folder.
  *     flush     fsync of every file with writes since its last one, the log first; not only of the step's own file.
- *     opening   To write, go by what is on the medium: fsync both files and the folder, then read past the cache (O_DIRECT, into an
- *               aligned buffer), write again what was read where the cache differs, and fsync. For after an fsync that failed, in an
- *               earlier process too, the cache may hold bytes that the medium has not, and the next fsync succeeds without storing
- *               them. Where the file system has no O_DIRECT, read as usual, write all of it again, and fsync.
+ *     opening   To write, go by what is on the medium: fsync both files and the folder, let the cache go of both files
+ *               (posix_fadvise, POSIX_FADV_DONTNEED), and compare what is then read with what is read past the cache (O_DIRECT, into
+ *               an aligned buffer); where they differ, fail. For after an fsync that failed, in an earlier process too, the cache may
+ *               hold bytes that the medium has not; the next fsync succeeds without storing them, and so may one behind a write to the
+ *               same page. Where the file system has no O_DIRECT, write again all that was read, and fsync.
  *     failure   After a write or fsync that failed: stop using the store, open anew.
  *     batches   A checkpoint ends them, and a commit that brings the log to LATEENBAEL_CHECKPOINT_FRAMES frames brings one on: read
  *               committed batches before. store.wal.frame_count tells how many frames the log has.

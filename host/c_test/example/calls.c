@@ -24,6 +24,7 @@ int __real_fsync(int fd);
 int __real_rename(const char *from, const char *to);
 int __real_flock(int fd, int how);
 int __real_fcntl(int fd, int what, ...);
+int __real_posix_fadvise(int fd, off_t at, off_t len, int advice);
 
 int __wrap_open(const char *path, int flags, ...);
 ssize_t __wrap_pread(int fd, void *bytes, size_t len, off_t at);
@@ -33,6 +34,7 @@ int __wrap_fsync(int fd);
 int __wrap_rename(const char *from, const char *to);
 int __wrap_flock(int fd, int how);
 int __wrap_fcntl(int fd, int what, ...);
+int __wrap_posix_fadvise(int fd, off_t at, off_t len, int advice);
 
 /* ---- one call that kills or fails */
 
@@ -85,11 +87,12 @@ typedef struct {
     uint8_t *bytes; /* what is on the medium */
     size_t len;
     bool dirty[PAGES]; /* the cache has other bytes, to be stored */
+    bool stale[PAGES]; /* it has forgotten to store them, and will, as long as it keeps the page */
     bool direct;       /* the descriptor reads past the cache */
 } medium;
 
 static medium media[2];
-static bool watching, direct_allowed, log_left_behind;
+static bool watching, direct_allowed, keeping, log_left_behind;
 static unsigned writes;
 static unsigned until_sync_failure;
 static enum reached what_reached;
@@ -125,6 +128,7 @@ void watch(const char *main_path, const char *log_path, bool direct_reads) {
     watch_one(&media[1], log_path);
     watching = true;
     direct_allowed = direct_reads;
+    keeping = false;
     until_sync_failure = 0;
     log_left_behind = false;
     writes = 0;
@@ -136,6 +140,10 @@ unsigned writes_made(void) {
 
 bool log_went_first(void) {
     return !log_left_behind;
+}
+
+void keep_pages(bool keep) {
+    keeping = keep;
 }
 
 void fail_fsync(unsigned sync, enum reached reached) {
@@ -158,7 +166,9 @@ void remount(void) {
 /* Stores the dirty pages; those that are not to reach the medium are forgotten. */
 static void store_dirty(medium *m, int fd, bool even, bool odd) {
     for (size_t page = 0; page < PAGES; page++) {
-        if (m->dirty[page] && (page % 2 == 0 ? even : odd)) {
+        bool reaches = page % 2 == 0 ? even : odd;
+        m->stale[page] = m->stale[page] || (m->dirty[page] && !reaches);
+        if (m->dirty[page] && !m->stale[page]) {
             memset(m->bytes + page * PAGE, 0, PAGE);
             if (__real_pread(fd, m->bytes + page * PAGE, PAGE, (off_t)(page * PAGE)) < 0) {
                 abort();
@@ -167,6 +177,18 @@ static void store_dirty(medium *m, int fd, bool even, bool odd) {
         m->dirty[page] = false;
     }
     m->len = (size_t)lseek(fd, 0, SEEK_END);
+}
+
+/* The cache lets go of the pages that are not dirty: what is read of them comes from the medium. */
+static void drop_pages(medium *m, int fd) {
+    size_t len = (size_t)lseek(fd, 0, SEEK_END);
+    for (size_t page = 0; page * PAGE < len; page++) {
+        size_t part = len - page * PAGE < PAGE ? len - page * PAGE : PAGE;
+        if (!m->dirty[page] && __real_pwrite(fd, m->bytes + page * PAGE, part, (off_t)(page * PAGE)) != (ssize_t)part) {
+            abort();
+        }
+        m->stale[page] = false;
+    }
 }
 
 /* Whether the log has pages to be stored while the main file is flushed. */
@@ -208,7 +230,14 @@ ssize_t __wrap_pwrite(int fd, const void *bytes, size_t len, off_t at) {
 }
 
 int __wrap_ftruncate(int fd, off_t len) {
-    return fails() ? -1 : __real_ftruncate(fd, len);
+    medium *m = behind(fd);
+    if (fails()) {
+        return -1;
+    }
+    for (size_t page = ((size_t)len + PAGE - 1) / PAGE; m != NULL && page < PAGES; page++) {
+        m->dirty[page] = m->stale[page] = false;
+    }
+    return __real_ftruncate(fd, len);
 }
 
 int __wrap_fsync(int fd) {
@@ -259,5 +288,16 @@ int __wrap_fcntl(int fd, int what, ...) {
         return -1;
     }
     m->direct = (flags & O_DIRECT) != 0;
+    return 0;
+}
+
+int __wrap_posix_fadvise(int fd, off_t at, off_t len, int advice) {
+    medium *m = behind(fd);
+    if (m == NULL) {
+        return __real_posix_fadvise(fd, at, len, advice);
+    }
+    if (advice == POSIX_FADV_DONTNEED && !keeping) {
+        drop_pages(m, fd);
+    }
     return 0;
 }

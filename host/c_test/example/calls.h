@@ -22,6 +22,9 @@ void watch(const char *main_path, const char *log_path, bool direct_reads);
  * pages those with an even or odd number may have reached the medium. */
 enum reached { NONE_REACHED, EVEN_REACHED, ODD_REACHED };
 void fail_fsync(unsigned sync, enum reached reached);
+/* A page that was forgotten stays so, whatever is written to it, until the cache lets go of it; it does when it is advised to, unless another
+ * program keeps it there. */
+void keep_pages(bool keep);
 /* How many writes there were since watch, and whether all that was written to the log was flushed before each fsync of the main file. */
 unsigned writes_made(void);
 bool log_went_first(void);

@@ -284,6 +284,22 @@ static void quiet_disk(void) {
     }
 }
 
+/* What the cache keeps in spite of all is not built on. */
+static void kept_pages(void) {
+    make_store("grips", 1);
+    watch("grips", "grips-wal", true);
+    store_file *s = store_file_open("grips", STORE_READ_WRITE, &error);
+    fail_fsync(1, NONE_REACHED);
+    CHECK(s != NULL && !commit_page(s, 2, 2));
+    store_file_close(s);
+    keep_pages(true);
+    CHECK(store_file_open("grips", STORE_READ_WRITE, &error) == NULL && error.code == EIO);
+    keep_pages(false);
+    CHECK(seen_in("grips", STORE_READ_WRITE) == 1);
+    remount();
+    CHECK(seen_in("grips", STORE_READ_WRITE) == 1 && files_here(true) == 2);
+}
+
 static void failed_fsyncs(void) {
     for (int way = 0; way < 6; way++) {
         unsigned sync = 1;
@@ -316,6 +332,10 @@ static void hard_link(void) {
     CHECK(store_file_open("other", STORE_READ_WRITE, &error) == NULL && error.code == EMLINK);
     CHECK(store_file_open("grips", STORE_READ_ONLY, &error) == NULL && error.code == EMLINK);
     CHECK(!is_there("other-wal") && files_here(true) == 3);
+    make_store("grips", 1);
+    CHECK(link("grips-wal", "other-wal") == 0);
+    CHECK(store_file_open("grips", STORE_READ_WRITE, &error) == NULL && error.code == EMLINK);
+    CHECK(unlink("other-wal") == 0 && seen_in("grips", STORE_READ_WRITE) == 1);
 }
 
 static void locks(void) {
@@ -405,6 +425,7 @@ int main(void) {
     run("stopped store", stopped_store);
     run("quiet disk", quiet_disk);
     run("failed fsyncs", failed_fsyncs);
+    run("kept pages", kept_pages);
     run("symbolic link", symbolic_link);
     run("hard link", hard_link);
     run("locks", locks);

@@ -155,23 +155,25 @@ static bool read_past_cache(one_file *f, size_t len) {
     return done && usual;
 }
 
-/* Gives the cache what was read past it, where it holds other bytes: a later write to a part of such a page would store the rest too. */
-static bool mend_cache(one_file *f, size_t len, store_error *error) {
+/* Whether the cache holds what was read past it. If not, a program that has the file mapped keeps old pages there, and what is written to
+ * them may never be stored. */
+static bool cache_agrees(one_file *f, size_t len, store_error *error) {
     uint8_t cached[PAGE];
     for (size_t at = 0; at < len; at += PAGE) {
         size_t part = len - at < PAGE ? len - at : PAGE;
         if (pread(f->fd, cached, part, (off_t)at) != (ssize_t)part) {
             return failed(error, "reading", f->path);
         }
-        if (memcmp(cached, f->area + at, part) != 0 && !write_all(f, f->area + at, part, at, error)) {
-            return false;
+        if (memcmp(cached, f->area + at, part) != 0) {
+            return tell(error, LATEENBAEL_OK, EIO, "%s: the cache holds what the medium has not, and keeps it", f->path);
         }
     }
     return true;
 }
 
-/* Reads a file into its area. After an fsync that failed the cache may hold bytes that the medium has not, and that no later fsync
- * stores; so a writer reads past the cache, or stores again what it reads. A flush must follow. */
+/* Reads a file, which a writer has flushed, into its area. After an fsync that failed the cache may hold bytes that the medium has not, and
+ * that no later fsync stores. So for a writer the cache lets go of the file, and what is read past it must be what it holds; where that
+ * can't be read, it stores again what it reads, and a flush must follow. */
 bool load(one_file *f, enum store_mode mode, size_t *len, store_error *error) {
     struct stat status;
     if (fstat(f->fd, &status) != 0) {
@@ -181,8 +183,11 @@ bool load(one_file *f, enum store_mode mode, size_t *len, store_error *error) {
     if (*len > f->area_size) {
         return true; /* the opening refuses that length */
     }
+    if (mode == STORE_READ_WRITE) {
+        posix_fadvise(f->fd, 0, 0, POSIX_FADV_DONTNEED);
+    }
     if (mode == STORE_READ_WRITE && read_past_cache(f, *len)) {
-        return mend_cache(f, *len, error);
+        return cache_agrees(f, *len, error);
     }
     /* EINVAL: this file system can't read past the cache */
     if ((mode == STORE_READ_WRITE && errno != EINVAL) || !read_file(f, *len)) {

@@ -66,7 +66,7 @@ static bool resolve(store_file *s, const char *path, store_error *error) {
     return (found && joined(s->log.path, s->main.path, "-wal")) || failed(error, "resolving", path);
 }
 
-/* By another hard link the store would have another log. */
+/* By another hard link the store would have another log, or the log another store. */
 static bool has_one_name(const one_file *f, store_error *error) {
     struct stat status;
     if (fstat(f->fd, &status) != 0) {
@@ -84,8 +84,8 @@ static bool open_both(store_file *s, enum store_mode mode, store_error *error) {
     if (s->main.fd < 0 || !has_one_name(&s->main, error)) {
         return false;
     }
-    s->log.fd = open(s->log.path, flags | O_CLOEXEC | O_NONBLOCK);
-    return s->log.fd >= 0 || errno == ENOENT || failed(error, "opening", s->log.path);
+    s->log.fd = open(s->log.path, flags | O_CLOEXEC | O_NONBLOCK | O_NOFOLLOW);
+    return s->log.fd >= 0 ? has_one_name(&s->log, error) : errno == ENOENT || failed(error, "opening", s->log.path);
 }
 
 /* What an earlier host has written and not flushed goes to the medium first. */
