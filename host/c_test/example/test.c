@@ -335,7 +335,7 @@ static void hard_link(void) {
     make_store("grips", 1);
     CHECK(link("grips-wal", "other-wal") == 0);
     CHECK(store_file_open("grips", STORE_READ_WRITE, &error) == NULL && error.code == EMLINK);
-    CHECK(unlink("other-wal") == 0 && seen_in("grips", STORE_READ_WRITE) == 1);
+    CHECK(unlink("other-wal") == 0 && seen_in("grips", STORE_READ_WRITE) == 1 && files_here(true) == 2);
 }
 
 static void locks(void) {
