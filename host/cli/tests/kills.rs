@@ -185,3 +185,26 @@ fn append() {
         assert_eq!(dir.pages(1..7), [1, 2, 3, 8, 5, 6].map(Some));
     });
 }
+
+#[test]
+fn copy_and_restore() {
+    let dir = WorkDir::with_store();
+    std::fs::write(dir.file("rows"), "batch 1\ntombstone \"cabins\" 7\n").unwrap();
+    dir.done("append grips rows");
+    dir.done("dump grips text");
+    let text = dir.done("dump grips");
+    let start = dir.snapshot();
+    for line in ["copy grips other", "restore text other"] {
+        dir.restore(&start);
+        at_every_call(&dir, line, |dir| {
+            match is_there(&dir.file("other")) {
+                true => assert_eq!(dir.done("dump other"), text),
+                false => drop(dir.fails("info other")),
+            }
+            let again = dir.call(line);
+            assert!(again.status == 0 || again.err.contains("already"), "{}", again.err);
+            assert_eq!(dir.done("dump other"), text);
+            assert_eq!(dir.done("dump grips"), text);
+        });
+    }
+}
