@@ -8,10 +8,7 @@ use crate::{
 use lateenbael_sys as sys;
 use std::fmt;
 use std::path::Path;
-use sys::{DbHeader, PAGE_SIZE, WalHeader};
-
-/// A commit that brings the log to so many frames is followed by a checkpoint.
-const CHECKPOINT_FRAMES: usize = 100;
+use sys::{CHECKPOINT_FRAMES, DbHeader, PAGE_SIZE, WalHeader};
 
 /// An open store. After the disk has failed once, or a file was found replaced, every call answers [`Error::Stopped`].
 pub struct Store<D: Disk = Files> {
