@@ -245,6 +245,7 @@ impl<D: Disk> Store<D> {
         if self.engine.store().staged.count < self.frames_left() {
             return self.commit_at_once(header);
         }
+        self.check_intact(Area::Main)?;
         let salt = (self.salts)();
         self.engine.begin_commit(header, salt)?;
         self.run_steps()
@@ -271,8 +272,12 @@ impl<D: Disk> Store<D> {
         }
     }
 
-    /// Stops the store if the file was removed, replaced or given another length behind its back.
+    /// Stops the store if the file was removed, replaced or given another length behind its back: the log before a commit goes there, the
+    /// main file before a checkpoint does, which then empties the log.
     fn check_intact(&mut self, area: Area) -> Result<(), Error> {
+        if !self.engine.is_writable() {
+            return Ok(());
+        }
         let intact = self.disk.is_intact(area);
         self.stopped |= !matches!(intact, Ok(true));
         match intact {
@@ -288,10 +293,7 @@ impl<D: Disk> Store<D> {
     /// committed or not, are gone then.
     pub fn checkpoint(&mut self) -> Result<usize, Error> {
         self.running()?;
-        if self.engine.is_writable() {
-            self.check_intact(Area::Log)?;
-            self.check_intact(Area::Main)?;
-        }
+        self.check_intact(Area::Main)?;
         let salt = (self.salts)();
         match self.engine.begin_checkpoint(salt)? {
             true => self.run_steps(),

@@ -86,21 +86,18 @@ fn a_log_that_was_taken_away_stops_the_store() {
         |log| fs::write(log, []).unwrap(),
     ];
     for alter in alterations {
-        for by_checkpoint in [false, true] {
-            seven_pages(&path);
-            let mut store = open(&path, Mode::ReadWrite);
-            commit_pages(&mut store, 3, &[33]);
-            alter(&log);
-            let left = bytes_of(&path);
-            let header = store.header().unwrap();
-            store.stage_page(3, &page(34)).unwrap();
-            let answer = if by_checkpoint { store.checkpoint() } else { store.commit(header) };
-            assert!(matches!(answer, Err(Error::Replaced { file }) if file == log));
-            assert!(matches!(store.commit(header), Err(Error::Stopped)));
-            assert_eq!(bytes_of(&path), left);
-            drop(store);
-            let _ = fs::remove_file(&log);
-        }
+        seven_pages(&path);
+        let mut store = open(&path, Mode::ReadWrite);
+        commit_pages(&mut store, 3, &[33]);
+        alter(&log);
+        let left = bytes_of(&path);
+        let header = store.header().unwrap();
+        store.stage_page(3, &page(34)).unwrap();
+        assert!(matches!(store.commit(header), Err(Error::Replaced { file }) if file == log));
+        assert!(matches!(store.commit(header), Err(Error::Stopped)));
+        assert_eq!(bytes_of(&path), left);
+        drop(store);
+        let _ = fs::remove_file(&log);
     }
 }
 
@@ -115,4 +112,37 @@ fn a_main_file_that_was_taken_away_stops_a_checkpoint() {
     let log = bytes_of(&path);
     assert!(matches!(store.checkpoint(), Err(Error::Replaced { file }) if file == path));
     assert_eq!(bytes_of(&path), log);
+}
+
+#[test]
+fn and_a_commit_that_brings_one_on() {
+    let folder = Folder::new();
+    let path = folder.store();
+    seven_pages(&path);
+    let mut store = open(&path, Mode::ReadWrite);
+    while store.frames_before_checkpoint().unwrap() > 1 {
+        let next = store.frame_count().unwrap() as u8;
+        commit_pages(&mut store, 3, &[next]);
+    }
+    fs::remove_file(&path).unwrap();
+    let log = bytes_of(&path);
+    store.stage_page(3, &page(200)).unwrap();
+    let header = store.header().unwrap();
+    assert!(matches!(store.commit(header), Err(Error::Replaced { file }) if file == path));
+    assert_eq!(bytes_of(&path), log);
+}
+
+/// A checkpoint needs no log any more: all of it is in the areas, and goes to the main file.
+#[test]
+fn a_checkpoint_saves_what_a_lost_log_had() {
+    let folder = Folder::new();
+    let path = folder.store();
+    seven_pages(&path);
+    let mut store = open(&path, Mode::ReadWrite);
+    commit_pages(&mut store, 3, &[33]);
+    fs::remove_file(wal_path_for(&path)).unwrap();
+    store.checkpoint().unwrap();
+    let shown = contents(&store);
+    drop(store);
+    assert!(contents(&open(&path, Mode::ReadWrite)) == shown);
 }
