@@ -81,8 +81,8 @@ impl Disk for Pieces {
         self.files.drop_cached(area)
     }
 
-    fn read_medium(&mut self, area: Area, at: usize, buffer: &mut [u8]) -> io::Result<Medium> {
-        self.files.read_medium(area, at, buffer)
+    fn compare_with_medium(&mut self, area: Area, at: usize, bytes: &[u8]) -> io::Result<Medium> {
+        self.files.compare_with_medium(area, at, bytes)
     }
 
     fn create(&mut self, area: Area) -> io::Result<()> {

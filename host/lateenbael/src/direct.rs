@@ -39,8 +39,8 @@ impl Direct {
         Ok(Some(Direct { file, buffer }))
     }
 
-    /// Reads some bytes, at most a chunk.
-    pub fn read_at(&mut self, bytes: &mut [u8], at: u64) -> io::Result<Medium> {
+    /// Compares some bytes, at most a chunk.
+    pub fn compare_at(&mut self, bytes: &[u8], at: u64) -> io::Result<Medium> {
         let start = self.buffer.as_ptr().align_offset(ALIGNMENT);
         let aligned = &mut self.buffer[start..][..MEDIUM_CHUNK];
         let mut len = 0;
@@ -53,8 +53,10 @@ impl Direct {
                 Err(error) => return Err(error),
             }
         }
-        bytes.copy_from_slice(&aligned[..bytes.len()]);
-        Ok(Medium::Read)
+        Ok(match aligned[..bytes.len()] == *bytes {
+            true => Medium::Same,
+            false => Medium::Different,
+        })
     }
 }
 

@@ -23,9 +23,9 @@ pub trait Disk {
     /// nothing to do. So an opening for writing does this first, and then asks the medium.
     fn drop_cached(&mut self, area: Area) -> io::Result<()>;
 
-    /// Reads bytes of a file past any cache, as they lie on the medium and outlast a power cut, or answers that it can't. The place
-    /// is a multiple of [`MEDIUM_CHUNK`], and no more bytes are asked for. A disk without a cache reads as `read` does.
-    fn read_medium(&mut self, area: Area, at: usize, buffer: &mut [u8]) -> io::Result<Medium>;
+    /// Compares bytes with those that lie on the medium, past any cache, and outlast a power cut. The place is a multiple of
+    /// [`MEDIUM_CHUNK`], and there are no more bytes than that.
+    fn compare_with_medium(&mut self, area: Area, at: usize, bytes: &[u8]) -> io::Result<Medium>;
 
     /// Begins a new, empty file. It may stand under another name until it is published.
     fn create(&mut self, area: Area) -> io::Result<()>;
@@ -50,14 +50,16 @@ pub trait Disk {
     }
 }
 
-/// How many bytes are read past the cache at once.
+/// How many bytes are compared with the medium at once.
 pub const MEDIUM_CHUNK: usize = 1 << 18;
 
-/// Whether a disk could read past its cache.
+/// What a disk says of bytes that it compared with its medium.
 #[derive(Clone, Copy, Debug, PartialEq, Eq, Hash)]
 pub enum Medium {
-    /// The buffer holds what lies on the medium.
-    Read,
-    /// It could not; the buffer holds nothing of use.
+    /// The medium has the same.
+    Same,
+    /// The medium has others.
+    Different,
+    /// The medium can't be read past the cache.
     Unknown,
 }

@@ -216,13 +216,13 @@ impl Disk for Files {
         Ok(())
     }
 
-    fn read_medium(&mut self, area: Area, at: usize, buffer: &mut [u8]) -> io::Result<Medium> {
+    fn compare_with_medium(&mut self, area: Area, at: usize, bytes: &[u8]) -> io::Result<Medium> {
         if self.direct.as_ref().is_none_or(|(of, _)| *of != area) {
             let one = self.of(area);
             self.direct = Direct::open(&one.path, one.open_file()?)?.map(|direct| (area, direct));
         }
         match &mut self.direct {
-            Some((_, direct)) => direct.read_at(buffer, at as u64),
+            Some((_, direct)) => direct.compare_at(bytes, at as u64),
             None => Ok(Medium::Unknown),
         }
     }

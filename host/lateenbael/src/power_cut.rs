@@ -49,8 +49,8 @@ impl<D: Disk> Disk for PowerCut<D> {
         self.disk.drop_cached(area)
     }
 
-    fn read_medium(&mut self, area: Area, at: usize, buffer: &mut [u8]) -> io::Result<Medium> {
-        self.disk.read_medium(area, at, buffer)
+    fn compare_with_medium(&mut self, area: Area, at: usize, bytes: &[u8]) -> io::Result<Medium> {
+        self.disk.compare_with_medium(area, at, bytes)
     }
 
     fn read(&mut self, area: Area, buffer: &mut [u8]) -> io::Result<Option<usize>> {

@@ -55,13 +55,12 @@ pub fn read_settled<D: Disk>(disk: &mut D, area: Area, bytes: &mut [u8]) -> Resu
 
 /// Fails where the cache has other bytes than the medium. Where the medium can't be read past the cache, the bytes are written again.
 fn compare_with_medium<D: Disk>(disk: &mut D, area: Area, bytes: &[u8]) -> io::Result<()> {
-    let mut medium = vec![0; MEDIUM_CHUNK.min(bytes.len())];
     let mut is_known = true;
     for (n, cached) in bytes.chunks(MEDIUM_CHUNK).enumerate() {
-        let (at, medium) = (n * MEDIUM_CHUNK, &mut medium[..cached.len()]);
-        match disk.read_medium(area, at, medium)? {
-            Medium::Read if *medium == *cached => {}
-            Medium::Read => return Err(io::Error::other(NOT_DROPPED)),
+        let at = n * MEDIUM_CHUNK;
+        match disk.compare_with_medium(area, at, cached)? {
+            Medium::Same => {}
+            Medium::Different => return Err(io::Error::other(NOT_DROPPED)),
             Medium::Unknown => {
                 disk.write_at(area, at, cached)?;
                 is_known = false;

@@ -273,7 +273,7 @@ impl<D: Disk> Store<D> {
     }
 
     /// Stops the store if the file was removed, replaced or given another length behind its back: the log before a commit goes there, the
-    /// main file before a checkpoint does, which then empties the log.
+    /// main file before a commit that may be followed by a checkpoint, which empties the log.
     fn check_intact(&mut self, area: Area) -> Result<(), Error> {
         if !self.engine.is_writable() {
             return Ok(());
@@ -293,7 +293,6 @@ impl<D: Disk> Store<D> {
     /// committed or not, are gone then.
     pub fn checkpoint(&mut self) -> Result<usize, Error> {
         self.running()?;
-        self.check_intact(Area::Main)?;
         let salt = (self.salts)();
         match self.engine.begin_checkpoint(salt)? {
             true => self.run_steps(),

@@ -162,12 +162,13 @@ impl Disk for Forgetting {
         })
     }
 
-    fn read_medium(&mut self, area: Area, at: usize, buffer: &mut [u8]) -> io::Result<Medium> {
+    fn compare_with_medium(&mut self, area: Area, at: usize, bytes: &[u8]) -> io::Result<Medium> {
         self.with(area, |file| {
-            for (byte, at) in buffer.iter_mut().zip(at..) {
-                *byte = file.medium.get(at).copied().unwrap_or(0);
+            let medium = file.medium.iter().skip(at).chain(std::iter::repeat(&0));
+            match bytes.iter().zip(medium).all(|(byte, there)| byte == there) {
+                true => Medium::Same,
+                false => Medium::Different,
             }
-            Medium::Read
         })
     }
 

@@ -102,20 +102,7 @@ fn a_log_that_was_taken_away_stops_the_store() {
 }
 
 #[test]
-fn a_main_file_that_was_taken_away_stops_a_checkpoint() {
-    let folder = Folder::new();
-    let path = folder.store();
-    seven_pages(&path);
-    let mut store = open(&path, Mode::ReadWrite);
-    commit_pages(&mut store, 3, &[33]);
-    fs::remove_file(&path).unwrap();
-    let log = bytes_of(&path);
-    assert!(matches!(store.checkpoint(), Err(Error::Replaced { file }) if file == path));
-    assert_eq!(bytes_of(&path), log);
-}
-
-#[test]
-fn and_a_commit_that_brings_one_on() {
+fn a_main_file_that_was_taken_away_stops_a_commit_that_a_checkpoint_would_follow() {
     let folder = Folder::new();
     let path = folder.store();
     seven_pages(&path);

@@ -33,7 +33,7 @@ impl Disk for Recording {
         Ok(())
     }
 
-    fn read_medium(&mut self, _: Area, _: usize, _: &mut [u8]) -> io::Result<Medium> {
+    fn compare_with_medium(&mut self, _: Area, _: usize, _: &[u8]) -> io::Result<Medium> {
         Ok(Medium::Unknown)
     }
 
