@@ -68,7 +68,8 @@ bool flush_folder(const char *path, store_error *error) {
     int len = (int)(strrchr(path, '/') - path);
     snprintf(folder, sizeof folder, "%.*s", len == 0 ? 1 : len, path);
     int fd = open(folder, O_RDONLY | O_DIRECTORY | O_CLOEXEC);
-    bool done = (fd >= 0 && fsync(fd) == 0) || failed(error, "flushing the folder", folder);
+    /* EINVAL: a file system that flushes no folders */
+    bool done = (fd >= 0 && (fsync(fd) == 0 || errno == EINVAL)) || failed(error, "flushing the folder", folder);
     if (fd >= 0) {
         close(fd);
     }

@@ -73,6 +73,7 @@ pub fn drop_cached(file: &File) {
     unsafe { posix_fadvise(file.as_raw_fd(), 0, 0, POSIX_FADV_DONTNEED) };
 }
 
-fn is_unsupported(error: &io::Error) -> bool {
+/// Whether the file system does not do what was asked of it.
+pub fn is_unsupported(error: &io::Error) -> bool {
     matches!(error.kind(), io::ErrorKind::InvalidInput | io::ErrorKind::Unsupported)
 }

@@ -1,5 +1,5 @@
 //! A store's two real files.
-use crate::direct::{Direct, drop_cached};
+use crate::direct::{Direct, drop_cached, is_unsupported};
 use crate::lock::lock;
 use crate::{Area, Disk, Error, Medium};
 use std::ffi::OsString;
@@ -359,7 +359,10 @@ fn folder_of(file: &Path) -> &Path {
     }
 }
 
-/// A new name outlasts a power cut only when its folder was synced too.
+/// A new name outlasts a power cut only when its folder was synced too. A file system that syncs no folders says so.
 fn sync_folder(file: &Path) -> io::Result<()> {
-    File::open(folder_of(file))?.sync_all()
+    match File::open(folder_of(file))?.sync_all() {
+        Err(error) if is_unsupported(&error) => Ok(()),
+        synced => synced,
+    }
 }

@@ -53,6 +53,15 @@ fn refusals_are_numbers_and_back() {
 }
 
 #[test]
+fn errors_are_the_systems_too() {
+    let error = Store::open("/nowhere/grips", Mode::ReadOnly).unwrap_err();
+    let error = std::io::Error::from(error);
+    assert_eq!(error.kind(), std::io::ErrorKind::NotFound);
+    assert!(error.to_string().contains("/nowhere/grips"));
+    assert!(error.downcast::<Error>().is_ok());
+}
+
+#[test]
 fn the_default_header_is_a_new_stores() {
     let mut engine = Engine::default();
     engine.create(1).unwrap();
