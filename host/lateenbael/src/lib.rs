@@ -2,6 +2,10 @@
 //!
 //! [`Store`] is a store on two real files; [`Engine`] is the same in memory, with the areas that the proved calls work in.
 //!
+//! A commit that has returned is on the medium. Batches end with a checkpoint, and a commit that brings the log to 100 frames brings one
+//! on: [`Store::frames_before_checkpoint`] tells how near it is. A store whose disk has failed stops, and is opened again. What else is
+//! promised on files stands in host/README.
+//!
 //! ```
 //! use lateenbael::{BatchBuilder, Mode, Store, Value};
 //!

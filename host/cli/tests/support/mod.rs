@@ -1,7 +1,10 @@
 //! What the tests of the program on a hurt disk share: a folder to call it in, and a tracer that kills it at a system call.
 #![allow(dead_code)]
+#[path = "../common/mod.rs"]
+mod common;
 pub mod tracer;
 
+use common::{PROGRAM, Printed};
 use std::collections::BTreeMap;
 use std::ffi::OsString;
 use std::fs;
@@ -11,13 +14,6 @@ use std::sync::atomic::{AtomicU32, Ordering};
 
 /// Every file of a folder by its name.
 pub type Snapshot = BTreeMap<OsString, Vec<u8>>;
-
-/// What a call printed, and its exit status.
-pub struct Printed {
-    pub out: String,
-    pub err: String,
-    pub status: i32,
-}
 
 /// A folder that the program is called in. The store is named grips; `p1` to `p9` are pages, filled with their number.
 pub struct WorkDir {
@@ -58,18 +54,13 @@ impl WorkDir {
     }
 
     pub fn command(&self, line: &str) -> Command {
-        let mut command = Command::new(env!("CARGO_BIN_EXE_lateenbael"));
+        let mut command = Command::new(PROGRAM);
         command.current_dir(&self.path).args(line.split_whitespace()).stdin(Stdio::null());
         command
     }
 
     pub fn call(&self, line: &str) -> Printed {
-        let Output { stdout, stderr, status } = self.command(line).output().unwrap();
-        Printed {
-            out: String::from_utf8_lossy(&stdout).into_owned(),
-            err: String::from_utf8_lossy(&stderr).into_owned(),
-            status: status.code().unwrap(),
-        }
+        self.command(line).output().unwrap().into()
     }
 
     /// A call that must work: what it printed.
