@@ -31,11 +31,11 @@ fn page_five(clean: bool) -> Vec<u8> {
     engine.begin_commit(header, 1).unwrap();
     engine.next_step().unwrap();
     let mut engine = reopened(&engine, clean);
-    assert_eq!(engine.read_page(5).unwrap(), Some(&OLD[..]));
+    assert_eq!(engine.read_page(5).unwrap(), Some(&OLD));
     engine.stage_page(3, &UNCOMMITTED).unwrap();
     engine.commit(header, 1).unwrap();
     let engine = reopened(&engine, clean);
-    assert_eq!(engine.read_page(3).unwrap(), Some(&UNCOMMITTED[..]));
+    assert_eq!(engine.read_page(3).unwrap(), Some(&UNCOMMITTED));
     engine.read_page(5).unwrap().unwrap().to_vec()
 }
 
