@@ -10,7 +10,8 @@ use crate::port::{from_port, to_port};
 use crate::writes::{FRAME, LOG_HEADER};
 use crate::wrong::Wrong;
 use lateenbael::{
-    Area, DEFAULT_WAIT, Disk, Engine, Files, Medium, Mode, Store, salts_of_the_clock, wal_path_for,
+    Area, Comparison, DEFAULT_WAIT, Disk, Engine, Files, Mode, Store, salts_of_the_clock,
+    wal_path_for,
 };
 use splitmix::Random;
 use std::io::{self, Read, Write};
@@ -81,7 +82,12 @@ impl Disk for Pieces {
         self.files.drop_cached(area)
     }
 
-    fn compare_with_medium(&mut self, area: Area, at: usize, bytes: &[u8]) -> io::Result<Medium> {
+    fn compare_with_medium(
+        &mut self,
+        area: Area,
+        at: usize,
+        bytes: &[u8],
+    ) -> io::Result<Comparison> {
         self.files.compare_with_medium(area, at, bytes)
     }
 

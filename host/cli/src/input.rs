@@ -1,21 +1,16 @@
-//! What a command is given to read: pages, batches as text, and files that must be regular ones.
+//! What a command is given to read: pages, and batches as text.
 use crate::args::{number, split_at_equals};
 use crate::batch_text;
 use crate::failure::Failure;
 use lateenbael::BatchBuilder;
 use lateenbael::sys::PAGE_SIZE;
 use std::ffi::OsStr;
-use std::fs::{self, File, OpenOptions};
+use std::fs::{self, File};
 use std::io::{self, Read};
-use std::os::unix::fs::OpenOptionsExt;
-use std::path::Path;
 
 /// A log has 1,024 frames, and a batch's text is at most 7 times as long as the 4,096 bytes of its frame: 28 MiB. The rest is for
 /// remarks and empty lines.
 const TEXT_LIMIT: usize = 32 << 20;
-
-/// Linux's number: opening a FIFO does not wait for who writes to it.
-const O_NONBLOCK: i32 = 0o4000;
 
 /// What a word names: a file, or standard input if it is `-`.
 #[derive(Clone, Copy)]
@@ -98,19 +93,6 @@ pub fn batches_of(sources: &[Source]) -> Result<Vec<BatchBuilder>, Failure> {
         batches.extend(batch_text::parse(&source.name(), &source.text(TEXT_LIMIT)?)?);
     }
     Ok(batches)
-}
-
-/// A regular file's bytes, no more than so many. Opening anything else could wait for ever.
-pub fn read_regular_file(path: &Path, most: usize) -> Result<Vec<u8>, Failure> {
-    let failed = |error| Failure::file(path, error);
-    let regular = |found: fs::Metadata| match found.is_file() {
-        true => Ok(()),
-        false => Err(Failure::Refused(format!("{} is no regular file", path.display()))),
-    };
-    regular(fs::metadata(path).map_err(failed)?)?;
-    let file = OpenOptions::new().read(true).custom_flags(O_NONBLOCK).open(path).map_err(failed)?;
-    regular(file.metadata().map_err(failed)?)?;
-    read_at_most(file, most).map_err(failed)
 }
 
 fn read_at_most(from: impl Read, most: usize) -> io::Result<Vec<u8>> {

@@ -2,16 +2,13 @@
 use crate::args::{Args, number};
 use crate::failure::Failure;
 use crate::hex_view::hex_view;
-use crate::input::read_regular_file;
 use crate::json::Json;
 use crate::output::{Answer, write_new_file};
 use crate::{batch_json, batch_text};
-use lateenbael::sys::LOG_AREA;
-use lateenbael::{Frame, Log, Mode, OpenOptions, Store, wal_path_for};
+use lateenbael::{Frame, Log, LogFile, Mode, OpenOptions, Store};
 use std::ffi::OsStr;
 use std::fmt::Write;
-use std::fs;
-use std::path::{Path, PathBuf};
+use std::path::Path;
 
 /// Opens a store to look at it.
 pub fn open_read_only(path: &OsStr, args: &Args) -> Result<Store, Failure> {
@@ -154,19 +151,12 @@ fn check_json(store: &Store, missing: &[u32]) -> Result<Json, Failure> {
 
 pub fn log(args: &Args) -> Result<Answer, Failure> {
     let [path] = args.words()?;
-    let path = log_path(Path::new(path));
-    let bytes = read_regular_file(&path, LOG_AREA + 1)?;
-    let log = Log::open(&bytes).map_err(|refusal| Failure::from(refusal).about(path.display()))?;
+    let file = LogFile::read(path)?;
+    let log = file.log()?;
     Ok(Answer::shown(match args.has("json") {
         true => log_json(&log).line(),
         false => log.listing(),
     }))
-}
-
-/// The log of a store, which stands beside the main file itself and not beside a link to it. The main file may be missing.
-fn log_path(store: &Path) -> PathBuf {
-    let main = if store.is_symlink() { fs::canonicalize(store).ok() } else { None };
-    wal_path_for(main.as_deref().unwrap_or(store))
 }
 
 fn log_json(log: &Log) -> Json {

@@ -1,4 +1,4 @@
-/* A store on two files: what lateenbael.h asks of a host, done. Take both files of it for a start. */
+/* A store on two files: what lateenbael.h asks of a host, done. Take it and one_file, which it stands on, for a start. */
 #ifndef STORE_FILE_H
 #define STORE_FILE_H
 

@@ -1,5 +1,5 @@
 //! The system's cache: what it holds of a file dropped, and a file read past it.
-use crate::{MEDIUM_CHUNK, Medium};
+use crate::{Comparison, MEDIUM_CHUNK};
 use std::fmt;
 use std::fs::{File, OpenOptions};
 use std::io;
@@ -40,7 +40,7 @@ impl Direct {
     }
 
     /// Compares some bytes, at most a chunk.
-    pub fn compare_at(&mut self, bytes: &[u8], at: u64) -> io::Result<Medium> {
+    pub fn compare_at(&mut self, bytes: &[u8], at: u64) -> io::Result<Comparison> {
         let start = self.buffer.as_ptr().align_offset(ALIGNMENT);
         let aligned = &mut self.buffer[start..][..MEDIUM_CHUNK];
         let mut len = 0;
@@ -49,13 +49,13 @@ impl Direct {
                 Ok(0) => return Err(io::ErrorKind::UnexpectedEof.into()),
                 Ok(n) => len += n,
                 Err(error) if error.kind() == io::ErrorKind::Interrupted => {}
-                Err(error) if is_unsupported(&error) => return Ok(Medium::Unknown),
+                Err(error) if is_unsupported(&error) => return Ok(Comparison::Unknown),
                 Err(error) => return Err(error),
             }
         }
         Ok(match aligned[..bytes.len()] == *bytes {
-            true => Medium::Same,
-            false => Medium::Different,
+            true => Comparison::Same,
+            false => Comparison::Different,
         })
     }
 }

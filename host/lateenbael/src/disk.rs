@@ -1,5 +1,5 @@
 //! What a store asks of the disk that its two files are on.
-use crate::Area;
+use crate::{Area, Error};
 use std::io;
 use std::path::PathBuf;
 
@@ -25,7 +25,7 @@ pub trait Disk {
 
     /// Compares bytes with those that lie on the medium, past any cache, and outlast a power cut. The place is a multiple of
     /// [`MEDIUM_CHUNK`], and there are no more bytes than that.
-    fn compare_with_medium(&mut self, area: Area, at: usize, bytes: &[u8]) -> io::Result<Medium>;
+    fn compare_with_medium(&mut self, area: Area, at: usize, bytes: &[u8]) -> io::Result<Comparison>;
 
     /// Begins a new, empty file. It may stand under another name until it is published.
     fn create(&mut self, area: Area) -> io::Result<()>;
@@ -55,11 +55,21 @@ pub const MEDIUM_CHUNK: usize = 1 << 18;
 
 /// What a disk says of bytes that it compared with its medium.
 #[derive(Clone, Copy, Debug, PartialEq, Eq, Hash)]
-pub enum Medium {
+pub enum Comparison {
     /// The medium has the same.
     Same,
     /// The medium has others.
     Different,
     /// The medium can't be read past the cache.
     Unknown,
+}
+
+/// An error of the disk's, about one of its files.
+pub(crate) fn failed<D: Disk>(disk: &D, area: Area, source: io::Error) -> Error {
+    Error::of_file(disk.name(area), source)
+}
+
+/// A flush of one file.
+pub(crate) fn sync<D: Disk>(disk: &mut D, area: Area) -> Result<(), Error> {
+    disk.sync(area).map_err(|source| failed(disk, area, source))
 }

@@ -1,5 +1,5 @@
 //! A disk for dry runs in memory.
-use crate::{Area, Disk, Files, Medium};
+use crate::{Area, Comparison, Disk, Files};
 use std::io;
 use std::path::PathBuf;
 
@@ -31,7 +31,7 @@ impl Disk for DryRun<'_> {
         self.files.drop_cached(area)
     }
 
-    fn compare_with_medium(&mut self, area: Area, at: usize, bytes: &[u8]) -> io::Result<Medium> {
+    fn compare_with_medium(&mut self, area: Area, at: usize, bytes: &[u8]) -> io::Result<Comparison> {
         self.files.compare_with_medium(area, at, bytes)
     }
 

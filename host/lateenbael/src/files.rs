@@ -1,7 +1,7 @@
 //! A store's two real files.
 use crate::direct::{Direct, drop_cached, is_unsupported};
 use crate::lock::lock;
-use crate::{Area, Disk, Error, Medium};
+use crate::{Area, Comparison, Disk, Error};
 use std::ffi::OsString;
 use std::fs::{self, File, Metadata, OpenOptions};
 use std::io;
@@ -216,14 +216,14 @@ impl Disk for Files {
         Ok(())
     }
 
-    fn compare_with_medium(&mut self, area: Area, at: usize, bytes: &[u8]) -> io::Result<Medium> {
+    fn compare_with_medium(&mut self, area: Area, at: usize, bytes: &[u8]) -> io::Result<Comparison> {
         if self.direct.as_ref().is_none_or(|(of, _)| *of != area) {
             let one = self.of(area);
             self.direct = Direct::open(&one.path, one.open_file()?)?.map(|direct| (area, direct));
         }
         match &mut self.direct {
             Some((_, direct)) => direct.compare_at(bytes, at as u64),
-            None => Ok(Medium::Unknown),
+            None => Ok(Comparison::Unknown),
         }
     }
 
@@ -288,7 +288,7 @@ fn is_there(path: &Path) -> Result<bool, Error> {
 }
 
 /// Where a symbolic link leads, so that a store has one log whatever name it is opened by.
-fn resolved(path: &Path) -> Result<PathBuf, Error> {
+pub(crate) fn resolved(path: &Path) -> Result<PathBuf, Error> {
     let found = |error| Error::of_file(path, error);
     match fs::symlink_metadata(path).map_err(found)?.is_symlink() {
         true => fs::canonicalize(path).map_err(found),
@@ -322,7 +322,7 @@ fn open_locked(path: &Path, read_only: bool, wait: Duration) -> Result<File, Err
 }
 
 /// Opens a regular file with one name.
-fn open_regular(path: &Path, read_only: bool) -> Result<File, Error> {
+pub(crate) fn open_regular(path: &Path, read_only: bool) -> Result<File, Error> {
     let found = |error| Error::of_file(path, error);
     let mut options = OpenOptions::new();
     options.read(true).write(!read_only).custom_flags(O_NONBLOCK | O_NOFOLLOW);

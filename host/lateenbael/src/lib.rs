@@ -36,6 +36,7 @@
 #![warn(missing_docs, clippy::undocumented_unsafe_blocks)]
 
 mod batch;
+mod creation;
 mod direct;
 mod disk;
 mod dry_run;
@@ -53,14 +54,14 @@ mod snapshot;
 mod store;
 
 pub use batch::{Batch, BatchBuilder, Column, Columns, Record, Value, Vector};
-pub use disk::{Disk, MEDIUM_CHUNK, Medium};
+pub use disk::{Comparison, Disk, MEDIUM_CHUNK};
 pub use dry_run::DryRun;
 pub use engine::{Area, Engine, RecoveredBatch, Step, Write};
 pub use error::Error;
 pub use files::{Files, wal_path_for};
 pub use lateenbael_sys as sys;
 pub use lateenbael_sys::DbHeader;
-pub use log::{Frame, Log};
+pub use log::{Frame, Log, LogFile};
 pub use options::{DEFAULT_WAIT, Mode, OpenOptions};
 pub use power_cut::PowerCut;
 pub use refusal::Refusal;

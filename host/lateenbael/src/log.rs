@@ -1,8 +1,37 @@
 //! A log's bytes, read alone: its header, its good frames, its commit point, its batches, and its listing.
-use crate::{Batch, Refusal};
+use crate::files::{open_regular, resolved, wal_path_for};
+use crate::{Batch, Error, Refusal};
 use lateenbael_sys as sys;
 use std::fmt::{self, Write};
-use sys::{FRAME_SIZE, MVCC_FRAME_MARKER, PAGE_SIZE, Wal, WalHeader};
+use std::io::Read;
+use std::path::{Path, PathBuf};
+use sys::{FRAME_SIZE, LOG_AREA, MVCC_FRAME_MARKER, PAGE_SIZE, Wal, WalHeader};
+
+/// A store's log file as it lies, read without a lock: to look at a store that another program has open.
+#[derive(Clone, Debug, PartialEq, Eq)]
+pub struct LogFile {
+    path: PathBuf,
+    bytes: Vec<u8>,
+}
+
+impl LogFile {
+    /// The log of the store of that name; the main file may be missing. Of a file that is too long one byte more than a log has is read,
+    /// which is then refused.
+    pub fn read(store: impl AsRef<Path>) -> Result<LogFile, Error> {
+        let store = store.as_ref();
+        let path = wal_path_for(&resolved(store).unwrap_or_else(|_| store.to_path_buf()));
+        let mut bytes = Vec::new();
+        let read = open_regular(&path, true)?.take(LOG_AREA as u64 + 1).read_to_end(&mut bytes);
+        read.map_err(|source| Error::of_file(&path, source))?;
+        Ok(LogFile { path, bytes })
+    }
+
+    /// The log in it. Refusals 1 to 5.
+    pub fn log(&self) -> Result<Log<'_>, Error> {
+        let file = self.path.clone();
+        Log::open(&self.bytes).map_err(|refusal| Error::RefusedFile { file, refusal })
+    }
+}
 
 /// A log that opens.
 #[derive(Clone, Copy, PartialEq, Eq)]

@@ -1,5 +1,5 @@
 //! A disk whose power is cut, for trying things out.
-use crate::{Area, Disk, Medium};
+use crate::{Area, Comparison, Disk};
 use std::io;
 use std::path::PathBuf;
 
@@ -49,7 +49,7 @@ impl<D: Disk> Disk for PowerCut<D> {
         self.disk.drop_cached(area)
     }
 
-    fn compare_with_medium(&mut self, area: Area, at: usize, bytes: &[u8]) -> io::Result<Medium> {
+    fn compare_with_medium(&mut self, area: Area, at: usize, bytes: &[u8]) -> io::Result<Comparison> {
         self.disk.compare_with_medium(area, at, bytes)
     }
 

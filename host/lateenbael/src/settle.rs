@@ -1,34 +1,7 @@
-//! A disk's files made, and read for an opening so that what it goes by is on the medium.
-use crate::{Area, Disk, Error, MEDIUM_CHUNK, Medium};
+//! A disk's files read for an opening, so that what it goes by is on the medium.
+use crate::disk::failed;
+use crate::{Area, Comparison, Disk, Error, MEDIUM_CHUNK};
 use std::io;
-
-/// An error of the disk's, about one of its files.
-pub fn failed<D: Disk>(disk: &D, area: Area, source: io::Error) -> Error {
-    Error::of_file(disk.name(area), source)
-}
-
-pub fn sync<D: Disk>(disk: &mut D, area: Area) -> Result<(), Error> {
-    disk.sync(area).map_err(|source| failed(disk, area, source))
-}
-
-/// Makes both files of a store and lets them appear, the log first: a main file is a store, and has its log.
-pub fn make_files<D: Disk>(disk: &mut D, main: &[u8], log: &[u8]) -> Result<(), Error> {
-    make_file(disk, Area::Main, main)?;
-    make_file(disk, Area::Log, log)?;
-    publish(disk, Area::Log)?;
-    publish(disk, Area::Main)
-}
-
-/// Makes a file that has still to be published.
-pub fn make_file<D: Disk>(disk: &mut D, area: Area, bytes: &[u8]) -> Result<(), Error> {
-    let made = disk.create(area).and_then(|()| disk.write_at(area, 0, bytes));
-    made.map_err(|source| failed(disk, area, source))?;
-    sync(disk, area)
-}
-
-pub fn publish<D: Disk>(disk: &mut D, area: Area) -> Result<(), Error> {
-    disk.publish(area).map_err(|source| failed(disk, area, source))
-}
 
 /// Reads a file into its area, as the system shows it: its length, as [`Disk::read`] tells it.
 pub fn read_cached<D: Disk>(disk: &mut D, area: Area, bytes: &mut [u8]) -> Result<Option<usize>, Error> {
@@ -59,9 +32,9 @@ fn compare_with_medium<D: Disk>(disk: &mut D, area: Area, bytes: &[u8]) -> io::R
     for (n, cached) in bytes.chunks(MEDIUM_CHUNK).enumerate() {
         let at = n * MEDIUM_CHUNK;
         match disk.compare_with_medium(area, at, cached)? {
-            Medium::Same => {}
-            Medium::Different => return Err(io::Error::other(NOT_DROPPED)),
-            Medium::Unknown => {
+            Comparison::Same => {}
+            Comparison::Different => return Err(io::Error::other(NOT_DROPPED)),
+            Comparison::Unknown => {
                 disk.write_at(area, at, cached)?;
                 is_known = false;
             }

@@ -1,5 +1,5 @@
 //! A whole store apart from its files: taken from one, carried anywhere, and made into another that reads the same.
-use crate::settle::make_files;
+use crate::creation::make_files;
 use crate::{Batch, Disk, Engine, Error, Files, Log, Mode, Refusal, Store, salts_of_the_clock};
 use lateenbael_sys as sys;
 use std::fmt;

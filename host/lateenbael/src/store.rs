@@ -1,7 +1,9 @@
 //! The store on two real files: the proved engine, and every write that it names done on the disk in order, those that adjoin
 //! as one.
+use crate::creation::{make_file, make_files, publish};
+use crate::disk::{failed, sync};
 use crate::engine::decode_header;
-use crate::settle::{failed, make_file, make_files, publish, read_cached, read_settled, sync};
+use crate::settle::{read_cached, read_settled};
 use crate::{
     Area, Batch, DEFAULT_WAIT, Disk, Engine, Error, Files, Log, Mode, OpenOptions, Refusal, Salts, Step, Write, salts_of_the_clock,
 };

@@ -3,7 +3,7 @@
 //! the cache has let go of it. What a store shows and acknowledges after such a failure must outlast the cut.
 mod common;
 use common::*;
-use lateenbael::{Area, Disk, Error, Medium, Mode, Store};
+use lateenbael::{Area, Comparison, Disk, Error, Mode, Store};
 use std::collections::BTreeSet;
 use std::io;
 use std::sync::{Arc, Mutex};
@@ -162,12 +162,12 @@ impl Disk for Forgetting {
         })
     }
 
-    fn compare_with_medium(&mut self, area: Area, at: usize, bytes: &[u8]) -> io::Result<Medium> {
+    fn compare_with_medium(&mut self, area: Area, at: usize, bytes: &[u8]) -> io::Result<Comparison> {
         self.with(area, |file| {
             let medium = file.medium.iter().skip(at).chain(std::iter::repeat(&0));
             match bytes.iter().zip(medium).all(|(byte, there)| byte == there) {
-                true => Medium::Same,
-                false => Medium::Different,
+                true => Comparison::Same,
+                false => Comparison::Different,
             }
         })
     }

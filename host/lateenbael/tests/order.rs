@@ -2,7 +2,7 @@
 //! although stores that adjoin are one write.
 mod common;
 use common::*;
-use lateenbael::{Area, Disk, Engine, Medium, Step, Store, Write};
+use lateenbael::{Area, Comparison, Disk, Engine, Step, Store, Write};
 use std::io;
 
 /// What a disk is asked for, byte by byte.
@@ -33,8 +33,8 @@ impl Disk for Recording {
         Ok(())
     }
 
-    fn compare_with_medium(&mut self, _: Area, _: usize, _: &[u8]) -> io::Result<Medium> {
-        Ok(Medium::Unknown)
+    fn compare_with_medium(&mut self, _: Area, _: usize, _: &[u8]) -> io::Result<Comparison> {
+        Ok(Comparison::Unknown)
     }
 
     fn create(&mut self, area: Area) -> io::Result<()> {

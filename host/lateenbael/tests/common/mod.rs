@@ -1,7 +1,7 @@
 //! What the tests share: a folder that goes away, pages, a store's state, and a disk that fails.
 #![allow(dead_code)]
 use lateenbael::sys::PAGES;
-use lateenbael::{Area, BatchBuilder, DbHeader, Disk, Error, Files, Medium, Mode, Refusal, Salts, Store, Value, wal_path_for};
+use lateenbael::{Area, BatchBuilder, Comparison, DbHeader, Disk, Error, Files, Mode, Refusal, Salts, Store, Value, wal_path_for};
 use std::fs;
 use std::io;
 use std::path::{Path, PathBuf};
@@ -163,7 +163,7 @@ impl Disk for Failing {
         self.files.drop_cached(area)
     }
 
-    fn compare_with_medium(&mut self, area: Area, at: usize, bytes: &[u8]) -> io::Result<Medium> {
+    fn compare_with_medium(&mut self, area: Area, at: usize, bytes: &[u8]) -> io::Result<Comparison> {
         self.files.compare_with_medium(area, at, bytes)
     }
 
