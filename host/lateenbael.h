@@ -49,8 +49,9 @@
  *     lock      flock on the main file for as long as the store is open: LOCK_EX to write, LOCK_SH to read only. When it is had, see
  *               whether STORE is still that file (device and inode of fstat and stat); if not, open again.
  *     creation  Make both files as STORE-new, locked, and STORE-wal-new, write and fsync them, rename the log, then the main file, and
- *               fsync the folder. A creation that was cut leaves no STORE and is done again; of its files only STORE-wal may have its
- *               name already, with 32 bytes. A missing log is made the same way: STORE-wal-new, fsync, rename, fsync of the folder.
+ *               fsync the folder. A creation that was cut leaves STORE-new and no STORE, and is done again; a STORE-wal beside them is
+ *               its own. One that fails removes STORE-new last. A STORE-wal without either is left alone: a main file was lost.
+ *               A missing log is made the same way: STORE-wal-new, fsync, rename, fsync of the folder.
  *     flush     fsync of every file with writes since its last one, the log first; not only of the step's own file.
  *     opening   To write, go by what is on the medium: fsync both files and the folder, let the cache go of both files
  *               (posix_fadvise, POSIX_FADV_DONTNEED), and compare what is then read with what is read past the cache (O_DIRECT, into

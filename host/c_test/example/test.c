@@ -103,9 +103,7 @@ static void make_store(const char *path, uint8_t byte) {
 static int seen_in(const char *path, enum store_mode mode) {
     store_file *s = store_file_open(path, mode, &error);
     int byte = s == NULL ? -1 : byte_of(s, 2);
-    if (s != NULL) {
-        store_file_close(s);
-    }
+    store_file_close(s);
     return byte;
 }
 
@@ -185,18 +183,37 @@ static void cut_writers(void) {
 
 /* ---- failures */
 
-/* A creation that finds no room leaves no file behind. */
-static void full_disk(void) {
-    store_file *s = NULL;
-    for (unsigned call = 1; s == NULL; call++) {
+static void nothing(void) {
+}
+
+/* What a creation over an old store leaves that is cut before its log has its name. */
+static void cut_creation(void) {
+    make_file("grips-new", 2 * PAGE);
+    make_file("grips-wal-new", 32);
+    make_file("grips-wal", 32 + LATEENBAEL_FRAME_SIZE);
+}
+
+/* A creation that finds no room leaves no file behind, neither its own nor those of one that was cut before; but what it could not even
+ * open, it can't take away. */
+static void no_room(void (*before)(void), unsigned left) {
+    bool failed = true;
+    for (unsigned call = 1; failed; call++) {
+        before();
         fail_at(call, ENOSPC);
-        s = store_file_create("grips", &error);
-        CHECK((s == NULL) == has_failed());
-        CHECK(s != NULL || (error.code == ENOSPC && strchr(error.text, '/') != NULL && files_here(true) == 0));
+        store_file *s = store_file_create("grips", &error);
+        failed = has_failed();
+        CHECK((s == NULL) == failed);
+        CHECK(!failed || (error.code == ENOSPC && strchr(error.text, '/') != NULL));
+        CHECK(names_flushed() || failed);
+        store_file_close(s);
+        CHECK(files_here(true) == (!failed ? 2 : call == 1 ? left : 0));
     }
     fail_at(0, 0);
-    store_file_close(s);
-    CHECK(names_flushed() && files_here(true) == 2);
+}
+
+static void full_disk(void) {
+    no_room(nothing, 0);
+    no_room(cut_creation, 3);
 }
 
 /* Nor does an opening that finds no room for a missing log. */
@@ -385,10 +402,14 @@ static void refusals(void) {
     CHECK(files_here(true) == 2);
 }
 
-/* A log alone is a cut creation if it has no frames; others are not overwritten, nor are other files taken for stores. */
+/* A log alone is a cut creation's if it has no frames or the other name is there; others are not overwritten, nor are other files taken for
+ * stores. */
 static void strange_files(void) {
     make_file("grips-wal", 33);
     CHECK(store_file_create("grips", &error) == NULL && error.code == EEXIST && files_here(true) == 1);
+    cut_creation();
+    create();
+    CHECK(length_of("grips-wal") == 32 && files_here(true) == 2);
     make_file("grips-wal", 32);
     make_file("grips-new", 100000);
     make_file("grips-wal-new", 100000);

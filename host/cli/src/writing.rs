@@ -12,13 +12,8 @@ use std::time::Duration;
 
 pub fn create(args: &Args) -> Result<Answer, Failure> {
     let [path] = args.words()?;
-    let file = Path::new(path);
-    let files = if args.has("over") {
-        Files::overwriting(file, args.wait()?)?
-    } else {
-        Files::fresh(file)?
-    };
-    let store = Store::create_on(files, salts_of_the_clock())?;
+    let begin = if args.has("over") { Files::overwriting } else { Files::fresh };
+    let store = Store::create_on(begin(Path::new(path), args.wait()?)?, salts_of_the_clock())?;
     let count = store.header()?.page_count;
     let object = Json::object([("command", "create".into()), ("page_count", count.into())]);
     Ok(Answer::report_as(args.has("json"), object, format!("created; pages: {count}\n")))

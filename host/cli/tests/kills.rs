@@ -1,38 +1,66 @@
-//! The program killed at the entry of every one of its system calls in turn: whatever the kill leaves, the next calls find a whole store.
+//! The program killed at the entry of every one of its system calls in turn, or one of those that change files failing: whatever that
+//! leaves, the next calls find a whole store.
 //!
 //! A killed process loses nothing that it has written, so what is tried here is every order of whole system calls; what a power cut leaves
 //! of them is tried on disks in memory by the crate's tests.
 mod support;
 
 use std::collections::HashSet;
-use support::tracer::{Ending, killed_at};
+use std::io;
+use std::process::Command;
+use support::tracer::{Ending, failed_at, killed_at};
 use support::{WorkDir, is_there, skipped};
 
-/// Calls the line again and again, from the same files, killed one system call later each time, until it runs to its end. Each state that a
-/// kill leaves the folder in is judged once.
+/// Runs a command that is hurt at its call of that number.
+type Hurt = fn(Command, usize) -> io::Result<Ending>;
+
+/// Both ways, with how many calls a command has at the least.
+const HURTS: [(Hurt, usize); 2] = [(killed_at, 30), (failed_at, 3)];
+
+/// Calls the line again and again, from the same files, hurt one system call later each time, until it runs to its end. Each state that
+/// this leaves the folder in is judged once.
 fn at_every_call(dir: &WorkDir, line: &str, judge: impl Fn(&WorkDir)) {
     let start = dir.snapshot();
-    let mut judged = HashSet::new();
-    for call in 0.. {
-        dir.restore(&start);
-        let ending = match killed_at(dir.command(line), call) {
-            Ok(ending) => ending,
-            Err(error) if call == 0 => return skipped(line, &format!("a process can't be traced here: {error}")),
-            Err(error) => panic!("{line}, call {call}: {error}"),
-        };
-        if judged.insert(dir.snapshot()) {
-            let _context = Context { line, call };
-            judge(dir);
-        }
-        if let Ending::Exited(status) = ending {
-            assert_eq!(status, 0, "{line}");
-            assert!(call > 30 && judged.len() > 1, "{line}: {} states after {call} calls", judged.len());
-            return;
-        }
+    for (hurt, least) in HURTS {
+        let mut judged = HashSet::new();
+        let calls = hurt_at_every_call(dir, line, hurt, |dir| {
+            if judged.insert(dir.snapshot()) {
+                judge(dir);
+            }
+            dir.restore(&start);
+        });
+        assert!(
+            calls.is_none_or(|calls| calls > least && judged.len() > 1),
+            "{line}: {calls:?} calls"
+        );
     }
 }
 
-/// Says which kill it was when a judgement panics.
+/// The same with every state judged, from which the next call starts: how many calls there were, or none where a process can't be traced.
+fn hurt_at_every_call(dir: &WorkDir, line: &str, hurt: Hurt, mut judge: impl FnMut(&WorkDir)) -> Option<usize> {
+    for call in 0.. {
+        let ending = match hurt(dir.command(line), call) {
+            Ok(ending) => ending,
+            Err(error) if call == 0 => {
+                skipped(line, &format!("a process can't be traced here: {error}"));
+                return None;
+            }
+            Err(error) => panic!("{line}, call {call}: {error}"),
+        };
+        let _context = Context { line, call };
+        if let Ending::Failed(status) = ending {
+            assert_eq!(status, 1);
+        }
+        judge(dir);
+        if let Ending::Exited(status) = ending {
+            assert_eq!(status, 0, "{line}");
+            return Some(call);
+        }
+    }
+    None
+}
+
+/// Says at which call it was when a judgement panics.
 struct Context<'a> {
     line: &'a str,
     call: usize,
@@ -41,7 +69,7 @@ struct Context<'a> {
 impl Drop for Context<'_> {
     fn drop(&mut self) {
         if std::thread::panicking() {
-            eprintln!("`{}` was killed at its system call {}", self.line, self.call);
+            eprintln!("`{}` was hurt at its call {}", self.line, self.call);
         }
     }
 }
@@ -206,5 +234,27 @@ fn copy_and_restore() {
             assert_eq!(dir.done("dump other"), text);
             assert_eq!(dir.done("dump grips"), text);
         });
+    }
+}
+
+/// What fails to be made leaves no file behind: if it left one under its name, the next call would find it.
+#[test]
+fn a_failed_creation_leaves_no_file() {
+    let dir = WorkDir::with_store();
+    dir.done("dump grips text");
+    let start = dir.snapshot();
+    for line in [
+        "create other",
+        "create other --over",
+        "copy grips other",
+        "restore text other",
+        "read grips 1 other",
+        "dump grips other",
+    ] {
+        hurt_at_every_call(&dir, line, failed_at, |dir| {
+            assert!(is_there(&dir.file("other")) || dir.snapshot() == start);
+        });
+        assert!(is_there(&dir.file("other")), "{line}");
+        dir.restore(&start);
     }
 }

@@ -183,6 +183,9 @@ store_file *store_file_open(const char *path, enum store_mode mode, store_error 
 
 /* The lock goes with the main file's descriptor. */
 void store_file_close(store_file *s) {
+    if (s == NULL) {
+        return;
+    }
     if (s->log.fd >= 0) {
         close(s->log.fd);
     }
@@ -241,13 +244,14 @@ static bool make_log(store_file *s, store_error *error) {
     return made;
 }
 
-/* A log alone is a creation that was cut, if it has no frames; else someone has lost a main file. */
-static bool is_free(const store_file *s, store_error *error) {
+/* A log alone is what a creation that was cut has left, if that has left the main file's other name too or the log has no frames; else
+ * someone has lost a main file. */
+static bool is_free(const store_file *s, bool was_cut, store_error *error) {
     struct stat status;
     if (lstat(s->main.path, &status) == 0) {
         return tell(error, LATEENBAEL_OK, EEXIST, "%s is there already", s->main.path);
     }
-    if (lstat(s->log.path, &status) == 0 && status.st_size > 32) {
+    if (!was_cut && lstat(s->log.path, &status) == 0 && status.st_size > 32) {
         return tell(error, LATEENBAEL_OK, EEXIST, "%s is there already, with frames", s->log.path);
     }
     return true;
@@ -262,20 +266,34 @@ static bool make_both(store_file *s, store_error *error) {
            rename_new(&s->main, error) && flush_folder(s->main.path, error);
 }
 
+/* What a creation that was cut has left of its log: alone it would block others. */
+static void remove_left_log(const store_file *s) {
+    char name[NAME_SIZE];
+    unlink(s->log.path);
+    if (joined(name, s->log.path, "-new")) {
+        unlink(name);
+    }
+}
+
 static bool create_both(store_file *s, store_error *error) {
     char name[NAME_SIZE];
+    struct stat status;
     if (!new_name(name, &s->main, error)) {
         return false;
     }
+    bool was_cut = lstat(name, &status) == 0;
     /* This lock keeps other creations out, and then is the store's. */
     s->main.fd = open_locked(name, O_RDWR | O_CREAT, LOCK_EX, error);
     if (s->main.fd < 0) {
         return false;
     }
-    bool made = is_free(s, error) && make_both(s, error);
+    bool free_to_make = is_free(s, was_cut, error), made = free_to_make && make_both(s, error);
     if (!made) {
-        remove_made(&s->main);
         remove_made(&s->log);
+        if (free_to_make && was_cut) {
+            remove_left_log(s);
+        }
+        remove_made(&s->main);
     }
     return made;
 }

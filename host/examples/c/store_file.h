@@ -22,7 +22,7 @@ store_file *store_file_open(const char *path, enum store_mode mode, store_error 
 /* Makes a new store; EEXIST where there is one. A creation that was cut before is done again. */
 store_file *store_file_create(const char *path, store_error *error);
 store_file *store_file_open_or_create(const char *path, store_error *error);
-/* What was staged, or appended and not committed, is lost. */
+/* What was staged, or appended and not committed, is lost. NULL is nothing to close. */
 void store_file_close(store_file *s);
 
 /* The header that counts, and how many frames the log has. */

@@ -54,7 +54,9 @@ struct OneFile {
 enum Stage {
     /// Under its other name.
     Begun,
-    /// Under its own name.
+    /// Under its own name, which a power cut may still take back.
+    Renamed,
+    /// Under its own name, for good.
     Named,
 }
 
@@ -73,17 +75,18 @@ impl OneFile {
     }
 }
 
-/// A creation that fails leaves no file behind.
+/// A creation that fails leaves no file behind. The main file's other name goes last, since it tells whose the log is.
 impl Drop for Files {
     fn drop(&mut self) {
-        let is_store = self.main.stage == Stage::Named;
-        if self.owns_log && !is_store {
-            let _ = fs::remove_file(&self.log.path);
-        }
-        for one in [&self.log, &self.main] {
-            if one.stage == Stage::Begun {
-                let _ = fs::remove_file(new_path(&one.path));
-            }
+        let has_failed = self.main.stage != Stage::Named;
+        let left = [
+            (self.main.stage == Stage::Renamed, self.main.path.clone()),
+            (has_failed && self.owns_log, self.log.path.clone()),
+            (has_failed || self.log.stage == Stage::Begun, new_path(&self.log.path)),
+            (self.main.stage == Stage::Begun, new_path(&self.main.path)),
+        ];
+        for (_, path) in left.iter().filter(|(is_left, _)| *is_left) {
+            let _ = fs::remove_file(path);
         }
     }
 }
@@ -115,49 +118,51 @@ impl Files {
         })
     }
 
-    /// Two new files; if either is there already, it is left alone. What a creation that was cut has left is written over.
-    pub fn fresh(path: &Path) -> Result<Files, Error> {
-        let was_cut = is_there(&new_path(path))?;
-        for file in [path.to_path_buf(), wal_path_for(path)] {
-            if is_there(&file)? && (file == path || !was_cut) {
-                return Err(Error::AlreadyExists { file });
-            }
+    /// Two new files; if either is there already, it is left alone. What a creation that was cut has left is written over. One that is at
+    /// work is waited for so long.
+    pub fn fresh(path: &Path, wait: Duration) -> Result<Files, Error> {
+        let log = wal_path_for(path);
+        // In this order: a creation that is at work has the other name until both files have their own, the main file last.
+        let is_log_alone = is_there(&log)? && !is_there(&new_path(path))?;
+        left_alone(path)?;
+        if is_log_alone {
+            return Err(Error::AlreadyExists { file: log });
         }
-        let files = Files::begin(path, None)?;
-        match is_there(path)? {
-            true => Err(Error::AlreadyExists { file: path.to_path_buf() }),
-            false => Ok(files),
+        let files = Files::begin(path, None, wait)?;
+        if !files.owns_log {
+            left_alone(&log)?;
         }
+        Ok(files)
     }
 
     /// Two new files in the place of whatever stands there, which stays until the new ones are whole. The lock of a main file that is
-    /// there is waited for so long.
+    /// there, or of a creation that is at work, is waited for so long.
     pub fn overwriting(path: &Path, wait: Duration) -> Result<Files, Error> {
         if !is_there(path)? {
-            return Files::begin(path, None);
+            return Files::begin(path, None, wait);
         }
         let path = resolved(path)?;
         let replaced = open_locked(&path, false, wait)?;
-        Files::begin(&path, Some(replaced))
+        Files::begin(&path, Some(replaced), wait)
     }
 
-    /// The main file begun, and locked.
-    fn begin(path: &Path, replaced: Option<File>) -> Result<Files, Error> {
-        let new_path = new_path(path);
-        let main = open_new(path).map_err(|error| Error::of_file(&new_path, error))?;
-        lock(&main, &new_path, false, Duration::ZERO)?;
+    /// The main file begun, and locked. Where its other name was there and it was not, a creation was cut, and the log is what that left.
+    fn begin(path: &Path, replaced: Option<File>, wait: Duration) -> Result<Files, Error> {
+        let (main, was_there) = open_new_locked(path, wait)?;
         give_away(&main, replaced.as_ref());
-        if !names(&new_path, &main)? {
-            // Another creation has just published it.
-            return Err(Error::AlreadyExists { file: path.to_path_buf() });
-        }
-        Ok(Files {
+        let mut files = Files {
             main: OneFile::new(path.to_path_buf(), Some(main), Stage::Begun),
             log: OneFile::new(wal_path_for(path), None, Stage::Named),
             replaced,
             owns_log: false,
             direct: None,
-        })
+        };
+        if files.replaced.is_none() {
+            // Another creation may have published it since it was looked for.
+            left_alone(path)?;
+            files.owns_log = was_there;
+        }
+        Ok(files)
     }
 
     fn of(&self, area: Area) -> &OneFile {
@@ -229,7 +234,7 @@ impl Disk for Files {
 
     fn create(&mut self, area: Area) -> io::Result<()> {
         if self.of(area).file.is_none() {
-            let file = open_new(&self.of(area).path)?;
+            let (file, _) = open_new(&new_path(&self.of(area).path))?;
             give_away(&file, self.main.file.as_ref());
             let one = self.of_mut(area);
             (one.file, one.stage) = (Some(file), Stage::Begun);
@@ -245,9 +250,11 @@ impl Disk for Files {
             return Ok(());
         }
         fs::rename(new_path(&one.path), &one.path)?;
-        one.stage = Stage::Named;
+        one.stage = Stage::Renamed;
         self.owns_log = true;
-        sync_folder(&self.main.path)
+        sync_folder(&self.main.path)?;
+        self.of_mut(area).stage = Stage::Named;
+        Ok(())
     }
 
     fn write_at(&mut self, area: Area, at: usize, bytes: &[u8]) -> io::Result<()> {
@@ -335,11 +342,41 @@ pub(crate) fn open_regular(path: &Path, read_only: bool) -> Result<File, Error> 
     }
 }
 
-/// Opens a file's other name for its creation, whatever a cut one has left there.
-fn open_new(path: &Path) -> io::Result<File> {
+/// A creation leaves alone what is there.
+fn left_alone(path: &Path) -> Result<(), Error> {
+    match is_there(path)? {
+        true => Err(Error::AlreadyExists { file: path.to_path_buf() }),
+        false => Ok(()),
+    }
+}
+
+/// Opens a main file's other name for its creation, and locks it. While the lock was waited for, the creation that had it may have
+/// published or removed it.
+fn open_new_locked(path: &Path, wait: Duration) -> Result<(File, bool), Error> {
+    let new_path = new_path(path);
+    loop {
+        let (file, was_there) = open_new(&new_path).map_err(|error| Error::of_file(&new_path, error))?;
+        lock(&file, path, false, wait)?;
+        if names(&new_path, &file)? {
+            return Ok((file, was_there));
+        }
+    }
+}
+
+/// Opens a file's other name for its creation, and tells whether it was there: a creation has been cut, or is at work.
+fn open_new(new_path: &Path) -> io::Result<(File, bool)> {
     let mut options = OpenOptions::new();
-    options.read(true).write(true).create(true).custom_flags(O_NONBLOCK | O_NOFOLLOW);
-    options.open(new_path(path))
+    options.read(true).write(true).custom_flags(O_NONBLOCK | O_NOFOLLOW);
+    loop {
+        match options.clone().create_new(true).open(new_path) {
+            Err(error) if error.kind() == io::ErrorKind::AlreadyExists => {}
+            made => return Ok((made?, false)),
+        }
+        match options.open(new_path) {
+            Err(error) if error.kind() == io::ErrorKind::NotFound => {}
+            found => return Ok((found?, true)),
+        }
+    }
 }
 
 /// Gives a new file the mode and owner of the one that it belongs to, as far as that is allowed: who looks after a store as another

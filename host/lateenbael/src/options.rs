@@ -93,7 +93,8 @@ impl OpenOptions {
     }
 
     fn created(self, path: &Path) -> Result<Store, Error> {
-        match Store::create(path) {
+        let files = Files::fresh(path, self.wait);
+        match files.and_then(|files| Store::create_on(files, salts_of_the_clock())) {
             // Another program was faster.
             Err(Error::AlreadyExists { file }) if file == path => self.create(false).open(path),
             created => created,

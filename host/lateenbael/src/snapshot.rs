@@ -1,6 +1,5 @@
 //! A whole store apart from its files: taken from one, carried anywhere, and made into another that reads the same.
-use crate::creation::make_files;
-use crate::{Batch, Disk, Engine, Error, Files, Log, Mode, Refusal, Store, salts_of_the_clock};
+use crate::{Batch, DEFAULT_WAIT, Disk, Engine, Error, Files, Log, Refusal, Store, salts_of_the_clock};
 use lateenbael_sys as sys;
 use std::fmt;
 use std::path::Path;
@@ -153,14 +152,13 @@ impl Snapshot {
         let mut salts = salts_of_the_clock();
         let (main, log) = (self.main_file()?, self.log_file(salts())?);
         let mut engine = Engine::new();
-        let opened = engine.open_with_mode(&main, Some(&log), true, 0);
+        let opened = engine.open_clean(&main, Some(&log), false, 0);
         let made = opened.and_then(|()| Snapshot::of_engine(&engine));
         if made.map_err(|refusal| SnapshotError::Header { refusal })? != *self {
             return Err(SnapshotError::Different);
         }
-        let mut files = Files::fresh(path.as_ref())?;
-        make_files(&mut files, &main, &log)?;
-        Ok(Store::open_on(files, Mode::ReadWrite, salts)?)
+        let files = Files::fresh(path.as_ref(), DEFAULT_WAIT)?;
+        Ok(Store::made_on(engine, files, salts)?)
     }
 
     /// The header and the pages behind it.

@@ -26,7 +26,7 @@ impl Store<Files> {
     /// A new store in two new files; files that are there already are left alone. A creation that is cut has left no store, and can be
     /// done again.
     pub fn create(path: impl AsRef<Path>) -> Result<Store, Error> {
-        Store::create_on(Files::fresh(path.as_ref())?, salts_of_the_clock())
+        Store::create_on(Files::fresh(path.as_ref(), DEFAULT_WAIT)?, salts_of_the_clock())
     }
 
     /// A new store in place of whatever the two files hold, which is lost once the new ones are whole.
@@ -72,10 +72,15 @@ impl<D: Disk> Store<D> {
     }
 
     /// A new store on a disk.
-    pub fn create_on(disk: D, salts: Salts) -> Result<Store<D>, Error> {
-        let mut store = Store::with_engine(Engine::new(), disk, salts);
-        let salt = (store.salts)();
-        store.engine.create(salt)?;
+    pub fn create_on(disk: D, mut salts: Salts) -> Result<Store<D>, Error> {
+        let mut engine = Engine::new();
+        engine.create(salts())?;
+        Store::made_on(engine, disk, salts)
+    }
+
+    /// The store that an engine has open, in new files on a disk.
+    pub(crate) fn made_on(engine: Engine, disk: D, salts: Salts) -> Result<Store<D>, Error> {
+        let mut store = Store::with_engine(engine, disk, salts);
         make_files(&mut store.disk, store.engine.main_file(), store.engine.log_file())?;
         Ok(store)
     }
@@ -393,7 +398,7 @@ impl<D: Disk> Store<D> {
     /// Copies both files as they lie to a new store.
     pub fn copy_to(&self, path: impl AsRef<Path>) -> Result<(), Error> {
         self.running()?;
-        let mut files = Files::fresh(path.as_ref())?;
+        let mut files = Files::fresh(path.as_ref(), DEFAULT_WAIT)?;
         match self.engine.has_log() {
             true => make_files(&mut files, self.engine.main_file(), self.engine.log_file()),
             false => {

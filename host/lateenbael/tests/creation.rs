@@ -5,6 +5,7 @@ use lateenbael::{Error, Files, Mode, OpenOptions, Store, wal_path_for};
 use std::fs;
 use std::os::unix::fs::PermissionsExt;
 use std::path::{Path, PathBuf};
+use std::time::Duration;
 
 type Creation = fn(&Path) -> Result<Store, Error>;
 
@@ -39,34 +40,76 @@ fn a_store_is_opened_or_made() {
     assert!(matches!(Store::open(&other, Mode::Plain), Err(Error::NotFound { .. })));
 }
 
+fn remove(store: &Path) {
+    fs::remove_file(store).unwrap();
+    fs::remove_file(wal_path_for(store)).unwrap();
+}
+
 /// What a creation that was cut may have left: files under their other names, whole or in part, the log under its own.
+fn left_by_a_cut(path: &Path) -> [Vec<(PathBuf, Vec<u8>)>; 5] {
+    let (new, log) = (new_name(path), wal_path_for(path));
+    let new_log = new_name(&log);
+    seven_pages(path);
+    let [main_bytes, log_bytes] = bytes_of(path).map(Option::unwrap);
+    remove(path);
+    [
+        vec![(new.clone(), vec![])],
+        vec![(new.clone(), main_bytes[..5000].to_vec())],
+        vec![(new.clone(), main_bytes.clone()), (new_log.clone(), vec![])],
+        vec![(new.clone(), main_bytes.clone()), (new_log, log_bytes.clone())],
+        vec![(new, main_bytes), (log, log_bytes)],
+    ]
+}
+
+/// That a creation works, and leaves its store alone in the folder.
+fn creates(folder: &Folder, create: Creation) {
+    let path = folder.store();
+    let mut store = create(&path).unwrap();
+    assert_eq!(store.header().unwrap().page_count, 2);
+    commit_pages(&mut store, 2, &[1]);
+    assert_eq!(others(folder), 0);
+    remove(&path);
+}
+
 #[test]
 fn a_cut_creation_is_done_again() {
     let folder = Folder::new();
     let path = folder.store();
-    let log = wal_path_for(&path);
-    seven_pages(&path);
-    let [main_bytes, log_bytes] = bytes_of(&path).map(Option::unwrap);
-    let left: [&[(&Path, &[u8])]; 5] = [
-        &[(&new_name(&path), &[])],
-        &[(&new_name(&path), &main_bytes[..5000])],
-        &[(&new_name(&path), &main_bytes), (&new_name(&log), &[])],
-        &[(&new_name(&path), &main_bytes), (&new_name(&log), &log_bytes)],
-        &[(&new_name(&path), &main_bytes), (&log, &log_bytes)],
-    ];
-    for files in left {
+    for files in left_by_a_cut(&path) {
         for create in CREATIONS {
-            for file in [&path, &log] {
-                let _ = fs::remove_file(file);
-            }
             files.iter().for_each(|(file, bytes)| fs::write(file, bytes).unwrap());
             assert!(matches!(Store::open(&path, Mode::ReadOnly), Err(Error::NotFound { .. })));
-            let mut store = create(&path).unwrap();
-            assert_eq!(store.header().unwrap().page_count, 2);
-            commit_pages(&mut store, 2, &[1]);
-            assert_eq!(others(&folder), 0);
+            creates(&folder, create);
         }
     }
+}
+
+/// A creation that fails after one that was cut takes the log of that with it: a log alone would block every later one.
+#[test]
+fn a_creation_given_up_after_a_cut_one_blocks_nothing() {
+    let folder = Folder::new();
+    let path = folder.store();
+    for files in left_by_a_cut(&path) {
+        for begin in [Files::fresh, Files::overwriting] {
+            files.iter().for_each(|(file, bytes)| fs::write(file, bytes).unwrap());
+            drop(begin(&path, Duration::ZERO).unwrap());
+            assert_eq!(fs::read_dir(&folder.0).unwrap().count(), 0);
+            creates(&folder, CREATIONS[0]);
+        }
+    }
+}
+
+/// The old store is its own while it is there, also where a creation over it was cut before.
+#[test]
+fn a_creation_over_a_store_given_up_leaves_it() {
+    let folder = Folder::new();
+    let path = folder.store();
+    seven_pages(&path);
+    let before = bytes_of(&path);
+    fs::write(new_name(&path), [0; 5000]).unwrap();
+    drop(Files::overwriting(&path, Duration::ZERO).unwrap());
+    assert_eq!(bytes_of(&path), before);
+    assert_eq!(others(&folder), 0);
 }
 
 #[test]
@@ -87,10 +130,10 @@ fn a_log_alone_is_left() {
 fn two_creations_at_once_make_one_store() {
     let folder = Folder::new();
     let path = folder.store();
-    let first = Files::fresh(&path).unwrap();
-    assert!(matches!(Files::fresh(&path), Err(Error::Locked { .. })));
+    let first = Files::fresh(&path, Duration::ZERO).unwrap();
+    assert!(matches!(Files::fresh(&path, Duration::ZERO), Err(Error::Locked { .. })));
     let store = Store::create_on(first, counting_salts(1)).unwrap();
-    assert!(matches!(Files::fresh(&path), Err(Error::AlreadyExists { .. })));
+    assert!(matches!(Files::fresh(&path, Duration::ZERO), Err(Error::AlreadyExists { .. })));
     drop(store);
     assert_eq!(others(&folder), 0);
 }
@@ -105,6 +148,22 @@ fn many_creations_at_once_make_one_store() {
     });
     assert_eq!(made, 1);
     assert_eq!(open(&path, Mode::ReadWrite).header().unwrap().page_count, 2);
+}
+
+/// Controllers that start together: the first makes the store, the others wait for it.
+#[test]
+fn many_openings_at_once_make_one_store() {
+    let folder = Folder::new();
+    let path = folder.store();
+    for _ in 0..20 {
+        std::thread::scope(|scope| {
+            let open = || Store::open_or_create(&path).map(|store| store.header().unwrap().page_count);
+            let tries: Vec<_> = (0..8).map(|_| scope.spawn(open)).collect();
+            tries.into_iter().for_each(|one| assert_eq!(one.join().unwrap().unwrap(), 2));
+        });
+        assert_eq!(others(&folder), 0);
+        remove(&path);
+    }
 }
 
 #[test]

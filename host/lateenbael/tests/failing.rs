@@ -156,7 +156,7 @@ fn in_a_creation() {
     let folder = Folder::new();
     let path = folder.store();
     for fails_at in 0.. {
-        let disk = Failing::new(Files::fresh(&path).unwrap(), fails_at, PAGE / 2);
+        let disk = Failing::new(Files::fresh(&path, Duration::ZERO).unwrap(), fails_at, PAGE / 2);
         let answer = Store::create_on(disk, counting_salts(1));
         if answer.is_ok() {
             // Each file made, written and synced; each published.

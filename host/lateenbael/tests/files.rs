@@ -10,7 +10,7 @@ use std::time::{Duration, Instant};
 fn creation_writes_both_files() {
     let folder = Folder::new();
     let path = folder.store();
-    let files = Files::fresh(&path).unwrap();
+    let files = Files::fresh(&path, Duration::ZERO).unwrap();
     let store = Store::create_on(files, counting_salts(6)).unwrap();
     assert_eq!(store.header().unwrap().page_count, 2);
     let [main, log] = bytes_of(&path).map(Option::unwrap);
