@@ -49,7 +49,8 @@ fn hurt_at_every_call(dir: &WorkDir, line: &str, hurt: Hurt, mut judge: impl FnM
         };
         let _context = Context { line, call };
         if let Ending::Failed(status) = ending {
-            assert_eq!(status, 1);
+            // 0 where it was to take away what need not go.
+            assert!(status == 0 || status == 1, "{status}");
         }
         judge(dir);
         if let Ending::Exited(status) = ending {

@@ -42,7 +42,7 @@ fn refusals_are_status_1_by_number_and_name() {
         ("read none 1 out", "lateenbael: none: there is no such file\n"),
         ("log none", "none-wal: "),
         ("checkpoint none", "lateenbael: none: there is no such file\n"),
-        ("create none/none", "lateenbael: none/none-new: there is no such file\n"),
+        ("create none/none", "lateenbael: none: there is no such file\n"),
     ];
     for (line, message) in table {
         dir.fails(line, 1, message);

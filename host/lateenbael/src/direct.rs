@@ -1,6 +1,5 @@
 //! The system's cache: what it holds of a file dropped, and a file read past it.
-use crate::{Comparison, MEDIUM_CHUNK};
-use std::fmt;
+use crate::Comparison;
 use std::fs::{File, OpenOptions};
 use std::io;
 use std::os::fd::AsRawFd;
@@ -12,16 +11,13 @@ const O_DIRECT: i32 = 0o40000;
 /// Such reads go to addresses and places that are multiples of this; no medium's blocks are longer.
 const ALIGNMENT: usize = 4096;
 
+/// How many bytes are read at once.
+const CHUNK: usize = 1 << 18;
+
 /// A file opened a second time, for such reads.
 pub struct Direct {
     file: File,
     buffer: Vec<u8>,
-}
-
-impl fmt::Debug for Direct {
-    fn fmt(&self, f: &mut fmt::Formatter<'_>) -> fmt::Result {
-        f.debug_struct("Direct").field("file", &self.file).finish_non_exhaustive()
-    }
 }
 
 impl Direct {
@@ -35,14 +31,25 @@ impl Direct {
         if (one.dev(), one.ino()) != (other.dev(), other.ino()) {
             return Err(io::Error::other("replaced while it was opened"));
         }
-        let buffer = vec![0; MEDIUM_CHUNK + ALIGNMENT];
+        let buffer = vec![0; CHUNK + ALIGNMENT];
         Ok(Some(Direct { file, buffer }))
     }
 
-    /// Compares some bytes, at most a chunk.
-    pub fn compare_at(&mut self, bytes: &[u8], at: u64) -> io::Result<Comparison> {
+    /// Compares bytes with the file's first ones.
+    pub fn compare(&mut self, bytes: &[u8]) -> io::Result<Comparison> {
+        for (n, chunk) in bytes.chunks(CHUNK).enumerate() {
+            match self.compare_at(chunk, (n * CHUNK) as u64)? {
+                Comparison::Same => {}
+                other => return Ok(other),
+            }
+        }
+        Ok(Comparison::Same)
+    }
+
+    /// Compares at most a chunk.
+    fn compare_at(&mut self, bytes: &[u8], at: u64) -> io::Result<Comparison> {
         let start = self.buffer.as_ptr().align_offset(ALIGNMENT);
-        let aligned = &mut self.buffer[start..][..MEDIUM_CHUNK];
+        let aligned = &mut self.buffer[start..][..CHUNK];
         let mut len = 0;
         while len < bytes.len() {
             match self.file.read_at(&mut aligned[len..], at + len as u64) {

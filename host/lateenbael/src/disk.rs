@@ -23,9 +23,8 @@ pub trait Disk {
     /// nothing to do. So an opening for writing does this first, and then asks the medium.
     fn drop_cached(&mut self, area: Area) -> io::Result<()>;
 
-    /// Compares bytes with those that lie on the medium, past any cache, and outlast a power cut. The place is a multiple of
-    /// [`MEDIUM_CHUNK`], and there are no more bytes than that.
-    fn compare_with_medium(&mut self, area: Area, at: usize, bytes: &[u8]) -> io::Result<Comparison>;
+    /// Compares all of a file's bytes, as they were just read, with those that lie on the medium, past any cache, and outlast a power cut.
+    fn compare_with_medium(&mut self, area: Area, bytes: &[u8]) -> io::Result<Comparison>;
 
     /// Begins a new, empty file. It may stand under another name until it is published.
     fn create(&mut self, area: Area) -> io::Result<()>;
@@ -49,9 +48,6 @@ pub trait Disk {
         Ok(true)
     }
 }
-
-/// How many bytes are compared with the medium at once.
-pub const MEDIUM_CHUNK: usize = 1 << 18;
 
 /// What a disk says of bytes that it compared with its medium.
 #[derive(Clone, Copy, Debug, PartialEq, Eq, Hash)]

@@ -31,8 +31,8 @@ impl Disk for DryRun<'_> {
         self.files.drop_cached(area)
     }
 
-    fn compare_with_medium(&mut self, area: Area, at: usize, bytes: &[u8]) -> io::Result<Comparison> {
-        self.files.compare_with_medium(area, at, bytes)
+    fn compare_with_medium(&mut self, area: Area, bytes: &[u8]) -> io::Result<Comparison> {
+        self.files.compare_with_medium(area, bytes)
     }
 
     fn create(&mut self, area: Area) -> io::Result<()> {

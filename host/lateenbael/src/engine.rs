@@ -161,7 +161,12 @@ macro_rules! over_areas {
 
 impl Engine {
     /// Areas of zeros, and nothing open.
+    ///
+    /// # Panics
+    ///
+    /// If the static library that was linked is of another version than this crate: then no call on it means anything.
     pub fn new() -> Engine {
+        assert_eq!(sys::lateenbael_version(), sys::VERSION, "the static library is not this crate's");
         let mut engine = Engine {
             store: CLOSED,
             unreadable: 0,
@@ -252,19 +257,23 @@ impl Engine {
         Ok(())
     }
 
-    /// Plain opening of two files.
+    /// Plain opening of two files. Where it is refused, nothing is open: the areas may have these bytes then.
     pub fn open_with_mode(&mut self, main: &[u8], log: Option<&[u8]>, read_only: bool, salt: u32) -> Result<(), Refusal> {
-        self.lend(main, log)?;
-        self.reopen(false, main.len(), log.map(<[u8]>::len), read_only, salt)
+        self.open_files(false, main, log, read_only, salt)
     }
 
-    /// Clean opening of two files.
+    /// Clean opening of two files. Where it is refused, nothing is open: the areas may have these bytes then.
     pub fn open_clean(&mut self, main: &[u8], log: Option<&[u8]>, read_only: bool, salt: u32) -> Result<(), Refusal> {
-        self.lend(main, log)?;
-        self.reopen(true, main.len(), log.map(<[u8]>::len), read_only, salt)
+        self.open_files(true, main, log, read_only, salt)
     }
 
-    /// Opening of what lies in the areas already: files of these lengths.
+    fn open_files(&mut self, clean: bool, main: &[u8], log: Option<&[u8]>, read_only: bool, salt: u32) -> Result<(), Refusal> {
+        self.set_store(CLOSED);
+        self.lend(main, log)?;
+        self.reopen(clean, main.len(), log.map(<[u8]>::len), read_only, salt)
+    }
+
+    /// Opening of what lies in the areas already: files of these lengths. Where it is refused, the store is as it was.
     pub fn reopen(&mut self, clean: bool, main_len: usize, log_len: Option<usize>, read_only: bool, salt: u32) -> Result<(), Refusal> {
         let open = if clean {
             sys::lateenbael_open_clean

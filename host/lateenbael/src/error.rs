@@ -33,6 +33,14 @@ pub enum Error {
         /// The page count of the commit's header.
         page_count: u32,
     },
+    /// A commit or a batch behind bytes at the log's end that are no frame, where no opening would find it. Only a plain opening leaves such
+    /// bytes there. The library takes it, as the Rust does; [`Store`](crate::Store) does not, and nothing was changed.
+    TornTail {
+        /// The log.
+        file: PathBuf,
+        /// How many bytes are no frame.
+        bytes: usize,
+    },
     /// Another program, or another `Store` of this one, has the store open, and did not close it in the time that was waited.
     Locked {
         /// The file that is locked, the main one.
@@ -90,7 +98,10 @@ impl Error {
 
     /// An error of the system's, about a file.
     pub(crate) fn of_file(file: impl Into<PathBuf>, source: io::Error) -> Error {
-        let file = file.into();
+        let (file, source) = match source.downcast::<Error>() {
+            Ok(error) => return error,
+            Err(source) => (file.into(), source),
+        };
         match source.kind() {
             io::ErrorKind::NotFound => Error::NotFound { file },
             io::ErrorKind::AlreadyExists => Error::AlreadyExists { file },
@@ -110,6 +121,11 @@ impl fmt::Display for Error {
             Error::StagedBeyond { page, page_count } => {
                 write!(f, "page {page} is staged, and a page count of {page_count} would leave it out")
             }
+            Error::TornTail { file, bytes } => write!(
+                f,
+                "{} ends in {bytes} bytes that are no frame, behind which no opening would find what is committed; a clean opening cuts them off",
+                file.display()
+            ),
             Error::Locked { file, holder } => {
                 let holder = holder.as_deref().unwrap_or("a controller, or another lateenbael");
                 write!(f, "{}: another program has the store open ({holder})", file.display())
@@ -133,7 +149,10 @@ impl fmt::Display for Error {
 /// Whether the file is out of reach, and the disk has not failed.
 fn is_forbidden(error: &io::Error) -> bool {
     use io::ErrorKind::*;
-    matches!(error.kind(), PermissionDenied | ReadOnlyFilesystem | NotADirectory | ResourceBusy)
+    matches!(
+        error.kind(),
+        PermissionDenied | ReadOnlyFilesystem | NotADirectory | ResourceBusy | InvalidFilename
+    )
 }
 
 impl std::error::Error for Error {
@@ -158,6 +177,12 @@ impl From<Error> for io::Error {
             _ => io::ErrorKind::Other,
         };
         io::Error::new(kind, error)
+    }
+}
+
+impl From<Refusal> for io::Error {
+    fn from(refusal: Refusal) -> io::Error {
+        Error::Refused(refusal).into()
     }
 }
 

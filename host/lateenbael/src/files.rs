@@ -1,43 +1,27 @@
 //! A store's two real files.
-use crate::direct::{Direct, drop_cached, is_unsupported};
-use crate::lock::lock;
+use crate::direct::{Direct, drop_cached};
+use crate::named::{
+    Begun, begin, begin_locked, creating_path, folder_of, give_away, is_free, is_there, names, open_locked, open_regular, remove_if_there,
+    resolved, sync_folder, wal_path_for,
+};
 use crate::{Area, Comparison, Disk, Error};
-use std::ffi::OsString;
-use std::fs::{self, File, Metadata, OpenOptions};
+use std::fs::{self, File, Permissions};
 use std::io;
-use std::os::unix::fs::{FileExt, MetadataExt, OpenOptionsExt, fchown};
+use std::os::unix::fs::{FileExt, MetadataExt, PermissionsExt};
 use std::path::{Path, PathBuf};
 use std::time::Duration;
 
-/// `open` does not wait for the other end of a pipe (Linux on x86-64, as the static library).
-const O_NONBLOCK: i32 = 0o4000;
-/// `open` fails on a symbolic link.
-const O_NOFOLLOW: i32 = 0o400000;
-
-/// The log's path beside a main file: the same with `-wal` behind it, as the Rust names it.
-pub fn wal_path_for(main: &Path) -> PathBuf {
-    with_suffix(main, "-wal")
-}
-
-fn with_suffix(path: &Path, suffix: &str) -> PathBuf {
-    let mut name = OsString::from(path);
-    name.push(suffix);
-    PathBuf::from(name)
-}
-
 /// Two real files. The main file is locked while they are open, for writers alone or for readers together, as the Rust locks it.
 ///
-/// A new file is made under its name with `-new` behind it, and gets its own when it is whole (`publish`): the log first, then the main
-/// file. So a creation that was cut has left no main file, and the one under the other name tells that it was cut.
+/// A new file is made under its name with `-creating` behind it, and gets its own when it is whole (`publish`): the log first, then the
+/// main file. So a creation that was cut has left no main file, and the one under the other name tells that it was cut: a log beside that is
+/// its own, while a log alone is one whose main file was lost.
 #[derive(Debug)]
 pub struct Files {
     main: OneFile,
     log: OneFile,
-    /// The main file that a creation takes the place of, locked until then.
+    /// The main file that a creation takes the place of, locked until the new one stands there.
     replaced: Option<File>,
-    /// Whether the log that stands there is the creation's to take away, should it fail.
-    owns_log: bool,
-    direct: Option<(Area, Direct)>,
 }
 
 #[derive(Debug)]
@@ -73,26 +57,50 @@ impl OneFile {
     fn open_file(&self) -> io::Result<&File> {
         self.file.as_ref().ok_or_else(|| io::Error::from(io::ErrorKind::NotFound))
     }
-}
 
-/// A creation that fails leaves no file behind. The main file's other name goes last, since it tells whose the log is.
-impl Drop for Files {
-    fn drop(&mut self) {
-        let has_failed = self.main.stage != Stage::Named;
-        let left = [
-            (self.main.stage == Stage::Renamed, self.main.path.clone()),
-            (has_failed && self.owns_log, self.log.path.clone()),
-            (has_failed || self.log.stage == Stage::Begun, new_path(&self.log.path)),
-            (self.main.stage == Stage::Begun, new_path(&self.main.path)),
-        ];
-        for (_, path) in left.iter().filter(|(is_left, _)| *is_left) {
+    /// Whether the path is this file's name now, and no other file's.
+    fn has_name(&self, path: &Path) -> bool {
+        self.file.as_ref().is_some_and(|file| matches!(names(path, file), Ok(true)))
+    }
+
+    fn remove_name(&self, path: &Path) {
+        if self.has_name(path) {
             let _ = fs::remove_file(path);
         }
     }
 }
 
-fn new_path(path: &Path) -> PathBuf {
-    with_suffix(path, "-new")
+/// A creation that fails leaves no file behind. The main file's other name goes last, since it tells whose the log is.
+impl Drop for Files {
+    fn drop(&mut self) {
+        let (main, log) = (&self.main, &self.log);
+        let [creating, log_creating] = [main, log].map(|one| creating_path(&one.path));
+        if main.stage == Stage::Renamed && main.has_name(&main.path) {
+            let _ = fs::rename(&main.path, &creating);
+        }
+        if main.stage != Stage::Named {
+            log.remove_name(&log.path);
+            log.remove_name(&log_creating);
+            main.remove_name(&creating);
+        } else if log.stage == Stage::Begun {
+            log.remove_name(&log_creating);
+        }
+    }
+}
+
+/// How often a store is looked for again that other programs make or remove meanwhile. A link that leads nowhere stays so.
+const TRIES: usize = 100;
+
+/// Does it again where another program has made the store, or removed it, since it was looked for.
+fn with_patience<T>(mut attempt: impl FnMut() -> Result<T, Error>) -> Result<T, Error> {
+    let mut answer = attempt();
+    for _ in 1..TRIES {
+        if !matches!(answer, Err(Error::NotFound { .. } | Error::AlreadyExists { .. })) {
+            break;
+        }
+        answer = attempt();
+    }
+    answer
 }
 
 impl Files {
@@ -106,6 +114,8 @@ impl Files {
             found => Some(found?),
         };
         if !read_only {
+            // What a creation that was cut has left beside a store would tell of a cut one where the main file is lost later.
+            let _ = remove_if_there(&creating_path(&log_path)).and_then(|()| remove_if_there(&creating_path(&path)));
             // A log whose name is in the cache alone would be gone after a power cut, and all that is committed to it.
             sync_folder(&path).map_err(|error| Error::of_file(folder_of(&path), error))?;
         }
@@ -113,56 +123,81 @@ impl Files {
             main: OneFile::new(path, Some(main), Stage::Named),
             log: OneFile::new(log_path, log, Stage::Named),
             replaced: None,
-            owns_log: false,
-            direct: None,
         })
     }
 
-    /// Two new files; if either is there already, it is left alone. What a creation that was cut has left is written over. One that is at
-    /// work is waited for so long.
+    /// Two new files; if either is there already, it is left alone. What a creation that was cut has left is removed. One that is at work
+    /// is waited for so long.
     pub fn fresh(path: &Path, wait: Duration) -> Result<Files, Error> {
         let log = wal_path_for(path);
         // In this order: a creation that is at work has the other name until both files have their own, the main file last.
-        let is_log_alone = is_there(&log)? && !is_there(&new_path(path))?;
-        left_alone(path)?;
+        let is_log_alone = is_there(&log)? && !is_there(&creating_path(path))?;
+        is_free(path)?;
         if is_log_alone {
             return Err(Error::AlreadyExists { file: log });
         }
-        let files = Files::begin(path, None, wait)?;
-        if !files.owns_log {
-            left_alone(&log)?;
-        }
+        let files = Files::begun(path, None, wait)?;
+        is_free(&log)?;
         Ok(files)
     }
 
     /// Two new files in the place of whatever stands there, which stays until the new ones are whole. The lock of a main file that is
     /// there, or of a creation that is at work, is waited for so long.
     pub fn overwriting(path: &Path, wait: Duration) -> Result<Files, Error> {
-        if !is_there(path)? {
-            return Files::begin(path, None, wait);
-        }
-        let path = resolved(path)?;
-        let replaced = open_locked(&path, false, wait)?;
-        Files::begin(&path, Some(replaced), wait)
+        with_patience(|| {
+            if !is_there(path)? {
+                return Files::begun(path, None, wait);
+            }
+            let path = resolved(path)?;
+            let replaced = open_locked(&path, false, wait)?;
+            Files::begun(&path, Some(replaced), wait)
+        })
     }
 
-    /// The main file begun, and locked. Where its other name was there and it was not, a creation was cut, and the log is what that left.
-    fn begin(path: &Path, replaced: Option<File>, wait: Duration) -> Result<Files, Error> {
-        let (main, was_there) = open_new_locked(path, wait)?;
-        give_away(&main, replaced.as_ref());
-        let mut files = Files {
-            main: OneFile::new(path.to_path_buf(), Some(main), Stage::Begun),
-            log: OneFile::new(wal_path_for(path), None, Stage::Named),
+    /// The files of a store that is there, or new ones; and whether they are new.
+    pub(crate) fn existing_or_fresh(path: &Path, wait: Duration) -> Result<(Files, bool), Error> {
+        with_patience(|| match Files::existing(path, false, wait) {
+            Err(missing @ Error::NotFound { .. }) => match Files::fresh(path, wait) {
+                Err(Error::AlreadyExists { file }) if file == path => Err(missing),
+                files => Ok((files?, true)),
+            },
+            files => Ok((files?, false)),
+        })
+    }
+
+    /// The main file begun, and locked. Where it was begun before, and there is no store, a creation was cut.
+    fn begun(path: &Path, replaced: Option<File>, wait: Duration) -> Result<Files, Error> {
+        let Begun { file, was_there } = begin_locked(path, wait)?;
+        if let Some(replaced) = &replaced {
+            give_away(&file, replaced);
+        }
+        let log_path = wal_path_for(path);
+        let files = Files {
+            main: OneFile::new(path.to_path_buf(), Some(file), Stage::Begun),
+            log: OneFile::new(log_path.clone(), None, Stage::Named),
             replaced,
-            owns_log: false,
-            direct: None,
         };
         if files.replaced.is_none() {
             // Another creation may have published it since it was looked for.
-            left_alone(path)?;
-            files.owns_log = was_there;
+            is_free(path)?;
+        }
+        if files.replaced.is_none() && was_there {
+            let left = [&log_path, &creating_path(&log_path)].map(|left| remove_if_there(left));
+            left.into_iter()
+                .collect::<io::Result<()>>()
+                .map_err(|error| Error::of_file(log_path, error))?;
         }
         Ok(files)
+    }
+
+    /// Takes from new files whatever others may not do with that one.
+    pub(crate) fn restrict_as(&self, path: &Path) {
+        if let (Ok(like), Ok(file)) = (fs::metadata(path), self.main.open_file())
+            && let Ok(new) = file.metadata()
+        {
+            let mode = new.permissions().mode() & like.permissions().mode();
+            let _ = file.set_permissions(Permissions::from_mode(mode));
+        }
     }
 
     fn of(&self, area: Area) -> &OneFile {
@@ -179,14 +214,15 @@ impl Files {
         }
     }
 
-    /// Takes away the main file that a creation replaces, before its log: an old main file is never seen with a new log, nor the
+    /// Takes away the store that a creation replaces, its main file first: an old main file is never seen with a new log, nor the
     /// other way round.
-    fn remove_replaced(&mut self) -> io::Result<()> {
-        if self.replaced.is_none() || self.owns_log {
+    fn remove_replaced(&self) -> io::Result<()> {
+        let Some(replaced) = &self.replaced else { return Ok(()) };
+        if !names(&self.main.path, replaced)? {
             return Ok(());
         }
         fs::remove_file(&self.main.path)?;
-        self.owns_log = true;
+        remove_if_there(&self.log.path)?;
         sync_folder(&self.main.path)
     }
 }
@@ -221,21 +257,20 @@ impl Disk for Files {
         Ok(())
     }
 
-    fn compare_with_medium(&mut self, area: Area, at: usize, bytes: &[u8]) -> io::Result<Comparison> {
-        if self.direct.as_ref().is_none_or(|(of, _)| *of != area) {
-            let one = self.of(area);
-            self.direct = Direct::open(&one.path, one.open_file()?)?.map(|direct| (area, direct));
-        }
-        match &mut self.direct {
-            Some((_, direct)) => direct.compare_at(bytes, at as u64),
+    fn compare_with_medium(&mut self, area: Area, bytes: &[u8]) -> io::Result<Comparison> {
+        let one = self.of(area);
+        match Direct::open(&one.path, one.open_file()?)? {
+            Some(mut direct) => direct.compare(bytes),
             None => Ok(Comparison::Unknown),
         }
     }
 
     fn create(&mut self, area: Area) -> io::Result<()> {
         if self.of(area).file.is_none() {
-            let (file, _) = open_new(&new_path(&self.of(area).path))?;
-            give_away(&file, self.main.file.as_ref());
+            let Begun { file, .. } = begin(&self.of(area).path)?;
+            if let Some(main) = &self.main.file {
+                give_away(&file, main);
+            }
             let one = self.of_mut(area);
             (one.file, one.stage) = (Some(file), Stage::Begun);
         }
@@ -246,14 +281,15 @@ impl Disk for Files {
     fn publish(&mut self, area: Area) -> io::Result<()> {
         self.remove_replaced()?;
         let one = self.of_mut(area);
-        if one.stage == Stage::Named {
-            return Ok(());
+        if one.stage == Stage::Begun {
+            fs::rename(creating_path(&one.path), &one.path)?;
+            one.stage = Stage::Renamed;
+            sync_folder(&one.path)?;
+            one.stage = Stage::Named;
         }
-        fs::rename(new_path(&one.path), &one.path)?;
-        one.stage = Stage::Renamed;
-        self.owns_log = true;
-        sync_folder(&self.main.path)?;
-        self.of_mut(area).stage = Stage::Named;
+        if area == Area::Main {
+            self.replaced = None;
+        }
         Ok(())
     }
 
@@ -283,123 +319,5 @@ impl Disk for Files {
         let one = self.of(area);
         let now = one.open_file()?.metadata()?;
         Ok(now.nlink() > 0 && one.len.is_none_or(|len| len as u64 == now.len()))
-    }
-}
-
-fn is_there(path: &Path) -> Result<bool, Error> {
-    match fs::symlink_metadata(path) {
-        Ok(_) => Ok(true),
-        Err(error) if error.kind() == io::ErrorKind::NotFound => Ok(false),
-        Err(error) => Err(Error::of_file(path, error)),
-    }
-}
-
-/// Where a symbolic link leads, so that a store has one log whatever name it is opened by.
-pub(crate) fn resolved(path: &Path) -> Result<PathBuf, Error> {
-    let found = |error| Error::of_file(path, error);
-    match fs::symlink_metadata(path).map_err(found)?.is_symlink() {
-        true => fs::canonicalize(path).map_err(found),
-        false => Ok(path.to_path_buf()),
-    }
-}
-
-fn is_same_file(one: &Metadata, other: &Metadata) -> bool {
-    (one.dev(), one.ino()) == (other.dev(), other.ino())
-}
-
-/// Whether the path is that file's name.
-fn names(path: &Path, file: &File) -> Result<bool, Error> {
-    let found = |error| Error::of_file(path, error);
-    match fs::symlink_metadata(path) {
-        Ok(named) => Ok(is_same_file(&named, &file.metadata().map_err(found)?)),
-        Err(error) if error.kind() == io::ErrorKind::NotFound => Ok(false),
-        Err(error) => Err(found(error)),
-    }
-}
-
-/// Opens a main file and locks it. While the lock was waited for, a creation may have put another file there.
-fn open_locked(path: &Path, read_only: bool, wait: Duration) -> Result<File, Error> {
-    loop {
-        let file = open_regular(path, read_only)?;
-        lock(&file, path, read_only, wait)?;
-        if names(path, &file)? {
-            return Ok(file);
-        }
-    }
-}
-
-/// Opens a regular file with one name.
-pub(crate) fn open_regular(path: &Path, read_only: bool) -> Result<File, Error> {
-    let found = |error| Error::of_file(path, error);
-    let mut options = OpenOptions::new();
-    options.read(true).write(!read_only).custom_flags(O_NONBLOCK | O_NOFOLLOW);
-    let file = options.open(path).map_err(found)?;
-    let (file_is, path) = (file.metadata().map_err(found)?, path.to_path_buf());
-    match file_is.nlink() {
-        _ if !file_is.is_file() => Err(Error::NotAFile { file: path }),
-        links @ 2.. => Err(Error::Linked { file: path, links }),
-        _ => Ok(file),
-    }
-}
-
-/// A creation leaves alone what is there.
-fn left_alone(path: &Path) -> Result<(), Error> {
-    match is_there(path)? {
-        true => Err(Error::AlreadyExists { file: path.to_path_buf() }),
-        false => Ok(()),
-    }
-}
-
-/// Opens a main file's other name for its creation, and locks it. While the lock was waited for, the creation that had it may have
-/// published or removed it.
-fn open_new_locked(path: &Path, wait: Duration) -> Result<(File, bool), Error> {
-    let new_path = new_path(path);
-    loop {
-        let (file, was_there) = open_new(&new_path).map_err(|error| Error::of_file(&new_path, error))?;
-        lock(&file, path, false, wait)?;
-        if names(&new_path, &file)? {
-            return Ok((file, was_there));
-        }
-    }
-}
-
-/// Opens a file's other name for its creation, and tells whether it was there: a creation has been cut, or is at work.
-fn open_new(new_path: &Path) -> io::Result<(File, bool)> {
-    let mut options = OpenOptions::new();
-    options.read(true).write(true).custom_flags(O_NONBLOCK | O_NOFOLLOW);
-    loop {
-        match options.clone().create_new(true).open(new_path) {
-            Err(error) if error.kind() == io::ErrorKind::AlreadyExists => {}
-            made => return Ok((made?, false)),
-        }
-        match options.open(new_path) {
-            Err(error) if error.kind() == io::ErrorKind::NotFound => {}
-            found => return Ok((found?, true)),
-        }
-    }
-}
-
-/// Gives a new file the mode and owner of the one that it belongs to, as far as that is allowed: who looks after a store as another
-/// user must not lock its controller out.
-fn give_away(file: &File, like: Option<&File>) {
-    let Some(like) = like.and_then(|like| like.metadata().ok()) else {
-        return;
-    };
-    let _ = file.set_permissions(like.permissions());
-    let _ = fchown(file, Some(like.uid()), Some(like.gid()));
-}
-
-fn folder_of(file: &Path) -> &Path {
-    match file.parent() {
-        Some(parent) if !parent.as_os_str().is_empty() => parent,
-        _ => Path::new("."),
-    }
-}
-
-/// A new name outlasts a power cut only when its folder was synced too. A file system that syncs no folders says so.
-fn sync_folder(file: &Path) -> io::Result<()> {
-    match File::open(folder_of(file))?.sync_all() {
-        Err(error) if is_unsupported(&error) => Ok(()),
-        synced => synced,
     }
 }

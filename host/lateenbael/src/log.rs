@@ -1,5 +1,5 @@
 //! A log's bytes, read alone: its header, its good frames, its commit point, its batches, and its listing.
-use crate::files::{open_regular, resolved, wal_path_for};
+use crate::named::{open_regular, resolved, wal_path_for};
 use crate::{Batch, Error, Refusal};
 use lateenbael_sys as sys;
 use std::fmt::{self, Write};

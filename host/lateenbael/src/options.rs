@@ -9,7 +9,8 @@ pub enum Mode {
     /// For reading and writing; the log is cut at its commit point, so that nothing uncommitted is ever taken in.
     #[default]
     ReadWrite,
-    /// For reading and writing as the Rust does: uncommitted frames (document 01's tail) stay, and a later commit takes them in.
+    /// For reading and writing as the Rust does: uncommitted frames (document 01's tail) stay, and a later commit takes them in. Behind
+    /// bytes that are no frame nothing is committed ([`Error::TornTail`]).
     Plain,
     /// Nothing is written and no file is made.
     ReadOnly,
@@ -85,19 +86,14 @@ impl OpenOptions {
 
     /// The same in the areas of an earlier store, whatever they hold: who opens often need not touch new memory each time.
     pub fn open_in(self, engine: Engine, path: impl AsRef<Path>) -> Result<Store, Error> {
-        let path = path.as_ref();
-        match Files::existing(path, self.mode == Mode::ReadOnly, self.wait) {
-            Err(Error::NotFound { .. }) if self.create && self.mode != Mode::ReadOnly => self.created(path),
-            files => Store::open_on_in(engine, files?, self.mode, salts_of_the_clock()),
+        let (path, mode, salts) = (path.as_ref(), self.mode, salts_of_the_clock());
+        if !self.create || mode == Mode::ReadOnly {
+            let files = Files::existing(path, mode == Mode::ReadOnly, self.wait)?;
+            return Store::open_on_in(engine, files, mode, salts);
         }
-    }
-
-    fn created(self, path: &Path) -> Result<Store, Error> {
-        let files = Files::fresh(path, self.wait);
-        match files.and_then(|files| Store::create_on(files, salts_of_the_clock())) {
-            // Another program was faster.
-            Err(Error::AlreadyExists { file }) if file == path => self.create(false).open(path),
-            created => created,
+        match Files::existing_or_fresh(path, self.wait)? {
+            (files, true) => Store::create_on(files, salts),
+            (files, false) => Store::open_on_in(engine, files, mode, salts),
         }
     }
 }

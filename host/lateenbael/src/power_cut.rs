@@ -49,8 +49,8 @@ impl<D: Disk> Disk for PowerCut<D> {
         self.disk.drop_cached(area)
     }
 
-    fn compare_with_medium(&mut self, area: Area, at: usize, bytes: &[u8]) -> io::Result<Comparison> {
-        self.disk.compare_with_medium(area, at, bytes)
+    fn compare_with_medium(&mut self, area: Area, bytes: &[u8]) -> io::Result<Comparison> {
+        self.disk.compare_with_medium(area, bytes)
     }
 
     fn read(&mut self, area: Area, buffer: &mut [u8]) -> io::Result<Option<usize>> {

@@ -1,6 +1,6 @@
 //! A disk's files read for an opening, so that what it goes by is on the medium.
 use crate::disk::failed;
-use crate::{Area, Comparison, Disk, Error, MEDIUM_CHUNK};
+use crate::{Area, Comparison, Disk, Error};
 use std::io;
 
 /// Reads a file into its area, as the system shows it: its length, as [`Disk::read`] tells it.
@@ -27,22 +27,11 @@ pub fn read_settled<D: Disk>(disk: &mut D, area: Area, bytes: &mut [u8]) -> Resu
 }
 
 /// Fails where the cache has other bytes than the medium. Where the medium can't be read past the cache, the bytes are written again.
-fn compare_with_medium<D: Disk>(disk: &mut D, area: Area, bytes: &[u8]) -> io::Result<()> {
-    let mut is_known = true;
-    for (n, cached) in bytes.chunks(MEDIUM_CHUNK).enumerate() {
-        let at = n * MEDIUM_CHUNK;
-        match disk.compare_with_medium(area, at, cached)? {
-            Comparison::Same => {}
-            Comparison::Different => return Err(io::Error::other(NOT_DROPPED)),
-            Comparison::Unknown => {
-                disk.write_at(area, at, cached)?;
-                is_known = false;
-            }
-        }
-    }
-    match is_known {
-        true => Ok(()),
-        false => disk.sync(area),
+fn compare_with_medium<D: Disk>(disk: &mut D, area: Area, cached: &[u8]) -> io::Result<()> {
+    match disk.compare_with_medium(area, cached)? {
+        Comparison::Same => Ok(()),
+        Comparison::Different => Err(io::Error::other(NOT_DROPPED)),
+        Comparison::Unknown => disk.write_at(area, 0, cached).and_then(|()| disk.sync(area)),
     }
 }
 

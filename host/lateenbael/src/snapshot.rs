@@ -2,6 +2,7 @@
 use crate::{Batch, DEFAULT_WAIT, Disk, Engine, Error, Files, Log, Refusal, Store, salts_of_the_clock};
 use lateenbael_sys as sys;
 use std::fmt;
+use std::io;
 use std::path::Path;
 use sys::{DbHeader, LOG_AREA, MVCC_FRAME_MARKER, PAGE_SIZE, PAGES, Wal};
 
@@ -96,6 +97,16 @@ impl std::error::Error for SnapshotError {
             SnapshotError::Batch { refusal, .. } | SnapshotError::Header { refusal } => Some(refusal),
             SnapshotError::Store(error) => Some(error),
             _ => None,
+        }
+    }
+}
+
+/// For functions that answer the system's errors: the error itself is inside.
+impl From<SnapshotError> for io::Error {
+    fn from(error: SnapshotError) -> io::Error {
+        match error {
+            SnapshotError::Store(error) => error.into(),
+            other => io::Error::other(other),
         }
     }
 }

@@ -236,6 +236,7 @@ impl<D: Disk> Store<D> {
     /// then.
     pub fn append_mvcc_batch(&mut self, body: &[u8]) -> Result<(), Error> {
         self.running()?;
+        self.check_tail()?;
         let write = self.engine.append_mvcc_batch(body)?;
         self.write_out(write)
     }
@@ -244,10 +245,11 @@ impl<D: Disk> Store<D> {
     ///
     /// A commit that brings the log to 100 frames is followed by a checkpoint, and the log's batches are gone then; before that
     /// [`frames_before_checkpoint`](Store::frames_before_checkpoint) tells how near it is. A staged page at or above the header's page count
-    /// is refused ([`Error::StagedBeyond`]).
+    /// is refused ([`Error::StagedBeyond`]), and so is a commit behind bytes that are no frame ([`Error::TornTail`]).
     pub fn commit(&mut self, header: DbHeader) -> Result<usize, Error> {
         self.running()?;
         self.check_staged(header.page_count)?;
+        self.check_tail()?;
         self.check_intact(Area::Log)?;
         if self.engine.store().staged.count < self.frames_left() {
             return self.commit_at_once(header);
@@ -276,6 +278,18 @@ impl<D: Disk> Store<D> {
         match staged.filter(beyond).min() {
             Some(page) => Err(Error::StagedBeyond { page, page_count }),
             None => Ok(()),
+        }
+    }
+
+    /// Refuses what would be written behind bytes that are no frame: reading a log stops there.
+    fn check_tail(&self) -> Result<(), Error> {
+        let wal = &self.engine.store().wal;
+        match wal.good_end < wal.len && self.engine.is_writable() {
+            true => Err(Error::TornTail {
+                file: self.disk.name(Area::Log),
+                bytes: wal.len - wal.good_end,
+            }),
+            false => Ok(()),
         }
     }
 
@@ -395,10 +409,11 @@ impl<D: Disk> Store<D> {
         Ok(log.map_or(0, |log| log.frames().filter(|frame| frame.batch().is_some()).count()))
     }
 
-    /// Copies both files as they lie to a new store.
+    /// Copies both files as they lie to a new store. Who may not read or write this one's main file may not do so there.
     pub fn copy_to(&self, path: impl AsRef<Path>) -> Result<(), Error> {
         self.running()?;
         let mut files = Files::fresh(path.as_ref(), DEFAULT_WAIT)?;
+        files.restrict_as(&self.disk.name(Area::Main));
         match self.engine.has_log() {
             true => make_files(&mut files, self.engine.main_file(), self.engine.log_file()),
             false => {

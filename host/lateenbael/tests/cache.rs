@@ -162,9 +162,9 @@ impl Disk for Forgetting {
         })
     }
 
-    fn compare_with_medium(&mut self, area: Area, at: usize, bytes: &[u8]) -> io::Result<Comparison> {
+    fn compare_with_medium(&mut self, area: Area, bytes: &[u8]) -> io::Result<Comparison> {
         self.with(area, |file| {
-            let medium = file.medium.iter().skip(at).chain(std::iter::repeat(&0));
+            let medium = file.medium.iter().chain(std::iter::repeat(&0));
             match bytes.iter().zip(medium).all(|(byte, there)| byte == there) {
                 true => Comparison::Same,
                 false => Comparison::Different,

@@ -1,7 +1,7 @@
 //! Creation: what was there, what a cut or failed one leaves, and copies.
 mod common;
 use common::*;
-use lateenbael::{Error, Files, Mode, OpenOptions, Store, wal_path_for};
+use lateenbael::{Area, Disk, Error, Files, Mode, OpenOptions, Store, wal_path_for};
 use std::fs;
 use std::os::unix::fs::PermissionsExt;
 use std::path::{Path, PathBuf};
@@ -15,8 +15,8 @@ const CREATIONS: [Creation; 3] = [
     |path| Store::create_over(path),
 ];
 
-fn new_name(path: &Path) -> PathBuf {
-    PathBuf::from(format!("{}-new", path.display()))
+fn creating(path: &Path) -> PathBuf {
+    PathBuf::from(format!("{}-creating", path.display()))
 }
 
 /// The folder's files, but a store's own two.
@@ -47,8 +47,8 @@ fn remove(store: &Path) {
 
 /// What a creation that was cut may have left: files under their other names, whole or in part, the log under its own.
 fn left_by_a_cut(path: &Path) -> [Vec<(PathBuf, Vec<u8>)>; 5] {
-    let (new, log) = (new_name(path), wal_path_for(path));
-    let new_log = new_name(&log);
+    let (new, log) = (creating(path), wal_path_for(path));
+    let new_log = creating(&log);
     seven_pages(path);
     let [main_bytes, log_bytes] = bytes_of(path).map(Option::unwrap);
     remove(path);
@@ -106,10 +106,78 @@ fn a_creation_over_a_store_given_up_leaves_it() {
     let path = folder.store();
     seven_pages(&path);
     let before = bytes_of(&path);
-    fs::write(new_name(&path), [0; 5000]).unwrap();
+    fs::write(creating(&path), [0; 5000]).unwrap();
     drop(Files::overwriting(&path, Duration::ZERO).unwrap());
     assert_eq!(bytes_of(&path), before);
     assert_eq!(others(&folder), 0);
+}
+
+/// What it removes are its own files, whatever has come to stand under their names.
+#[test]
+fn a_creation_given_up_removes_no_other_file() {
+    let folder = Folder::new();
+    let (here, there) = (folder.0.join("here"), folder.0.join("there"));
+    fs::create_dir(&here).unwrap();
+    let path = here.join("grips");
+    let files = Files::fresh(&path, Duration::ZERO).unwrap();
+    fs::rename(&here, &there).unwrap();
+    fs::create_dir(&here).unwrap();
+    seven_pages(&path);
+    fs::write(creating(&path), "another's").unwrap();
+    let before = bytes_of(&path);
+    drop(files);
+    assert_eq!(bytes_of(&path), before);
+    assert!(creating(&path).exists());
+}
+
+/// Other names of a store are nobody's business but its own: a backup may be called so.
+#[test]
+fn a_store_with_a_like_name_is_left() {
+    let folder = Folder::new();
+    let (path, backup) = (folder.store(), folder.0.join("grips-new"));
+    seven_pages(&backup);
+    let before = bytes_of(&backup);
+    for create in CREATIONS {
+        drop(create(&path).unwrap());
+        assert_eq!(bytes_of(&backup), before);
+        remove(&path);
+    }
+}
+
+/// Or a main file that is lost later would be taken for one that was never made, and its log for nobody's.
+#[test]
+fn an_opening_for_writing_removes_what_a_cut_creation_left_beside_a_store() {
+    let folder = Folder::new();
+    let (path, log) = (folder.store(), wal_path_for(&folder.store()));
+    seven_pages(&path);
+    for (mode, left) in [(Mode::ReadOnly, 2), (Mode::ReadWrite, 0), (Mode::Plain, 0)] {
+        [&path, &log].into_iter().for_each(|file| fs::write(creating(file), "cut").unwrap());
+        open(&path, mode);
+        assert_eq!(others(&folder), left);
+    }
+}
+
+/// A file with a second name is not written over by way of a creation.
+#[test]
+fn a_file_with_two_names_is_not_begun() {
+    let folder = Folder::new();
+    let (path, precious) = (folder.store(), folder.0.join("precious"));
+    let (main, log) = (creating(&path), creating(&wal_path_for(&path)));
+    fs::write(&precious, "precious").unwrap();
+    fs::hard_link(&precious, &main).unwrap();
+    assert!(matches!(Store::open_or_create(&path), Err(Error::Linked { file, links: 2 }) if file == main));
+    fs::remove_file(&main).unwrap();
+    let mut files = Files::fresh(&path, Duration::ZERO).unwrap();
+    fs::hard_link(&precious, &log).unwrap();
+    assert!(
+        files
+            .create(Area::Log)
+            .unwrap_err()
+            .to_string()
+            .contains("grips-wal-creating has 2 hard links")
+    );
+    drop(files);
+    assert_eq!(fs::read_to_string(&precious).unwrap(), "precious");
 }
 
 #[test]
@@ -166,6 +234,62 @@ fn many_openings_at_once_make_one_store() {
     }
 }
 
+/// The one that writes over what is there finds the other's.
+#[test]
+fn a_creation_over_a_store_waits_for_one_that_is_at_work() {
+    let folder = Folder::new();
+    let path = folder.store();
+    let first = Files::fresh(&path, Duration::ZERO).unwrap();
+    std::thread::scope(|scope| {
+        let second = scope.spawn(|| Store::create_over(&path).map(drop));
+        std::thread::sleep(Duration::from_millis(50));
+        drop(Store::create_on(first, counting_salts(1)).unwrap());
+        second.join().unwrap().unwrap();
+    });
+    assert_eq!(others(&folder), 0);
+}
+
+/// No page of a store that was replaced, and no second descriptor of a log, stays open.
+#[test]
+fn a_store_has_its_two_files_open() {
+    let folder = Folder::new();
+    let path = folder.store();
+    drop(Store::create(&path).unwrap());
+    for store in [Store::create_over, Store::open_or_create] as [fn(PathBuf) -> Result<Store, Error>; 2] {
+        let store = store(path.clone()).unwrap();
+        let files = fs::read_dir("/proc/self/fd")
+            .unwrap()
+            .filter_map(|fd| fs::read_link(fd.unwrap().path()).ok());
+        assert_eq!(files.filter(|file| file.starts_with(&folder.0)).count(), 2);
+        drop(store);
+    }
+}
+
+#[test]
+fn a_copy_is_as_private_as_its_store() {
+    let folder = Folder::new();
+    let (path, copy) = (folder.store(), folder.0.join("copy"));
+    let store = Store::create(&path).unwrap();
+    fs::set_permissions(&path, fs::Permissions::from_mode(0o600)).unwrap();
+    store.copy_to(&copy).unwrap();
+    for file in [&copy, &wal_path_for(&copy)] {
+        assert_eq!(fs::metadata(file).unwrap().permissions().mode() & 0o777, 0o600);
+    }
+}
+
+/// A log that a copy which was cut has left is not the new one's.
+#[test]
+fn a_copy_without_a_log_has_none() {
+    let folder = Folder::new();
+    let (path, copy) = (folder.store(), folder.0.join("copy"));
+    seven_pages(&path);
+    fs::copy(&path, creating(&copy)).unwrap();
+    fs::copy(wal_path_for(&path), wal_path_for(&copy)).unwrap();
+    fs::remove_file(wal_path_for(&path)).unwrap();
+    open(&path, Mode::ReadOnly).copy_to(&copy).unwrap();
+    assert_eq!(bytes_of(&copy), bytes_of(&path));
+}
+
 #[test]
 fn a_copy_has_the_same_files() {
     let folder = Folder::new();
@@ -204,8 +328,5 @@ fn new_files_have_the_mode_of_those_that_they_belong_to() {
 fn a_folder_that_is_not_there_is_named() {
     let folder = Folder::new();
     let error = Store::create(folder.0.join("none/grips")).unwrap_err();
-    assert!(
-        matches!(&error, Error::NotFound { file } if file.ends_with("none/grips-new")),
-        "{error}"
-    );
+    assert!(matches!(&error, Error::NotFound { file } if file.ends_with("none")), "{error}");
 }

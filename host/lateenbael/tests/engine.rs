@@ -1,7 +1,8 @@
 //! The engine in memory.
 mod common;
 use common::{FRAME, page};
-use lateenbael::{Engine, Refusal, Step};
+use lateenbael::sys::MAIN_AREA;
+use lateenbael::{DbHeader, Engine, Refusal, Step};
 
 #[test]
 fn a_page_is_committed_and_checkpointed() {
@@ -33,6 +34,24 @@ fn calls_between_steps_are_refused() {
     assert!(matches!(engine.next_step(), Ok(Step::Last(write, 1)) if write.at == 32 + FRAME && write.flush));
     assert_eq!(engine.next_step(), Ok(Step::Idle));
     assert_eq!(engine.header(), Ok(header));
+}
+
+#[test]
+fn a_refused_opening_leaves_nothing_open() {
+    let mut engine = Engine::new();
+    engine.create(7).unwrap();
+    let (main, log) = (engine.main_file().to_vec(), engine.log_file().to_vec());
+    let too_long = vec![0; MAIN_AREA + 1];
+    for (main, refusal) in [(&[0xEE; 12288][..], Refusal::Magic), (&too_long, Refusal::Area)] {
+        for open in [Engine::open_clean, Engine::open_with_mode] {
+            assert_eq!(open(&mut engine, main, Some(&log), false, 1), Err(refusal));
+            assert_eq!(engine.read_page(1), Ok(None));
+            assert_eq!(engine.stage_page(1, &page(1)), Ok(()));
+            assert_eq!(engine.commit(DbHeader::default(), 1), Err((Refusal::ReadOnly, 0)));
+        }
+    }
+    engine.open_clean(&main, Some(&log), false, 1).unwrap();
+    assert_eq!(engine.header().unwrap().page_count, 2);
 }
 
 #[test]

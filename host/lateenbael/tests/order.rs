@@ -33,7 +33,7 @@ impl Disk for Recording {
         Ok(())
     }
 
-    fn compare_with_medium(&mut self, _: Area, _: usize, _: &[u8]) -> io::Result<Comparison> {
+    fn compare_with_medium(&mut self, _: Area, _: &[u8]) -> io::Result<Comparison> {
         Ok(Comparison::Unknown)
     }
 

@@ -1,7 +1,9 @@
 //! Refused calls alter neither file, and the store goes on.
 mod common;
 use common::*;
-use lateenbael::{BatchBuilder, Disk, Error, Mode, Refusal, Store};
+use lateenbael::{BatchBuilder, Disk, Error, Mode, Refusal, Store, wal_path_for};
+use std::fs::OpenOptions;
+use std::io::Write;
 
 /// Every call that must be refused, each with its refusal.
 fn all_refused<D: Disk>(store: &mut Store<D>, header: lateenbael::DbHeader) {
@@ -101,4 +103,34 @@ fn a_page_that_the_count_leaves_out_is_refused() {
     store.clear_staged().unwrap();
     store.stage_page(6, &page(1)).unwrap();
     assert_eq!(store.commit(header).unwrap(), 1);
+}
+
+/// Bytes at the log's end that are no frame: a commit behind them would be acknowledged, and no opening would find it.
+#[test]
+fn nothing_is_committed_behind_a_torn_tail() {
+    let folder = Folder::new();
+    let path = folder.store();
+    for torn in [1, 4111, 4112, 5000] {
+        seven_pages(&path);
+        commit_pages(&mut open(&path, Mode::ReadWrite), 3, &[32]);
+        let log = wal_path_for(&path);
+        OpenOptions::new()
+            .append(true)
+            .open(&log)
+            .unwrap()
+            .write_all(&vec![7; torn])
+            .unwrap();
+        let before = bytes_of(&path);
+        let mut store = open(&path, Mode::Plain);
+        store.stage_page(3, &page(33)).unwrap();
+        let header = store.header().unwrap();
+        assert!(matches!(store.commit(header), Err(Error::TornTail { file, bytes }) if file == log && bytes == torn));
+        let appended = store.append_mvcc_batch(batch(1).body());
+        assert!(matches!(appended, Err(Error::TornTail { .. })));
+        assert_eq!(bytes_of(&path), before);
+        store.checkpoint().unwrap();
+        assert_eq!(store.commit(header).unwrap(), 1);
+        drop(store);
+        assert_eq!(open(&path, Mode::ReadWrite).read_page(3).unwrap(), Some(&page(33)));
+    }
 }

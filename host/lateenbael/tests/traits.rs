@@ -1,5 +1,7 @@
 //! What a Rust user expects of the crate's types.
-use lateenbael::{Area, Batch, BatchBuilder, DbHeader, Engine, Error, Files, Mode, OpenOptions, PowerCut, Refusal, Store, Value, Vector};
+use lateenbael::{
+    Area, Batch, BatchBuilder, DbHeader, Engine, Error, Files, Mode, OpenOptions, PowerCut, Refusal, Snapshot, Store, Value, Vector,
+};
 use std::collections::HashSet;
 use std::fmt::Debug;
 
@@ -59,6 +61,11 @@ fn errors_are_the_systems_too() {
     assert_eq!(error.kind(), std::io::ErrorKind::NotFound);
     assert!(error.to_string().contains("/nowhere/grips"));
     assert!(error.downcast::<Error>().is_ok());
+    let answered = || -> std::io::Result<Store> {
+        BatchBuilder::default().add_tombstone("grips", 7)?;
+        Ok(Snapshot::of(&Store::open("/nowhere/grips", Mode::ReadOnly)?)?.create("/nowhere/other")?)
+    };
+    assert_eq!(answered().unwrap_err().kind(), std::io::ErrorKind::NotFound);
 }
 
 #[test]
