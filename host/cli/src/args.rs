@@ -97,9 +97,19 @@ fn option(word: &OsStr, behind: &mut slice::Iter<OsString>, known: Known) -> Res
         return Ok((flag, OsString::new()));
     }
     let option = named(known.valued).ok_or_else(unknown)?;
-    let value = value.or_else(|| behind.next().map(OsString::as_os_str));
+    let value = value
+        .or_else(|| behind.next().map(OsString::as_os_str))
+        .filter(|value| !value.is_empty());
     let value = value.ok_or_else(|| Failure::Usage(format!("--{option} wants a value")))?;
     Ok((option, value.to_os_string()))
+}
+
+/// An empty word names nothing: as a rule a script has lost it.
+pub fn none_is_empty(words: &[OsString]) -> Result<(), Failure> {
+    match (1..).zip(words).find(|(_, word)| word.is_empty()) {
+        Some((n, _)) => Err(Failure::Usage(format!("a word is empty: number {n} behind lateenbael"))),
+        None => Ok(()),
+    }
 }
 
 /// A word's parts before and behind its first `=`.

@@ -127,20 +127,28 @@ fn unclear(why: &str) -> Failure {
 }
 
 fn parsed<T: std::str::FromStr>(word: &str) -> Result<T, Failure> {
-    word.parse().map_err(|_| unclear(&format!("{word:?} does not fit here")))
+    word.parse().map_err(|_| unfitting(word))
+}
+
+fn unfitting(word: &str) -> Failure {
+    unclear(&format!("{word:?} does not fit here"))
+}
+
+/// A number as it is written. Infinities are written as words: one that was written by digits is a number too large for its bits.
+fn float<T: std::str::FromStr + Copy + Into<f64>>(word: &str) -> Result<T, Failure> {
+    let x: T = parsed(word)?;
+    match x.into() {
+        real if real.is_nan() => Err(unclear("a NaN is written by its bits")),
+        real if real.is_infinite() && word.contains(|c: char| c.is_ascii_digit()) => Err(unfitting(word)),
+        _ => Ok(x),
+    }
 }
 
 fn real(word: &str) -> Result<f64, Failure> {
     if let Some(digits) = bits_of(word, 16) {
         return Ok(f64::from_bits(digits?));
     }
-    parsed(word).and_then(|x: f64| {
-        if x.is_nan() {
-            Err(unclear("a NaN is written by its bits"))
-        } else {
-            Ok(x)
-        }
-    })
+    float(word)
 }
 
 fn element(token: &Token) -> Result<f32, Failure> {
@@ -150,13 +158,7 @@ fn element(token: &Token) -> Result<f32, Failure> {
     if let Some(digits) = bits_of(word, 8) {
         return Ok(f32::from_bits(digits? as u32));
     }
-    parsed(word).and_then(|x: f32| {
-        if x.is_nan() {
-            Err(unclear("a NaN is written by its bits"))
-        } else {
-            Ok(x)
-        }
-    })
+    float(word)
 }
 
 /// The bits that a word beginning with 0x tells by so many digits.

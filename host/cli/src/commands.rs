@@ -1,5 +1,5 @@
 //! The commands by name: which options each takes, and what does it.
-use crate::args::{Args, Known};
+use crate::args::{Args, Known, none_is_empty};
 use crate::failure::Failure;
 use crate::help;
 use crate::output::Answer;
@@ -114,15 +114,15 @@ pub fn run(words: &[OsString]) -> Result<Answer, Failure> {
     let Some((name, rest)) = words.split_first() else {
         return Err(Failure::Usage("no command".to_string()));
     };
+    none_is_empty(words)?;
     let wants_help = rest
         .iter()
         .take_while(|word| *word != "--")
         .any(|word| word == "-h" || word == "--help");
     match name.to_str() {
-        Some("--help" | "-h") => return Ok(Answer::shown(help::HELP)),
         Some("--version" | "-V") => return version(rest),
-        Some("help") if wants_help => return Ok(Answer::shown(help::HELP)),
-        Some("help") => return about(rest),
+        Some("help" | "--help" | "-h") if wants_help => return Ok(Answer::shown(help::HELP)),
+        Some("help" | "--help" | "-h") => return about(rest),
         _ => {}
     }
     let command = find(name)?;

@@ -13,9 +13,13 @@ pub enum Failure {
 }
 
 impl Failure {
-    /// A file could not be used.
-    pub fn file(path: &Path, error: io::Error) -> Failure {
-        Failure::Refused(format!("{}: {error}", path.display()))
+    /// A file could not be used. It is told as the crate tells it of a store's.
+    pub fn file(name: impl fmt::Display, error: io::Error) -> Failure {
+        Failure::Refused(match error.kind() {
+            io::ErrorKind::AlreadyExists => format!("{name} is there already"),
+            io::ErrorKind::NotFound => format!("{name}: there is no such file"),
+            _ => format!("{name}: {error}"),
+        })
     }
 
     /// A call on a store failed. A bare refusal does not name the store.

@@ -16,7 +16,7 @@ lateenbael looks after a store of pages of 4,096 bytes on two files, STORE and S
   lateenbael copy STORE NEW                  copies both files to a new store, while no one writes
   lateenbael dump STORE [OUTFILE]            the whole store as text, to a new file or to standard output (-)
   lateenbael restore FILE NEW                makes a new store of such a text
-  lateenbael help [COMMAND]                  this, or more about a command; so does -h or --help behind a command
+  lateenbael help [COMMAND]                  this, or more about a command; so does -h or --help before or behind a command
   lateenbael --version                       the program's version
 
 create, commit, append and checkpoint write to STORE; the others open it read-only and alter nothing in it.
@@ -24,9 +24,9 @@ Before anything is written, the calls are tried out in memory: a refused one alt
 Batches end with a fold, and a commit that brings the log to 100 frames brings one on.
 
   --wait SECONDS
-                 how long another program's lock of the store is waited for: 1 if it is not given, 0 not at all
+                 how long another program's lock of the store is waited for: 1 if it is not given, 0 not at all. Not for log and restore
   --json         for all but read, page and dump: one JSON object on one line, in place of the text; messages stay as they are
-  --             ends the options: what follows is a file, also where it begins with a dash
+  --             ends the options: what follows is none, also where it begins with a dash. - alone stays standard input or output
 
 Exit status: 0 done; 1 refused, with the refusal's number and name, or the disk failed; 2 not understood. It tells what happened to
 the store: a command that has altered it ends with 0 even where its report can't be printed, and one that shows something ends
@@ -37,15 +37,16 @@ pub const CREATE: &str = "\
 lateenbael create STORE [--over] [--wait SECONDS] [--json]
 
 Makes STORE, of 2 pages, and STORE-wal, a log without frames. Files that are there already are left alone and the call fails,
-unless --over is given: then the store in them is lost.
+unless --over is given: then the store in them is lost. The files are made as STORE-creating and STORE-wal-creating and renamed when
+they are whole, so these names are not for other files.
 ";
 
 pub const INFO: &str = "\
 lateenbael info STORE [--wait SECONDS] [--json]
 
 Opens the store read-only and shows the header that counts, both files' lengths, the clock, and the log's header, frames and
-commit point; also how many frames can be added until a commit brings on a fold. As JSON, what is told of the log is null where there
-is none.
+commit point; also how many frames can be added until a commit brings on a fold. As JSON, what is told of the log, this number too, is
+null where there is none.
 ";
 
 pub const CHECK: &str = "\
@@ -59,7 +60,8 @@ The status is 1 where the store does not open, and where a page below the page c
 pub const LOG: &str = "\
 lateenbael log STORE [--json]
 
-Lists STORE-wal, of any length that a store reads:
+Takes no lock and waits for none: while another program writes, the list may end in a commit that is part done. Lists STORE-wal, of any
+length that a store reads:
 
   log VERSION SALT SEQUENCE CLOCK
   INDEX page NUMBER COMMITCOUNT          a good frame; a commit count above 0 seals
@@ -71,7 +73,7 @@ pub const READ: &str = "\
 lateenbael read STORE PAGE OUTFILE [--wait SECONDS]
 
 Opens the store read-only and writes the page's 4,096 bytes to OUTFILE, which must not be there yet, or to standard output if it
-is - . A writing that fails leaves no OUTFILE.
+is - . A writing that fails leaves no OUTFILE. Page 0 is the header's, and reads only while the log has it.
 ";
 
 pub const PAGE: &str = "\
@@ -97,6 +99,7 @@ Opens the store read-only and prints the batches that the opening recovered, in 
     column NAME bool true                or false
     column NAME vector NUMBER ...        or 0x and the 8 hexadecimal digits of an element's bits
 
+A NUMBER of a real or a vector may be inf or -inf; one that is too large for its bits is refused, as an integer is.
 TABLE, NAME and TEXT stand in double quotes, with \\\" \\\\ \\n \\r \\t and \\u{HEX} inside. Empty lines are passed over, and so is
 what follows a # outside of quotes.
 
@@ -107,14 +110,17 @@ As JSON, integers stand whole, also those beyond 2^53. A real has a value, null 
 pub const COMMIT: &str = "\
 lateenbael commit STORE [OPTION]... [PAGE=FILE]...
 
-Stages each FILE, of 4,096 bytes, as that page and commits them. FILE - is standard input, once. Page 0 is the header's and is refused.
+Stages each FILE, of 4,096 bytes, as that page and commits them: at most 64 pages at once, and each once. FILE - is standard input, once.
+Page 0 is the header's and is refused.
 
   --count N      the new page count; without it the present one, or as many as the pages given need. A page given at or above it
                  is refused, for it would read as nothing
   --root N       the new schema root page; --version N the new format version; --freelist N the new freelist head
-  --clock N      raises the clock; it reaches the log's header with the next checkpoint
+  --clock N      raises the clock; a lower one is ignored. A clock is stored with a fold alone: where it would rise and no fold with
+                 something to write follows, the call is refused, for the clock would be lost
   --batch FILE   appends a file's batches before the commit, which seals them
-  --plain        opens as the Rust does: an unsealed tail of the log stays, and this commit takes it in
+  --plain        opens as the Rust does: an unsealed tail of the log stays, and this commit takes it in. Behind a tail that ends in
+                 bytes that are no frame a commit is refused, for no later opening would find it
   --fold         commits also where a fold would follow and take batches with it
   --wait SECONDS how long a lock is waited for; --json reports in JSON
   --cut-after-bytes N
@@ -129,7 +135,7 @@ pub const APPEND: &str = "\
 lateenbael append STORE FILE... [--fold] [--plain] [--clock N] [--wait SECONDS] [--json] [--cut-after-bytes N]
 
 Appends the batches of text files, in the form that lateenbael help batches tells, and seals them by a commit without pages.
-FILE - is standard input, once. The options are those of commit.
+FILE - is standard input, once. The options are those of commit; --clock N too is refused where the clock would rise and no fold follows.
 
 Batches end with a fold, and a commit that brings the log to 100 frames brings one on. Where batches would go that way, sealed ones or
 those being appended, the call is refused unless --fold is given: read out the sealed ones, fold, and append at most 98 at once.
@@ -140,14 +146,17 @@ A file has at most 32 MiB: a log has 1,024 frames, and a batch's text is at most
 pub const CHECKPOINT: &str = "\
 lateenbael checkpoint STORE [--plain] [--clock N] [--wait SECONDS] [--json] [--cut-after-bytes N]
 
-Writes the log's pages to the main file and empties the log; its batches go with it. The options are those of commit.
+Writes the log's pages to the main file and empties the log; its batches go with it, and the report tells how many. The options are
+those of commit. --clock N is stored with the fold. A log without frames is not folded: nothing is written, and --clock N is refused
+where the clock would rise.
 ";
 
 pub const COPY: &str = "\
 lateenbael copy STORE NEW [--wait SECONDS] [--json]
 
 Copies both files as they lie, an unsealed tail of the log too, to a new store. STORE is open read-only meanwhile, so that no program
-alters it. NEW and NEW-wal must not be there yet, and appear when they are whole.
+alters it. NEW and NEW-wal must not be there yet. They are made as NEW-creating and NEW-wal-creating and renamed when they are whole, so
+these names are not for other files.
 ";
 
 pub const DUMP: &str = "\
@@ -173,6 +182,6 @@ pub const RESTORE: &str = "\
 lateenbael restore FILE NEW [--json]
 
 Makes the new store NEW of a text that dump has printed; FILE - is standard input. Header, clock, every page and every batch are then
-the same, byte for byte. NEW and NEW-wal must not be there yet, and appear when they are whole. A text that is cut off is refused; it
-has at most 64 MiB.
+the same, byte for byte. NEW and NEW-wal must not be there yet. They are made as NEW-creating and NEW-wal-creating and renamed when they
+are whole, so these names are not for other files. A text that is cut off is refused; it has at most 64 MiB.
 ";

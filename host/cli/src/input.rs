@@ -4,6 +4,7 @@ use crate::batch_text;
 use crate::failure::Failure;
 use lateenbael::BatchBuilder;
 use lateenbael::sys::PAGE_SIZE;
+use std::collections::HashSet;
 use std::ffi::OsStr;
 use std::fs::{self, File};
 use std::io::{self, Read};
@@ -63,7 +64,7 @@ impl Source<'_> {
     }
 
     fn failed(self, error: io::Error) -> Failure {
-        Failure::Refused(format!("{}: {error}", self.name()))
+        Failure::file(self.name(), error)
     }
 }
 
@@ -72,6 +73,15 @@ pub fn at_most_one_standard_input<'a>(sources: impl Iterator<Item = &'a Source<'
     match sources.filter(|source| source.is_standard_input()).count() {
         0 | 1 => Ok(()),
         _ => Err(Failure::Usage("standard input (-) is given more than once".to_string())),
+    }
+}
+
+/// Of a page that is given twice one file would be lost.
+pub fn each_page_once(mut pages: impl Iterator<Item = u32>) -> Result<(), Failure> {
+    let mut seen = HashSet::new();
+    match pages.find(|page| !seen.insert(*page)) {
+        Some(page) => Err(Failure::Usage(format!("page {page} is given more than once"))),
+        None => Ok(()),
     }
 }
 

@@ -77,7 +77,7 @@ fn write_standard_output(bytes: &[u8]) -> io::Result<()> {
 
 /// Writes a file that must not be there yet, and syncs it; a failed writing leaves none.
 pub fn write_new_file(path: &Path, bytes: &[u8]) -> Result<(), Failure> {
-    let failed = |error| Failure::file(path, error);
+    let failed = |error| Failure::file(path.display(), error);
     let mut file = OpenOptions::new().write(true).create_new(true).open(path).map_err(failed)?;
     let written = file.write_all(bytes).and_then(|()| file.sync_all());
     if written.is_err() {

@@ -66,7 +66,7 @@ fn info_json(store: &Store) -> Result<Json, Failure> {
         ("checkpoint_seq", log.map(|log| log.header().checkpoint_seq).into()),
         ("frame_count", log.map(Log::frame_count).into()),
         ("commit_point", log.map(Log::commit_point).into()),
-        ("frames_before_checkpoint", store.frames_before_checkpoint()?.into()),
+        ("frames_before_checkpoint", log.and(Some(store.frames_before_checkpoint()?)).into()),
     ]))
 }
 
@@ -213,8 +213,10 @@ pub fn page(args: &Args) -> Result<Answer, Failure> {
 fn page_of(path: &OsStr, page: &OsStr, args: &Args) -> Result<Vec<u8>, Failure> {
     let page = number(page).map_err(|f| f.about("PAGE"))?;
     let store = open_read_only(path, args)?;
-    match store.read_page(page)? {
-        Some(bytes) => Ok(bytes.to_vec()),
-        None => Err(Failure::Refused(format!("{}: page {page} is nowhere", path.display()))),
-    }
+    let nowhere = match (store.read_page(page)?, page) {
+        (Some(bytes), _) => return Ok(bytes.to_vec()),
+        (None, 0) => "page 0 is the header's, and reads only while the log has it".to_string(),
+        (None, page) => format!("page {page} is nowhere"),
+    };
+    Err(Failure::Refused(nowhere).about(path.display()))
 }

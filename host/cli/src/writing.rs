@@ -1,7 +1,7 @@
 //! The commands that write: each is a dry run in memory first, so that a refused one alters no file.
 use crate::args::Args;
 use crate::failure::Failure;
-use crate::input::{Source, at_most_one_standard_input, batches_of, page_word};
+use crate::input::{Source, at_most_one_standard_input, batches_of, each_page_once, page_word};
 use crate::json::Json;
 use crate::output::Answer;
 use lateenbael::sys::PAGE_SIZE;
@@ -24,6 +24,7 @@ pub fn commit(args: &Args) -> Result<Answer, Failure> {
     let pages = words.iter().map(|word| page_word(word)).collect::<Result<Vec<_>, Failure>>()?;
     let batches: Vec<Source> = args.all("batch").map(Source).collect();
     at_most_one_standard_input(pages.iter().map(|(_, source)| source).chain(&batches))?;
+    each_page_once(pages.iter().map(|(page, _)| *page))?;
     let mut operation = Commit {
         command: "commit",
         store: path.into(),
@@ -31,7 +32,6 @@ pub fn commit(args: &Args) -> Result<Answer, Failure> {
         root: args.number("root")?,
         version: args.number("version")?,
         freelist: args.number("freelist")?,
-        clock: args.number("clock")?,
         ..Commit::default()
     };
     let opening = Opening::of(args)?;
@@ -50,7 +50,6 @@ pub fn append(args: &Args) -> Result<Answer, Failure> {
     let operation = Commit {
         command: "append",
         store: path.into(),
-        clock: args.number("clock")?,
         batches: batches_of(&sources)?,
         ..Commit::default()
     };
@@ -62,17 +61,16 @@ pub fn append(args: &Args) -> Result<Answer, Failure> {
 
 pub fn checkpoint(args: &Args) -> Result<Answer, Failure> {
     let [path] = args.words()?;
-    let operation = Checkpoint {
-        store: path.into(),
-        clock: args.number("clock")?,
-    };
+    let operation = Checkpoint { store: path.into() };
     execute(path, &Opening::of(args)?, &operation)
 }
 
-/// How the store is opened, after how many bytes its power is cut, whether batches may go, and how the report looks.
+/// How the store is opened, what its clock is raised to, after how many bytes its power is cut, whether batches may go, and how the report
+/// looks.
 struct Opening {
     mode: Mode,
     wait: Duration,
+    clock: Option<u64>,
     power_cut: Option<u64>,
     may_drop: bool,
     json: bool,
@@ -83,10 +81,27 @@ impl Opening {
         Ok(Opening {
             mode: if args.has("plain") { Mode::Plain } else { Mode::ReadWrite },
             wait: args.wait()?,
+            clock: args.number("clock")?,
             power_cut: args.number("cut-after-bytes")?,
             may_drop: args.has("fold"),
             json: args.has("json"),
         })
+    }
+
+    /// The store that lies on a disk, its clock raised.
+    fn open<D: Disk>(&self, disk: D) -> Result<Store<D>, Error> {
+        let mut store = Store::open_on(disk, self.mode, salts_of_the_clock())?;
+        self.clock.map_or(Ok(()), |clock| store.observe_clock_high_water(clock))?;
+        Ok(store)
+    }
+
+    /// Refuses a clock that the calls on a store have not brought to the log's header, for it would be lost.
+    fn check_clock<D: Disk>(&self, store: &Store<D>) -> Result<(), Failure> {
+        let stored = store.log()?.map_or(0, |log| log.header().clock_high_water);
+        match self.clock.filter(|clock| *clock > stored) {
+            Some(clock) => Err(clock_lost(clock)),
+            None => Ok(()),
+        }
     }
 }
 
@@ -106,13 +121,14 @@ trait Operation {
 /// Does the operation on a dry run, then on the files, under one lock.
 fn execute(path: &OsStr, opening: &Opening, operation: &impl Operation) -> Result<Answer, Failure> {
     let mut files = Files::existing(Path::new(path), false, opening.wait)?;
-    let mut tried = Store::open_on(DryRun::over(&mut files), opening.mode, salts_of_the_clock())?;
+    let mut tried = opening.open(DryRun::over(&mut files))?;
     let dropped = operation.run(&mut tried)?.dropped;
     if dropped > 0 && !opening.may_drop {
         return Err(would_drop(path, dropped));
     }
+    opening.check_clock(&tried)?;
     drop(tried);
-    let mut store = Store::open_on(PowerCut::new(files), opening.mode, salts_of_the_clock())?;
+    let mut store = opening.open(PowerCut::new(files))?;
     if let Some(bytes) = opening.power_cut {
         store.disk_mut().arm(bytes);
     }
@@ -128,6 +144,13 @@ fn would_drop(path: &OsStr, dropped: usize) -> Failure {
     ))
 }
 
+fn clock_lost(clock: u64) -> Failure {
+    Failure::Refused(format!(
+        "--clock {clock}: a clock is stored with a fold alone, and none with something to write follows, so it would be lost. Nothing was \
+         altered"
+    ))
+}
+
 /// A commit: what of the header is given, pages to stage and batches to append.
 #[derive(Default)]
 struct Commit {
@@ -137,7 +160,6 @@ struct Commit {
     root: Option<u32>,
     version: Option<u16>,
     freelist: Option<u32>,
-    clock: Option<u64>,
     pages: Vec<(u32, [u8; PAGE_SIZE])>,
     batches: Vec<BatchBuilder>,
 }
@@ -157,8 +179,8 @@ impl Commit {
     /// Refuses a page that would be committed and never read: page 0, which every commit makes of the header, and one that the given count
     /// leaves out. A count of 0 has a refusal of its own.
     fn check_pages(&self, mut pages: impl Iterator<Item = u32>) -> Result<(), Failure> {
-        let count = self.count.filter(|count| *count > 0).unwrap_or(u32::MAX);
-        match pages.find(|page| *page == 0 || *page >= count) {
+        let count = self.count.filter(|count| *count > 0).map_or(u64::MAX, u64::from);
+        match pages.find(|page| *page == 0 || u64::from(*page) >= count) {
             Some(0) => Err(Failure::Refused("page 0 is the header's, which the options tell".to_string())),
             Some(page) => Err(Failure::Refused(format!("page {page}: --count {count} would leave it out"))),
             None => Ok(()),
@@ -213,7 +235,6 @@ impl Commit {
 
 impl Operation for Commit {
     fn run<D: Disk>(&self, store: &mut Store<D>) -> Result<Report, Failure> {
-        raise_clock(store, self.clock)?;
         self.stage_pages(store)?;
         self.append_batches(store)?;
         let (sequence, batches) = (store.wal_header()?.checkpoint_seq, store.batch_count()?);
@@ -226,24 +247,19 @@ impl Operation for Commit {
 /// A checkpoint: document 01's fold.
 struct Checkpoint {
     store: PathBuf,
-    clock: Option<u64>,
 }
 
 impl Operation for Checkpoint {
     fn run<D: Disk>(&self, store: &mut Store<D>) -> Result<Report, Failure> {
-        raise_clock(store, self.clock)?;
+        let batches = store.batch_count()?;
         let written = store.checkpoint().map_err(|error| Failure::of_store(&self.store, error))?;
-        Ok(Report {
-            object: Json::object([("command", "checkpoint".into()), ("pages_written", written.into())]),
-            text: format!("folded; pages written: {written}\n"),
-            dropped: 0,
-        })
-    }
-}
-
-fn raise_clock<D: Disk>(store: &mut Store<D>, clock: Option<u64>) -> Result<(), Error> {
-    match clock {
-        Some(value) => store.observe_clock_high_water(value),
-        None => Ok(()),
+        let object = Json::object([
+            ("command", "checkpoint".into()),
+            ("pages_written", written.into()),
+            ("batches_dropped", batches.into()),
+        ]);
+        let text = format!("folded; pages written: {written}; batches gone with it: {batches}\n");
+        let dropped = 0;
+        Ok(Report { object, text, dropped })
     }
 }

@@ -87,3 +87,27 @@ fn unclear_batches_are_status_2_and_refused_ones_1() {
         dir.fails("append grips text", status, message);
     }
 }
+
+#[test]
+fn a_number_that_is_too_large_is_no_infinity() {
+    let dir = WorkDir::with_store();
+    let row = "batch 1\npresent \"t\" 1\n";
+    for word in ["1e999", "-1e999", "+1E999", "1.8e308", &"9".repeat(400)] {
+        for value in [format!("real {word}"), format!("vector 1 {word}")] {
+            dir.text("text", &format!("{row}column \"c\" {value}\n"));
+            dir.fails("append grips text", 2, &format!("text, line 3: \"{word}\" does not fit here"));
+        }
+    }
+    dir.text("text", &format!("{row}\ncolumn \"c\" vector 1e39\n"));
+    dir.fails("append grips text", 2, "text, line 4: \"1e39\" does not fit here");
+    let written = "column \"r\" real 1e39\n column \"a\" real inf\n column \"b\" real -Infinity\n column \"c\" real +INF\n\
+                   column \"d\" real 0xfff0000000000000\ncolumn \"v\" vector infinity -inf 0x7f800000 3.4028235e38\n";
+    dir.text("text", &format!("{row}{written}"));
+    dir.done("append grips text");
+    let printed = "  column \"r\" real 1e39\n  column \"a\" real inf\n  column \"b\" real -inf\n  column \"c\" real inf\n  \
+                   column \"d\" real -inf\n  column \"v\" vector inf -inf inf 3.4028235e38\n";
+    assert_eq!(dir.shows("batches grips"), format!("{row}{printed}"));
+    dir.text("text", &dir.shows("batches grips"));
+    dir.done("append grips text");
+    assert_eq!(dir.shows("batches grips"), format!("{row}{printed}").repeat(2));
+}

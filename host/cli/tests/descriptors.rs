@@ -71,7 +71,7 @@ fn a_full_file_is_told() {
         printed.err
     );
     assert!(!dir.files().iter().any(|(path, ..)| path.display().to_string().contains("copied")));
-    dir.fails("read grips 5 p1", 1, "p1: ");
+    dir.fails("read grips 5 p1", 1, "p1 is there already");
     assert_eq!(fs::read(dir.path("p1")).unwrap(), [1; 4096]);
 }
 

@@ -103,3 +103,22 @@ fn a_fold_that_takes_no_batch_needs_no_leave() {
     );
     assert_eq!(fs::metadata(dir.path("grips-wal")).unwrap().len(), 32);
 }
+
+#[test]
+fn a_checkpoint_tells_how_many_batches_went() {
+    let dir = WorkDir::with_store();
+    dir.text("two", "batch 1\nbatch 2\n");
+    dir.done("append grips two");
+    assert_eq!(dir.done("fold grips"), "folded; pages written: 5; batches gone with it: 2\n");
+    assert_eq!(
+        dir.done("checkpoint grips --json"),
+        "{\"command\":\"checkpoint\",\"pages_written\":0,\"batches_dropped\":0}\n"
+    );
+    // Where the unsealed tail stays, its batch goes too; a clean opening has dropped it before.
+    for (plain, gone) in [(" --plain", 3), ("", 2)] {
+        dir.done("append grips two");
+        assert_eq!(dir.call("append grips two --cut-after-bytes 4112").status, 1);
+        let folded = dir.done(&format!("checkpoint grips{plain}"));
+        assert!(folded.ends_with(&format!("; batches gone with it: {gone}\n")), "{folded}");
+    }
+}

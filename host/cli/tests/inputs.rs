@@ -123,3 +123,19 @@ fn a_link_and_its_store_have_one_log() {
     assert_eq!(dir.done("log folder/current"), dir.done("log grips"));
     assert_eq!(dir.shell("ls folder").out, "current\n");
 }
+
+#[test]
+fn a_file_is_told_as_a_stores_is() {
+    let dir = WorkDir::with_store();
+    for line in ["read grips 1 p1", "dump grips p1"] {
+        dir.fails(line, 1, "lateenbael: p1 is there already\n");
+    }
+    for line in [
+        "commit grips 1=none",
+        "commit grips --batch none",
+        "append grips none",
+        "restore none new",
+    ] {
+        dir.fails(line, 1, "lateenbael: none: there is no such file\n");
+    }
+}

@@ -97,7 +97,7 @@ fn the_checker_tells_json_from_others() {
 #[test]
 fn stores_are_told() {
     let dir = WorkDir::with_store();
-    dir.done("commit grips 1=p1 --clock 18446744073709551615 --root 3");
+    dir.done("commit grips 1=p1 --root 3");
     dir.done("checkpoint grips --clock 18446744073709551615");
     dir.done("commit grips 1=p2");
     let info = object(dir.shows("info grips --json"));
@@ -124,7 +124,7 @@ fn stores_are_told() {
     fs::remove_file(dir.path("grips-wal")).unwrap();
     let info = object(dir.shows("info grips --json"));
     assert!(info.ends_with(
-        "\"log_len\":null,\"log_version\":null,\"salt\":null,\"checkpoint_seq\":null,\"frame_count\":null,\"commit_point\":null,\"frames_before_checkpoint\":99}"
+        "\"log_len\":null,\"log_version\":null,\"salt\":null,\"checkpoint_seq\":null,\"frame_count\":null,\"commit_point\":null,\"frames_before_checkpoint\":null}"
     ));
     let check = object(dir.shows("check grips --json"));
     assert!(check.contains("\"uncommitted_frames\":null"), "{check}");
@@ -188,13 +188,19 @@ fn reports_are_told() {
             r#"{"command":"append","pages_that_differed":0,"batches_committed":1,"checkpointed":false,"batches_dropped":0}"#,
         ),
         ("dump grips dumped", ""),
-        ("checkpoint grips --json", r#"{"command":"checkpoint","pages_written":6}"#),
+        (
+            "checkpoint grips --json",
+            r#"{"command":"checkpoint","pages_written":6,"batches_dropped":2}"#,
+        ),
         ("copy grips copied --json", r#"{"command":"copy","main_len":28672,"log_len":32}"#),
         (
             "restore --json dumped restored",
             r#"{"command":"restore","page_count":7,"batches_committed":2}"#,
         ),
-        ("fold grips --json", r#"{"command":"checkpoint","pages_written":0}"#),
+        (
+            "fold grips --json",
+            r#"{"command":"checkpoint","pages_written":0,"batches_dropped":0}"#,
+        ),
     ];
     for (line, expected) in table {
         let printed = dir.done(line);

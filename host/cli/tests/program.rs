@@ -9,8 +9,8 @@ use std::process::Command;
 fn fold_is_another_name_of_checkpoint() {
     let dir = WorkDir::with_store();
     assert_eq!(dir.done("help fold"), dir.done("help checkpoint"));
-    assert_eq!(dir.done("fold grips"), "folded; pages written: 5\n");
-    assert_eq!(dir.done("checkpoint grips"), "folded; pages written: 0\n");
+    assert_eq!(dir.done("fold grips"), "folded; pages written: 5; batches gone with it: 0\n");
+    assert_eq!(dir.done("checkpoint grips"), "folded; pages written: 0; batches gone with it: 0\n");
 }
 
 #[test]
@@ -35,10 +35,10 @@ fn refusals_are_status_1_by_number_and_name() {
             "commit grips 9=p9",
             "refused 14 Joining: a page that the new count brings in isn't staged: page 7",
         ),
-        ("commit grips 1=none", "none: "),
+        ("commit grips 1=none", "lateenbael: none: there is no such file\n"),
         ("read grips 7 out", "grips: page 7 is nowhere"),
         ("page grips 7", "grips: page 7 is nowhere"),
-        ("read grips 1 p1", "p1: "),
+        ("read grips 1 p1", "lateenbael: p1 is there already\n"),
         ("read none 1 out", "lateenbael: none: there is no such file\n"),
         ("log none", "none-wal: "),
         ("checkpoint none", "lateenbael: none: there is no such file\n"),
@@ -99,7 +99,7 @@ fn commits_and_checkpoints_are_read_back() {
     for (n, byte) in [(1, 1), (2, 2), (3, 9), (6, 6)] {
         assert_eq!(dir.page(n), [byte; 4096]);
     }
-    assert_eq!(dir.done("checkpoint grips --clock 77"), "folded; pages written: 6\n");
+    dir.done("checkpoint grips --clock 77");
     assert_eq!(dir.page(3), [9; 4096]);
     assert_eq!(dir.done("commit grips --count 4"), "committed; pages that differed: 0\n");
     dir.fails("read grips 5 out2", 1, "page 5 is nowhere");
@@ -233,5 +233,25 @@ fn a_page_is_shown_as_hexdump_shows_it() {
     assert_eq!(shown, expected);
     if let Ok(output) = Command::new("hexdump").arg("-C").arg(dir.path("odd")).output() {
         assert_eq!(shown.as_bytes(), output.stdout);
+    }
+}
+
+#[test]
+fn the_greatest_page_number_is_refused_as_others_are() {
+    let dir = WorkDir::with_store();
+    for page in [1024, u32::MAX - 1, u32::MAX] {
+        dir.fails(&format!("commit grips {page}=p1"), 1, &format!("page {page}: refused 11 Page: "));
+    }
+    let beyond = "commit grips 4294967295=p1 --count 4294967295";
+    dir.fails(beyond, 1, "page 4294967295: --count 4294967295 would leave it out");
+}
+
+#[test]
+fn page_0_reads_only_from_the_log() {
+    let dir = WorkDir::with_store();
+    assert_eq!(dir.page(0)[..16], *b"SQLRiteFormat\0\0\0");
+    dir.done("fold grips");
+    for line in ["read grips 0 out2", "read grips 0 -", "page grips 0"] {
+        dir.fails(line, 1, "grips: page 0 is the header's, and reads only while the log has it");
     }
 }

@@ -153,3 +153,74 @@ fn a_page_comes_from_standard_input() {
     assert_eq!((printed.status, printed.err.as_str()), (0, ""));
     assert_eq!(dir.shows("batches grips"), "batch 4\n");
 }
+
+#[test]
+fn a_page_is_given_once() {
+    let dir = WorkDir::with_store();
+    for words in ["1=p1 1=p2", "1=p1 01=p2", "2=p1 1=p1 3=p3 1=p1", "1=none 1=none"] {
+        dir.fails(&format!("commit grips {words}"), 2, "page 1 is given more than once");
+    }
+}
+
+#[test]
+fn an_empty_word_is_told() {
+    let dir = WorkDir::with_store();
+    let table: [(&[&str], &str); 9] = [
+        (&[""], "a word is empty: number 1 "),
+        (&["create", ""], "a word is empty: number 2 "),
+        (&["info", ""], "a word is empty: number 2 "),
+        (&["info", "--", ""], "a word is empty: number 3 "),
+        (&["append", "grips", ""], "a word is empty: number 3 "),
+        (&["commit", "grips", ""], "a word is empty: number 3 "),
+        (&["commit", "grips", "--batch", ""], "a word is empty: number 4 "),
+        (&["commit", "grips", "--batch="], "--batch wants a value"),
+        (&["commit", "grips", "2="], "2= names no file"),
+    ];
+    let before = dir.files();
+    for (words, message) in table {
+        let printed = dir.call_with(words);
+        assert!(printed.status == 2 && printed.err.contains(message), "{words:?}: {}", printed.err);
+    }
+    assert!(dir.files() == before);
+}
+
+#[test]
+fn help_before_a_command_is_about_it() {
+    let dir = WorkDir::new();
+    for command in ["info", "fold", "help"] {
+        let more = dir.done(&format!("help {command}"));
+        for help in ["--help", "-h"] {
+            assert_eq!(dir.done(&format!("{help} {command}")), more, "{help} {command}");
+        }
+    }
+    assert_eq!(dir.done("-h"), dir.done("--help"));
+    dir.fails("--help lift", 2, "lift is no command");
+    dir.fails("-h info log", 2, "expected: lateenbael help [COMMAND]");
+}
+
+#[test]
+fn help_tells_the_limits() {
+    let dir = WorkDir::new();
+    let table = [
+        ("help", "Not for log and restore"),
+        ("help", "- alone stays standard input or output"),
+        ("log", "takes no lock"),
+        ("read", "Page 0 is the header's, and reads only while the log has it"),
+        ("commit", "at most 64 pages at once"),
+        ("commit", "a clock is stored with a fold alone"),
+        ("commit", "behind a tail that ends in bytes that are no frame a commit is refused"),
+        ("append", "is refused where the clock would rise and no fold follows"),
+        ("checkpoint", "--clock n is refused where the clock would rise"),
+        ("create", "STORE-creating and STORE-wal-creating"),
+        ("copy", "NEW-creating and NEW-wal-creating"),
+        ("restore", "NEW-creating and NEW-wal-creating"),
+    ];
+    for (command, told) in table {
+        let help: Vec<String> = dir
+            .done(&format!("help {command}"))
+            .split_whitespace()
+            .map(str::to_lowercase)
+            .collect();
+        assert!(help.join(" ").contains(&told.to_lowercase()), "{command}: {told}");
+    }
+}
