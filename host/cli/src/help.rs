@@ -149,6 +149,8 @@ lateenbael checkpoint STORE [--plain] [--clock N] [--wait SECONDS] [--json] [--c
 Writes the log's pages to the main file and empties the log; its batches go with it, and the report tells how many. The options are
 those of commit. --clock N is stored with the fold. A log without frames is not folded: nothing is written, and --clock N is refused
 where the clock would rise.
+
+A page that check tells as nowhere is in the main file after a fold, as zeros or older bytes, and the next opening reads it so: look first.
 ";
 
 pub const COPY: &str = "\
