@@ -48,10 +48,18 @@
  *               one hard link has two names and thus two logs: refuse it, and a log with more than one.
  *     lock      flock on the main file for as long as the store is open: LOCK_EX to write, LOCK_SH to read only. When it is had, see
  *               whether STORE is still that file (device and inode of fstat and stat); if not, open again.
- *     creation  Make both files as STORE-new, locked, and STORE-wal-new, write and fsync them, rename the log, then the main file, and
- *               fsync the folder. A creation that was cut leaves STORE-new and no STORE, and is done again; a STORE-wal beside them is
- *               its own. One that fails removes STORE-new last. A STORE-wal without either is left alone: a main file was lost.
- *               A missing log is made the same way: STORE-wal-new, fsync, rename, fsync of the folder.
+ *     creation  Each file is made under another name, STORE-creating or STORE-wal-creating, and gets its own when it is on the medium.
+ *               First see whether STORE-wal is there and STORE-creating is not, then whether STORE is there, in this order: a STORE is left
+ *               as it is, and so is a STORE-wal with neither of the two, for a main file was lost. Then open STORE-creating with O_CREAT
+ *               and O_EXCL, and without them if that says EEXIST: a STORE-creating that was there tells of a creation that was cut. Lock
+ *               it; if the name is not that file any more, begin anew with all of this forgotten. Look for STORE again. If a creation was
+ *               cut, remove what it left, STORE-wal and STORE-wal-creating, before anything is made; else look for STORE-wal again. Write
+ *               and fsync both files, rename the log, then the main file, and fsync the folder. A creation that fails removes what it made,
+ *               STORE-creating last; a main file that has its own name by then is first renamed back.
+ *               STORE-creating must be a regular file with one hard link; a STORE-wal-creating is removed, and made with O_EXCL. A missing
+ *               log is made in this way too. A new log gets its main file's mode and owner, as far as that is allowed (fchmod, fchown). An
+ *               opening to write that has its lock removes a STORE-creating and a STORE-wal-creating beside the store: were the main file
+ *               lost later, they would tell of a cut creation.
  *     flush     fsync of every file with writes since its last one, the log first; not only of the step's own file.
  *     opening   To write, go by what is on the medium: fsync both files and the folder, let the cache go of both files
  *               (posix_fadvise, POSIX_FADV_DONTNEED), and compare what is then read with what is read past the cache (O_DIRECT, into
@@ -262,7 +270,8 @@ lateenbael_answered lateenbael_create(uint32_t *table, size_t table_entries, uin
 
 /* Plain opening of the files in the first main_len and log_len bytes of their areas. access_mode 0 is read-write, any other
  * read-only. log_exists 0: there is no log file; read-write makes one, with the salt. Frames behind the commit point stay, and a
- * later commit takes them in. Refusals 1 to 8. */
+ * later commit takes them in. But behind a tail that ends in bytes that are no good frame (store.wal.good_end < store.wal.len) a commit
+ * is written where no later opening finds it: open cleanly, or checkpoint first. Refusals 1 to 8. */
 lateenbael_answered lateenbael_open_with_mode(uint32_t *table, size_t table_entries, uint8_t *log, size_t log_size, const uint8_t *main,
                                               size_t main_size, const uint8_t *staging, size_t staging_size, size_t main_len,
                                               size_t log_len, uint32_t access_mode, uint32_t log_exists, uint32_t salt);

@@ -22,6 +22,8 @@ ssize_t __real_pwrite(int fd, const void *bytes, size_t len, off_t at);
 int __real_ftruncate(int fd, off_t len);
 int __real_fsync(int fd);
 int __real_rename(const char *from, const char *to);
+int __real_unlink(const char *path);
+int __real_lstat(const char *path, struct stat *status);
 int __real_flock(int fd, int how);
 int __real_fcntl(int fd, int what, ...);
 int __real_posix_fadvise(int fd, off_t at, off_t len, int advice);
@@ -32,6 +34,8 @@ ssize_t __wrap_pwrite(int fd, const void *bytes, size_t len, off_t at);
 int __wrap_ftruncate(int fd, off_t len);
 int __wrap_fsync(int fd);
 int __wrap_rename(const char *from, const char *to);
+int __wrap_unlink(const char *path);
+int __wrap_lstat(const char *path, struct stat *status);
 int __wrap_flock(int fd, int how);
 int __wrap_fcntl(int fd, int what, ...);
 int __wrap_posix_fadvise(int fd, off_t at, off_t len, int advice);
@@ -39,10 +43,11 @@ int __wrap_posix_fadvise(int fd, off_t at, off_t len, int advice);
 /* ---- one call that kills or fails */
 
 static unsigned until_kill, until_failure;
-static int failure;
+static int failure, flock_failure;
 static bool failed_once;
-static void (*flock_act)(void);
+static void (*flock_act)(void), (*lstat_act)(void), (*found_act)(void);
 static bool renamed;
+static enum reads reads;
 
 void kill_at(unsigned call) {
     until_kill = call;
@@ -58,19 +63,49 @@ bool has_failed(void) {
     return failed_once;
 }
 
+void fail_flock(int code) {
+    flock_failure = code;
+}
+
 void before_flock(void (*act)(void)) {
     flock_act = act;
+}
+
+void behind_lstat(void (*act)(void)) {
+    lstat_act = act;
+}
+
+void behind_found(void (*act)(void)) {
+    found_act = act;
+}
+
+void reads_give(enum reads what) {
+    reads = what;
 }
 
 bool names_flushed(void) {
     return !renamed;
 }
 
-/* Counts a call; whether it is to fail. */
-static bool fails(void) {
-    if (until_kill > 0 && --until_kill == 0) {
+/* Counts a call, which may be one that kills. */
+static void count(void) {
+    if (until_failure == 0 && until_kill > 0 && --until_kill == 0) {
         kill(getpid(), SIGKILL);
     }
+}
+
+/* Does once what another program is to do. */
+static void let_act(void (**act)(void)) {
+    void (*now)(void) = *act;
+    *act = NULL;
+    if (now != NULL) {
+        now();
+    }
+}
+
+/* Counts a call; whether it is to fail. */
+static bool fails(void) {
+    count();
     if (until_failure > 0 && --until_failure == 0) {
         errno = failure;
         failed_once = true;
@@ -148,6 +183,7 @@ void keep_pages(bool keep) {
 
 void fail_fsync(unsigned sync, enum reached reached) {
     until_sync_failure = sync;
+    failed_once = false;
     what_reached = reached;
 }
 
@@ -203,13 +239,29 @@ int __wrap_open(const char *path, int flags, ...) {
     va_start(rest, flags);
     mode_t mode = (flags & O_CREAT) != 0 ? va_arg(rest, mode_t) : 0;
     va_end(rest);
-    return fails() ? -1 : __real_open(path, flags, mode);
+    int fd = fails() ? -1 : __real_open(path, flags, mode);
+    if (fd < 0 && errno == EEXIST) {
+        let_act(&found_act);
+        errno = EEXIST;
+    }
+    return fd;
+}
+
+/* A read through the cache, as reads_give says. */
+static ssize_t cached_pread(int fd, void *bytes, size_t len, off_t at) {
+    static bool interrupted;
+    interrupted = reads == PART_READS && !interrupted;
+    if (interrupted) {
+        errno = EINTR;
+        return -1;
+    }
+    return reads == NO_READS ? 0 : __real_pread(fd, bytes, reads == PART_READS && len > 1000 ? 1000 : len, at);
 }
 
 ssize_t __wrap_pread(int fd, void *bytes, size_t len, off_t at) {
     medium *m = behind(fd);
     if (m == NULL || !m->direct) {
-        return __real_pread(fd, bytes, len, at);
+        return cached_pread(fd, bytes, len, at);
     }
     size_t end = (size_t)lseek(fd, 0, SEEK_END), from = (size_t)at;
     size_t part = from >= end ? 0 : end - from < len ? end - from : len;
@@ -253,6 +305,7 @@ int __wrap_fsync(int fd) {
     log_left_behind = log_left_behind || leaves_log(m);
     if (until_sync_failure > 0 && --until_sync_failure == 0) {
         store_dirty(m, fd, what_reached == EVEN_REACHED, what_reached == ODD_REACHED);
+        failed_once = true;
         errno = EIO;
         return -1;
     }
@@ -265,13 +318,32 @@ int __wrap_rename(const char *from, const char *to) {
     return fails() ? -1 : __real_rename(from, to);
 }
 
+int __wrap_unlink(const char *path) {
+    count();
+    int answer = __real_unlink(path);
+    renamed = renamed || answer == 0;
+    return answer;
+}
+
+int __wrap_lstat(const char *path, struct stat *status) {
+    int answer = __real_lstat(path, status);
+    let_act(&lstat_act);
+    return answer;
+}
+
+/* Only a lock that is had is counted: a wait is many calls. */
 int __wrap_flock(int fd, int how) {
-    void (*act)(void) = flock_act;
-    flock_act = NULL;
-    if (act != NULL) {
-        act();
+    let_act(&flock_act);
+    if (flock_failure != 0) {
+        errno = flock_failure;
+        flock_failure = 0;
+        return -1;
     }
-    return __real_flock(fd, how);
+    int answer = __real_flock(fd, how);
+    if (answer == 0) {
+        count();
+    }
+    return answer;
 }
 
 int __wrap_fcntl(int fd, int what, ...) {

@@ -12,7 +12,7 @@
 #include <unistd.h>
 
 #define PAGE LATEENBAEL_PAGE_SIZE
-#define LOCK_TRIES 100 /* one every 10 ms: a host that only looks into the store is soon gone */
+#define LOCK_PATIENCE 1 /* in seconds: a host that only looks into the store is soon gone */
 
 bool tell(store_error *error, uint32_t refusal, int code, const char *format, ...) {
     va_list words;
@@ -81,10 +81,18 @@ bool same_file(int fd, const char *path) {
     return fstat(fd, &open_one) == 0 && lstat(path, &named) == 0 && open_one.st_dev == named.st_dev && open_one.st_ino == named.st_ino;
 }
 
+/* Goes by the clock and not by the number of tries: a signal may cut a pause short. */
 static bool lock(int fd, int how) {
     const struct timespec pause = {0, 10000000};
-    for (int tries = 1; flock(fd, how | LOCK_NB) != 0; tries++) {
-        if ((errno != EWOULDBLOCK && errno != EINTR) || tries == LOCK_TRIES) {
+    struct timespec now, end;
+    clock_gettime(CLOCK_MONOTONIC, &end);
+    end.tv_sec += LOCK_PATIENCE;
+    while (flock(fd, how | LOCK_NB) != 0) {
+        int code = errno;
+        clock_gettime(CLOCK_MONOTONIC, &now);
+        bool over = now.tv_sec > end.tv_sec || (now.tv_sec == end.tv_sec && now.tv_nsec >= end.tv_nsec);
+        if ((code != EWOULDBLOCK && code != EINTR) || over) {
+            errno = code;
             return false;
         }
         nanosleep(&pause, NULL);
@@ -92,23 +100,26 @@ static bool lock(int fd, int how) {
     return true;
 }
 
+bool lock_file(int fd, const char *path, int how, store_error *error) {
+    if (lock(fd, how)) {
+        return true;
+    }
+    return errno == EWOULDBLOCK ? tell(error, LATEENBAEL_OK, EWOULDBLOCK, "%s is locked: another host has it open", path)
+                                : failed(error, "locking", path);
+}
+
 static int open_and_lock(const char *path, int flags, int how, store_error *error) {
     /* O_NONBLOCK: a FIFO of that name must not keep the host waiting; regular files don't care. */
-    int fd = open(path, flags | O_CLOEXEC | O_NONBLOCK | O_NOFOLLOW, 0666);
+    int fd = open(path, flags | O_CLOEXEC | O_NONBLOCK | O_NOFOLLOW);
     if (fd < 0) {
         failed(error, "opening", path);
         return -1;
     }
-    if (lock(fd, how)) {
-        return fd;
+    if (!lock_file(fd, path, how, error)) {
+        close(fd);
+        return -1;
     }
-    if (errno == EWOULDBLOCK) {
-        tell(error, LATEENBAEL_OK, EWOULDBLOCK, "%s is locked: another host has it open", path);
-    } else {
-        failed(error, "locking", path);
-    }
-    close(fd);
-    return -1;
+    return fd;
 }
 
 /* Between opening and locking another host may have put another file there: then that one is opened. */
@@ -127,11 +138,11 @@ size_t whole_pages(size_t len) {
     return (len + PAGE - 1) / PAGE * PAGE;
 }
 
-/* Reads a file of that length into its area. */
-static bool read_file(one_file *f, size_t len) {
+/* Reads that many bytes, or more, up to `room`: reads past the cache are of whole pages. pread may give a part, or be interrupted. */
+static bool read_all(int fd, uint8_t *bytes, size_t room, size_t len, size_t at) {
     size_t done = 0;
     while (done < len) {
-        ssize_t n = pread(f->fd, f->area + done, whole_pages(f->area_size) - done, (off_t)done);
+        ssize_t n = pread(fd, bytes + done, room - done, (off_t)(at + done));
         if (n == 0) {
             errno = EIO; /* it has become shorter in spite of the lock */
         }
@@ -141,6 +152,11 @@ static bool read_file(one_file *f, size_t len) {
         done += n < 0 ? 0 : (size_t)n;
     }
     return true;
+}
+
+/* Reads a file of that length into its area. */
+static bool read_file(one_file *f, size_t len) {
+    return read_all(f->fd, f->area, whole_pages(f->area_size), len, 0);
 }
 
 static bool set_direct(int fd, bool direct) {
@@ -162,7 +178,7 @@ static bool cache_agrees(one_file *f, size_t len, store_error *error) {
     uint8_t cached[PAGE];
     for (size_t at = 0; at < len; at += PAGE) {
         size_t part = len - at < PAGE ? len - at : PAGE;
-        if (pread(f->fd, cached, part, (off_t)at) != (ssize_t)part) {
+        if (!read_all(f->fd, cached, PAGE, part, at)) {
             return failed(error, "reading", f->path);
         }
         if (memcmp(cached, f->area + at, part) != 0) {

@@ -5,7 +5,9 @@
 #include "store_file.h"
 #include <limits.h>
 
-#define NAME_SIZE (PATH_MAX + 16) /* a path, and -wal-new behind it */
+/* Behind the name of a file that is being created. */
+#define CREATING "-creating"
+#define NAME_SIZE (PATH_MAX + sizeof "-wal" CREATING) /* a path, and -wal-creating behind it */
 
 typedef struct {
     char path[NAME_SIZE];
@@ -27,7 +29,9 @@ bool flush_folder(const char *path, store_error *error);
 
 /* Whether the path still names the file that is open. */
 bool same_file(int fd, const char *path);
-/* Opens the file of that path and locks it, LOCK_EX or LOCK_SH, with a second's patience; gives the descriptor, or -1. */
+/* Locks an open file, LOCK_EX or LOCK_SH, with a second's patience. */
+bool lock_file(int fd, const char *path, int how, store_error *error);
+/* Opens the file of that path and locks it; gives the descriptor, or -1. */
 int open_locked(const char *path, int flags, int how, store_error *error);
 
 size_t whole_pages(size_t len);

@@ -66,30 +66,41 @@ static bool resolve(store_file *s, const char *path, store_error *error) {
     return (found && joined(s->log.path, s->main.path, "-wal")) || failed(error, "resolving", path);
 }
 
-/* By another hard link the store would have another log, or the log another store. */
-static bool has_one_name(const one_file *f, store_error *error) {
+/* By another hard link the store would have another log, or the log another store. One that was
+ * removed just now has none, and is not refused for that. */
+static bool has_one_name(int fd, const char *path, store_error *error) {
     struct stat status;
-    if (fstat(f->fd, &status) != 0) {
-        return failed(error, "looking at", f->path);
+    if (fstat(fd, &status) != 0) {
+        return failed(error, "looking at", path);
     }
     if (!S_ISREG(status.st_mode)) {
-        return tell(error, LATEENBAEL_OK, EINVAL, "%s is no regular file", f->path);
+        return tell(error, LATEENBAEL_OK, EINVAL, "%s is no regular file", path);
     }
-    return status.st_nlink == 1 || tell(error, LATEENBAEL_OK, EMLINK, "%s has more than one hard link", f->path);
+    return status.st_nlink <= 1 || tell(error, LATEENBAEL_OK, EMLINK, "%s has more than one hard link", path);
 }
 
 static bool open_both(store_file *s, enum store_mode mode, store_error *error) {
     int flags = mode == STORE_READ_ONLY ? O_RDONLY : O_RDWR;
     s->main.fd = open_locked(s->main.path, flags, mode == STORE_READ_ONLY ? LOCK_SH : LOCK_EX, error);
-    if (s->main.fd < 0 || !has_one_name(&s->main, error)) {
+    if (s->main.fd < 0 || !has_one_name(s->main.fd, s->main.path, error)) {
         return false;
     }
     s->log.fd = open(s->log.path, flags | O_CLOEXEC | O_NONBLOCK | O_NOFOLLOW);
-    return s->log.fd >= 0 ? has_one_name(&s->log, error) : errno == ENOENT || failed(error, "opening", s->log.path);
+    return s->log.fd >= 0 ? has_one_name(s->log.fd, s->log.path, error) : errno == ENOENT || failed(error, "opening", s->log.path);
 }
 
-/* What an earlier host has written and not flushed goes to the medium first. */
-static bool flush_before_reading(store_file *s, store_error *error) {
+static void remove_creating(const one_file *f) {
+    char name[NAME_SIZE];
+    if (joined(name, f->path, CREATING)) {
+        unlink(name);
+    }
+}
+
+/* What an earlier host has written and not flushed goes to the medium before anything is read. What a creation over this store has left
+ * that was cut goes away: were the main file lost later, it would tell that the log is a cut creation's. */
+static bool settle(store_file *s, store_error *error) {
+    remove_creating(&s->main);
+    remove_creating(&s->log);
     s->main.unflushed = true;
     s->log.unflushed = s->log.fd >= 0;
     return flush(s, error) && flush_folder(s->main.path, error);
@@ -118,8 +129,7 @@ static bool make_log(store_file *s, store_error *error);
 static bool open_engine(store_file *s, enum store_mode mode, store_error *error) {
     size_t main_len = 0, log_len = 0;
     bool has_log = s->log.fd >= 0, writing = mode == STORE_READ_WRITE;
-    if ((writing && !flush_before_reading(s, error)) || !load(&s->main, mode, &main_len, error) ||
-        (has_log && !load(&s->log, mode, &log_len, error))) {
+    if ((writing && !settle(s, error)) || !load(&s->main, mode, &main_len, error) || (has_log && !load(&s->log, mode, &log_len, error))) {
         return false;
     }
     lateenbael_answered opened = writing ? lateenbael_open_clean(AREAS(s), main_len, log_len, 0, has_log, new_salt(0))
@@ -199,15 +209,15 @@ void store_file_close(store_file *s) {
     free(s);
 }
 
-/* ---- creation: each file is made under its name with -new behind, and gets its own when it is on the medium */
+/* ---- creation: each file is made as CREATING says, and gets its own name when it is on the medium */
 
-static bool new_name(char out[NAME_SIZE], const one_file *f, store_error *error) {
-    return joined(out, f->path, "-new") || failed(error, "naming", f->path);
+static bool creating_name(char out[NAME_SIZE], const one_file *f, store_error *error) {
+    return joined(out, f->path, CREATING) || failed(error, "naming", f->path);
 }
 
 static bool rename_new(const one_file *f, store_error *error) {
     char name[NAME_SIZE];
-    return new_name(name, f, error) && (rename(name, f->path) == 0 || failed(error, "renaming", name));
+    return creating_name(name, f, error) && (rename(name, f->path) == 0 || failed(error, "renaming", name));
 }
 
 /* The file has the first bytes of its area, whatever a creation that was cut has left in it. */
@@ -215,19 +225,36 @@ static bool fill(one_file *f, size_t len, store_error *error) {
     return set_len(f, 0, error) && write_all(f, f->area, len, 0, error) && flush_file(f, error);
 }
 
+/* A log has its main file's mode and owner, as far as that is allowed: who looks after a store as another user must not lock its controller
+ * out. */
+static void take_after(const one_file *log, const one_file *main) {
+    struct stat status;
+    if (fstat(main->fd, &status) == 0) {
+        fchmod(log->fd, status.st_mode & 07777);
+        int not_allowed = fchown(log->fd, status.st_uid, status.st_gid);
+        (void)not_allowed;
+    }
+}
+
+/* What a cut one has left is not opened but removed: by another hard link it may be another's. */
 static bool make_new_log(store_file *s, store_error *error) {
     char name[NAME_SIZE];
-    if (!new_name(name, &s->log, error)) {
+    if (!creating_name(name, &s->log, error)) {
         return false;
     }
-    s->log.fd = open(name, O_RDWR | O_CREAT | O_CLOEXEC | O_NONBLOCK | O_NOFOLLOW, 0666);
-    return (s->log.fd >= 0 || failed(error, "opening", name)) && fill(&s->log, s->store.wal.len, error);
+    unlink(name);
+    s->log.fd = open(name, O_RDWR | O_CREAT | O_EXCL | O_CLOEXEC | O_NOFOLLOW, 0666);
+    if (s->log.fd < 0) {
+        return failed(error, "opening", name);
+    }
+    take_after(&s->log, &s->main);
+    return fill(&s->log, s->store.wal.len, error);
 }
 
 /* Removes what a failed creation has made, whichever of its names it has. */
 static void remove_made(const one_file *f) {
     char name[NAME_SIZE];
-    if (f->fd >= 0 && joined(name, f->path, "-new") && same_file(f->fd, name)) {
+    if (f->fd >= 0 && joined(name, f->path, CREATING) && same_file(f->fd, name)) {
         unlink(name);
     }
     if (f->fd >= 0 && same_file(f->fd, f->path)) {
@@ -244,17 +271,64 @@ static bool make_log(store_file *s, store_error *error) {
     return made;
 }
 
-/* A log alone is what a creation that was cut has left, if that has left the main file's other name too or the log has no frames; else
- * someone has lost a main file. */
-static bool is_free(const store_file *s, bool was_cut, store_error *error) {
+static bool is_there(const char *path) {
     struct stat status;
-    if (lstat(s->main.path, &status) == 0) {
+    return lstat(path, &status) == 0;
+}
+
+/* A log with neither a main file nor one that is being created is left alone: someone has lost a main file. The caller has looked for the
+ * log before this looks for the main file, so that another creation that ends meanwhile is not taken for that. */
+static bool is_free(const store_file *s, bool lone_log, store_error *error) {
+    if (is_there(s->main.path)) {
         return tell(error, LATEENBAEL_OK, EEXIST, "%s is there already", s->main.path);
     }
-    if (!was_cut && lstat(s->log.path, &status) == 0 && status.st_size > 32) {
-        return tell(error, LATEENBAEL_OK, EEXIST, "%s is there already, with frames", s->log.path);
-    }
+    return !lone_log || tell(error, LATEENBAEL_OK, EEXIST, "%s is there already, and its main file is not", s->log.path);
+}
+
+/* Opens the main file by its name in creation. Whether this call made it is told by the system: between a look and an opening another
+ * creation might come or go. */
+static int open_creating(const char *name, bool *was_there) {
+    const int flags = O_RDWR | O_CLOEXEC | O_NONBLOCK | O_NOFOLLOW;
+    int fd = open(name, flags | O_CREAT | O_EXCL, 0666);
+    *was_there = fd < 0 && errno == EEXIST;
+    return *was_there ? open(name, flags) : fd;
+}
+
+/* This lock keeps other creations out, and then is the store's. Where another has ended meanwhile and taken the name along, this looks at
+ * all of it anew. */
+static bool lock_creating(store_file *s, const char *name, bool *was_there, store_error *error) {
+    do {
+        if (s->main.fd >= 0) {
+            close(s->main.fd);
+            s->main.fd = -1;
+        }
+        if (!is_free(s, is_there(s->log.path) && !is_there(name), error)) {
+            return false;
+        }
+        s->main.fd = open_creating(name, was_there);
+        if (s->main.fd < 0 && !(*was_there && errno == ENOENT)) {
+            return failed(error, "opening", name);
+        }
+        if (s->main.fd >= 0 && !lock_file(s->main.fd, name, LOCK_EX, error)) {
+            /* if it is locked, another creation has taken it over */
+            if (!*was_there && error->code != EWOULDBLOCK) {
+                remove_made(&s->main);
+            }
+            return false;
+        }
+    } while (!same_file(s->main.fd, name));
     return true;
+}
+
+static bool remove_left(const char *path, store_error *error) {
+    return unlink(path) == 0 || errno == ENOENT || failed(error, "removing", path);
+}
+
+/* Under the lock: a name in creation that was there tells of a creation that was cut, and that a log is what it has left. */
+static bool clear_way(const store_file *s, bool was_there, store_error *error) {
+    char name[NAME_SIZE];
+    return is_free(s, is_there(s->log.path) && !was_there, error) &&
+           (!was_there || (creating_name(name, &s->log, error) && remove_left(s->log.path, error) && remove_left(name, error)));
 }
 
 /* The main file gets its name last: before that there is no store. */
@@ -266,34 +340,27 @@ static bool make_both(store_file *s, store_error *error) {
            rename_new(&s->main, error) && flush_folder(s->main.path, error);
 }
 
-/* What a creation that was cut has left of its log: alone it would block others. */
-static void remove_left_log(const store_file *s) {
-    char name[NAME_SIZE];
-    unlink(s->log.path);
-    if (joined(name, s->log.path, "-new")) {
-        unlink(name);
+/* Removes what a failed creation has made. A kill in between must leave what is told as a cut creation: a main file that has its own name
+ * already loses it first, and the name in creation goes last. */
+static void unmake(const store_file *s, const char *name) {
+    if (same_file(s->main.fd, s->main.path)) {
+        rename(s->main.path, name);
     }
+    remove_made(&s->log);
+    remove_made(&s->main);
 }
 
 static bool create_both(store_file *s, store_error *error) {
     char name[NAME_SIZE];
-    struct stat status;
-    if (!new_name(name, &s->main, error)) {
+    bool was_there = false;
+    if (!creating_name(name, &s->main, error) || !lock_creating(s, name, &was_there, error)) {
         return false;
     }
-    bool was_cut = lstat(name, &status) == 0;
-    /* This lock keeps other creations out, and then is the store's. */
-    s->main.fd = open_locked(name, O_RDWR | O_CREAT, LOCK_EX, error);
-    if (s->main.fd < 0) {
-        return false;
-    }
-    bool free_to_make = is_free(s, was_cut, error), made = free_to_make && make_both(s, error);
-    if (!made) {
-        remove_made(&s->log);
-        if (free_to_make && was_cut) {
-            remove_left_log(s);
-        }
-        remove_made(&s->main);
+    bool begun = has_one_name(s->main.fd, name, error) && clear_way(s, was_there, error);
+    bool made = begun && make_both(s, error);
+    /* one that has not begun leaves alone what it found */
+    if (!made && (begun || !was_there)) {
+        unmake(s, name);
     }
     return made;
 }
@@ -311,9 +378,13 @@ store_file *store_file_open_or_create(const char *path, store_error *error) {
     store_file *s = store_file_open(path, STORE_READ_WRITE, error);
     if (s == NULL && error->code == ENOENT) {
         s = store_file_create(path, error);
-        /* another host was faster */
+        /* another host was faster, or a log is there alone: then that is told */
         if (s == NULL && error->code == EEXIST) {
+            store_error of_creation = *error;
             s = store_file_open(path, STORE_READ_WRITE, error);
+            if (s == NULL && error->code == ENOENT) {
+                *error = of_creation;
+            }
         }
     }
     return s;
@@ -332,14 +403,14 @@ size_t store_file_frames(const store_file *s) {
 const uint8_t *store_file_page(const store_file *s, uint32_t page) {
     const uint8_t *areas[] = {NULL, s->log.area, s->main.area, s->staging};
     lateenbael_page_answer found = lateenbael_find_page(s->store, AREAS(s), page);
-    bool there = found.refusal == LATEENBAEL_OK && found.area != LATEENBAEL_AREA_NONE;
+    bool there = !s->stopped && found.refusal == LATEENBAEL_OK && found.area != LATEENBAEL_AREA_NONE;
     return there ? areas[found.area] + found.at : NULL;
 }
 
 const uint8_t *store_file_batch(const store_file *s, size_t *frame) {
     lateenbael_batch_place place = lateenbael_wal_next_batch(s->log.area, s->store.wal.len, s->store.wal, *frame);
     *frame = place.index + 1;
-    return place.found ? s->log.area + place.offset + (LATEENBAEL_FRAME_SIZE - PAGE) : NULL;
+    return place.found && !s->stopped ? s->log.area + place.offset + (LATEENBAEL_FRAME_SIZE - PAGE) : NULL;
 }
 
 /* ---- writing */
@@ -355,6 +426,9 @@ static bool keep(store_file *s, const lateenbael_answered *answered, store_error
 }
 
 bool store_file_stage(store_file *s, uint32_t page, const uint8_t bytes[PAGE], store_error *error) {
+    if (!usable(s, error)) {
+        return false;
+    }
     lateenbael_answered staged = lateenbael_stage_page(s->store, s->staging, LATEENBAEL_STAGING_AREA, page, bytes, PAGE);
     return keep(s, &staged, error);
 }

@@ -19,18 +19,20 @@ enum store_mode { STORE_READ_WRITE, STORE_READ_ONLY };
 
 /* Opens the store of that path, cleanly if it is to be written: what no commit frame follows is dropped. NULL where it fails. */
 store_file *store_file_open(const char *path, enum store_mode mode, store_error *error);
-/* Makes a new store; EEXIST where there is one. A creation that was cut before is done again. */
+/* Makes a new store; EEXIST where there is one, or a log alone, whose main file was lost. A creation that was cut before is done again. */
 store_file *store_file_create(const char *path, store_error *error);
 store_file *store_file_open_or_create(const char *path, store_error *error);
 /* What was staged, or appended and not committed, is lost. NULL is nothing to close. */
 void store_file_close(store_file *s);
 
-/* The header that counts, and how many frames the log has. */
+/* The header that counts, and how many frames the log has; after a failed write or fsync, what the store had at that moment. */
 lateenbael_db_header store_file_header(const store_file *s);
 size_t store_file_frames(const store_file *s);
-/* A page's 4,096 bytes, up to the next call that changes the store; NULL if there is none, or it can't be read. */
+/* A page's 4,096 bytes, up to the next call that changes the store; NULL if there is none, or it can't be read, as after a failed write or
+ * fsync: what the areas then hold may not be on the medium. */
 const uint8_t *store_file_page(const store_file *s, uint32_t page);
-/* The body of the first committed batch at that frame or behind; NULL if there is none. The frame behind it goes into *frame. */
+/* The body of the first committed batch at that frame or behind; NULL if there is none, or after a failed write or fsync. The frame behind
+ * it goes into *frame. */
 const uint8_t *store_file_batch(const store_file *s, size_t *frame);
 
 /* Those below give false where they fail. After a failed write or fsync every later one fails too: close, and open anew. */
