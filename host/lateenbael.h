@@ -271,7 +271,7 @@ lateenbael_answered lateenbael_create(uint32_t *table, size_t table_entries, uin
 /* Plain opening of the files in the first main_len and log_len bytes of their areas. access_mode 0 is read-write, any other
  * read-only. log_exists 0: there is no log file; read-write makes one, with the salt. Frames behind the commit point stay, and a
  * later commit takes them in. But behind a tail that ends in bytes that are no good frame (store.wal.good_end < store.wal.len) a commit
- * is written where no later opening finds it: open cleanly, or checkpoint first. Refusals 1 to 8. */
+ * is written where no later opening finds it: open cleanly. Refusals 1 to 8. */
 lateenbael_answered lateenbael_open_with_mode(uint32_t *table, size_t table_entries, uint8_t *log, size_t log_size, const uint8_t *main,
                                               size_t main_size, const uint8_t *staging, size_t staging_size, size_t main_len,
                                               size_t log_len, uint32_t access_mode, uint32_t log_exists, uint32_t salt);

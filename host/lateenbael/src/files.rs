@@ -165,27 +165,25 @@ impl Files {
         })
     }
 
-    /// The main file begun, and locked. Where it was begun before, and there is no store, a creation was cut.
+    /// The main file begun, and locked. Where it was begun before, and there is no store, a creation was cut, and what that has left goes.
     fn begun(path: &Path, replaced: Option<File>, wait: Duration) -> Result<Files, Error> {
         let Begun { file, was_there } = begin_locked(path, wait)?;
+        let log = wal_path_for(path);
+        if replaced.is_none() && was_there && !is_there(path)? {
+            let removed = remove_if_there(&log).and_then(|()| remove_if_there(&creating_path(&log)));
+            removed.map_err(|error| Error::of_file(&log, error))?;
+        }
         if let Some(replaced) = &replaced {
             give_away(&file, replaced);
         }
-        let log_path = wal_path_for(path);
         let files = Files {
             main: OneFile::new(path.to_path_buf(), Some(file), Stage::Begun),
-            log: OneFile::new(log_path.clone(), None, Stage::Named),
+            log: OneFile::new(log, None, Stage::Named),
             replaced,
         };
         if files.replaced.is_none() {
             // Another creation may have published it since it was looked for.
             is_free(path)?;
-        }
-        if files.replaced.is_none() && was_there {
-            let left = [&log_path, &creating_path(&log_path)].map(|left| remove_if_there(left));
-            left.into_iter()
-                .collect::<io::Result<()>>()
-                .map_err(|error| Error::of_file(log_path, error))?;
         }
         Ok(files)
     }
