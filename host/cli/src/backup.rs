@@ -37,7 +37,7 @@ pub fn dump(args: &Args) -> Result<Answer, Failure> {
     let text = dump_text::print(&Snapshot::of(&open_read_only(path, args)?)?);
     match out {
         None => Ok(Answer::shown(text)),
-        Some(out) => write_new_file(Path::new(out), text.as_bytes()).map(|()| Answer::shown("")),
+        Some(out) => write_new_file(path, Path::new(out), text.as_bytes()).map(|()| Answer::shown("")),
     }
 }
 

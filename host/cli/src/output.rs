@@ -1,6 +1,8 @@
 //! What the program prints, and the status that it ends with. Nothing here panics, whatever the descriptors are.
 use crate::failure::Failure;
 use crate::json::Json;
+use lateenbael::wal_path_for;
+use std::ffi::OsStr;
 use std::fs::{File, OpenOptions};
 use std::io::{self, ErrorKind, Write};
 use std::os::fd::AsFd;
@@ -75,9 +77,12 @@ fn write_standard_output(bytes: &[u8]) -> io::Result<()> {
     File::from(io::stdout().as_fd().try_clone_to_owned()?).write_all(bytes)
 }
 
-/// Writes a file that must not be there yet, and syncs it; a failed writing leaves none.
-pub fn write_new_file(path: &Path, bytes: &[u8]) -> Result<(), Failure> {
+/// Writes a file that must not be there yet, and syncs it; a failed writing leaves none. A store without a log would take it for its own.
+pub fn write_new_file(store: &OsStr, path: &Path, bytes: &[u8]) -> Result<(), Failure> {
     let failed = |error| Failure::file(path.display(), error);
+    if path == wal_path_for(Path::new(store)) {
+        return Err(Failure::Refused(format!("{} is the name of the store's log", path.display())));
+    }
     let mut file = OpenOptions::new().write(true).create_new(true).open(path).map_err(failed)?;
     let written = file.write_all(bytes).and_then(|()| file.sync_all());
     if written.is_err() {

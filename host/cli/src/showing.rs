@@ -201,7 +201,7 @@ pub fn read(args: &Args) -> Result<Answer, Failure> {
     if out == "-" {
         return Ok(Answer::shown(bytes));
     }
-    write_new_file(Path::new(out), &bytes)?;
+    write_new_file(path, Path::new(out), &bytes)?;
     Ok(Answer::shown(""))
 }
 

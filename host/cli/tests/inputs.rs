@@ -139,3 +139,18 @@ fn a_file_is_told_as_a_stores_is() {
         dir.fails(line, 1, "lateenbael: none: there is no such file\n");
     }
 }
+
+/// A store without a log would take such a file for it.
+#[test]
+fn nothing_is_written_under_the_name_of_a_stores_log() {
+    let dir = WorkDir::with_store();
+    dir.done("checkpoint grips");
+    std::fs::remove_file(dir.path("grips-wal")).unwrap();
+    for line in ["read grips 2 grips-wal", "dump grips grips-wal"] {
+        dir.fails(line, 1, "lateenbael: grips-wal is the name of the store's log\n");
+    }
+    for line in ["copy grips grips-wal", "create grips-creating", "create other-wal"] {
+        dir.fails(line, 1, "a name that ends in -wal or -creating is that of another store's file\n");
+    }
+    dir.done("commit grips 2=p3");
+}

@@ -173,7 +173,7 @@ fn a_full_disk_stops_a_commit_and_loses_nothing() {
     // Files may have 28 KiB: the log, of 24,704 bytes, has no room for another frame.
     let printed = dir.shell("trap '' XFSZ; ulimit -f 28; exec $P commit grips 5=p9 3=p9");
     assert!(
-        printed.status == 1 && printed.err.starts_with("lateenbael: grips-wal: the disk failed: "),
+        printed.status == 1 && printed.err.starts_with("lateenbael: grips-wal: File too large"),
         "{}",
         printed.err
     );

@@ -32,6 +32,9 @@ pub trait Disk {
     /// The new file is whole and synced: from now on, for good, it stands under its own name.
     fn publish(&mut self, area: Area) -> io::Result<()>;
 
+    /// The files were opened for writing and are a store's: what a creation that was cut has left beside them goes, as far as it does.
+    fn remove_left(&mut self) {}
+
     /// Writes bytes; what is written past the end lengthens the file.
     fn write_at(&mut self, area: Area, at: usize, bytes: &[u8]) -> io::Result<()>;
 

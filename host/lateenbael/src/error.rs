@@ -6,6 +6,9 @@ use std::path::PathBuf;
 
 /// A symbolic link where none may be.
 const ELOOP: i32 = 40;
+/// Too many files are open, of all programs or of this one.
+const ENFILE: i32 = 23;
+const EMFILE: i32 = 24;
 
 /// Why a call did not do its work. Where it is about a file, a page or a process, it names it.
 #[derive(Debug)]
@@ -47,6 +50,11 @@ pub enum Error {
         file: PathBuf,
         /// Who holds the lock, where the system tells.
         holder: Option<String>,
+    },
+    /// No store is made under a name that ends in -wal or -creating: another store's files would be taken for it.
+    ReservedName {
+        /// The file.
+        file: PathBuf,
     },
     /// A creation found this file, and left it.
     AlreadyExists {
@@ -130,6 +138,11 @@ impl fmt::Display for Error {
                 let holder = holder.as_deref().unwrap_or("a controller, or another lateenbael");
                 write!(f, "{}: another program has the store open ({holder})", file.display())
             }
+            Error::ReservedName { file } => write!(
+                f,
+                "{}: a name that ends in -wal or -creating is that of another store's file",
+                file.display()
+            ),
             Error::AlreadyExists { file } => write!(f, "{} is there already", file.display()),
             Error::NotFound { file } => write!(f, "{}: there is no such file", file.display()),
             Error::NotAFile { file } => write!(f, "{} is no regular file", file.display()),
@@ -151,8 +164,8 @@ fn is_forbidden(error: &io::Error) -> bool {
     use io::ErrorKind::*;
     matches!(
         error.kind(),
-        PermissionDenied | ReadOnlyFilesystem | NotADirectory | ResourceBusy | InvalidFilename
-    )
+        PermissionDenied | ReadOnlyFilesystem | NotADirectory | ResourceBusy | InvalidFilename | FileTooLarge
+    ) || matches!(error.raw_os_error(), Some(ENFILE | EMFILE))
 }
 
 impl std::error::Error for Error {

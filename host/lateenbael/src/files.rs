@@ -1,13 +1,13 @@
 //! A store's two real files.
 use crate::direct::{Direct, drop_cached};
 use crate::named::{
-    Begun, begin, begin_locked, creating_path, folder_of, give_away, is_free, is_there, names, open_locked, open_regular, remove_if_there,
-    resolved, sync_folder, wal_path_for,
+    Begun, begin_locked, begin_log, creating_path, folder_of, give_away, is_free, is_no_other_name, is_there, names, open_folder,
+    open_locked, open_regular, remove_if_there, resolved, share_as, sync_folder, wal_path_for,
 };
 use crate::{Area, Comparison, Disk, Error};
-use std::fs::{self, File, Permissions};
+use std::fs::{self, File};
 use std::io;
-use std::os::unix::fs::{FileExt, MetadataExt, PermissionsExt};
+use std::os::unix::fs::{FileExt, MetadataExt};
 use std::path::{Path, PathBuf};
 use std::time::Duration;
 
@@ -22,6 +22,8 @@ pub struct Files {
     log: OneFile,
     /// The main file that a creation takes the place of, locked until the new one stands there.
     replaced: Option<File>,
+    /// The folder, while files are made in it: opened before anything is removed.
+    folder: Option<File>,
 }
 
 #[derive(Debug)]
@@ -114,21 +116,22 @@ impl Files {
             found => Some(found?),
         };
         if !read_only {
-            // What a creation that was cut has left beside a store would tell of a cut one where the main file is lost later.
-            let _ = remove_if_there(&creating_path(&log_path)).and_then(|()| remove_if_there(&creating_path(&path)));
             // A log whose name is in the cache alone would be gone after a power cut, and all that is committed to it.
-            sync_folder(&path).map_err(|error| Error::of_file(folder_of(&path), error))?;
+            let synced = open_folder(&path).and_then(|folder| sync_folder(&folder));
+            synced.map_err(|error| Error::of_file(folder_of(&path), error))?;
         }
         Ok(Files {
             main: OneFile::new(path, Some(main), Stage::Named),
             log: OneFile::new(log_path, log, Stage::Named),
             replaced: None,
+            folder: None,
         })
     }
 
     /// Two new files; if either is there already, it is left alone. What a creation that was cut has left is removed. One that is at work
     /// is waited for so long.
     pub fn fresh(path: &Path, wait: Duration) -> Result<Files, Error> {
+        is_no_other_name(path)?;
         let log = wal_path_for(path);
         // In this order: a creation that is at work has the other name until both files have their own, the main file last.
         let is_log_alone = is_there(&log)? && !is_there(&creating_path(path))?;
@@ -146,10 +149,12 @@ impl Files {
     pub fn overwriting(path: &Path, wait: Duration) -> Result<Files, Error> {
         with_patience(|| {
             if !is_there(path)? {
+                is_no_other_name(path)?;
                 return Files::begun(path, None, wait);
             }
             let path = resolved(path)?;
             let replaced = open_locked(&path, false, wait)?;
+            is_replaceable(&wal_path_for(&path))?;
             Files::begun(&path, Some(replaced), wait)
         })
     }
@@ -165,13 +170,18 @@ impl Files {
         })
     }
 
-    /// The main file begun, and locked. Where it was begun before, and there is no store, a creation was cut, and what that has left goes.
+    /// The main file begun, and locked. Where it was begun before, a creation was cut, and what that has left goes; the log too, if there is
+    /// no store.
     fn begun(path: &Path, replaced: Option<File>, wait: Duration) -> Result<Files, Error> {
+        let folder = open_folder(path).map_err(|error| Error::of_file(folder_of(path), error))?;
         let Begun { file, was_there } = begin_locked(path, wait)?;
         let log = wal_path_for(path);
-        if replaced.is_none() && was_there && !is_there(path)? {
-            let removed = remove_if_there(&log).and_then(|()| remove_if_there(&creating_path(&log)));
-            removed.map_err(|error| Error::of_file(&log, error))?;
+        let left = |path: &Path| remove_if_there(path).map_err(|error| Error::of_file(path, error));
+        if was_there {
+            left(&creating_path(&log))?;
+        }
+        if was_there && replaced.is_none() && !is_there(path)? {
+            left(&log)?;
         }
         if let Some(replaced) = &replaced {
             give_away(&file, replaced);
@@ -180,6 +190,7 @@ impl Files {
             main: OneFile::new(path.to_path_buf(), Some(file), Stage::Begun),
             log: OneFile::new(log, None, Stage::Named),
             replaced,
+            folder: Some(folder),
         };
         if files.replaced.is_none() {
             // Another creation may have published it since it was looked for.
@@ -188,13 +199,12 @@ impl Files {
         Ok(files)
     }
 
-    /// Takes from new files whatever others may not do with that one.
+    /// Lets nobody do more with new files than with that one.
     pub(crate) fn restrict_as(&self, path: &Path) {
         if let (Ok(like), Ok(file)) = (fs::metadata(path), self.main.open_file())
             && let Ok(new) = file.metadata()
         {
-            let mode = new.permissions().mode() & like.permissions().mode();
-            let _ = file.set_permissions(Permissions::from_mode(mode));
+            share_as(file, &like, new.mode());
         }
     }
 
@@ -221,7 +231,22 @@ impl Files {
         }
         fs::remove_file(&self.main.path)?;
         remove_if_there(&self.log.path)?;
-        sync_folder(&self.main.path)
+        self.sync_folder()
+    }
+
+    fn sync_folder(&self) -> io::Result<()> {
+        match &self.folder {
+            Some(folder) => sync_folder(folder),
+            None => sync_folder(&open_folder(&self.main.path)?),
+        }
+    }
+}
+
+/// A log that goes with its main file. A folder in its place would not go, and the store would be lost for nothing.
+fn is_replaceable(log: &Path) -> Result<(), Error> {
+    match fs::symlink_metadata(log) {
+        Ok(found) if found.is_dir() => Err(Error::NotAFile { file: log.to_path_buf() }),
+        _ => Ok(()),
     }
 }
 
@@ -265,14 +290,18 @@ impl Disk for Files {
 
     fn create(&mut self, area: Area) -> io::Result<()> {
         if self.of(area).file.is_none() {
-            let Begun { file, .. } = begin(&self.of(area).path)?;
+            let file = begin_log(&self.of(area).path)?;
             if let Some(main) = &self.main.file {
                 give_away(&file, main);
             }
             let one = self.of_mut(area);
             (one.file, one.stage) = (Some(file), Stage::Begun);
         }
-        self.of_mut(area).len = None;
+        let one = self.of_mut(area);
+        if one.stage != Stage::Begun {
+            return Err(io::ErrorKind::AlreadyExists.into());
+        }
+        one.len = None;
         self.set_len(area, 0)
     }
 
@@ -282,13 +311,20 @@ impl Disk for Files {
         if one.stage == Stage::Begun {
             fs::rename(creating_path(&one.path), &one.path)?;
             one.stage = Stage::Renamed;
-            sync_folder(&one.path)?;
-            one.stage = Stage::Named;
+            self.sync_folder()?;
+            self.of_mut(area).stage = Stage::Named;
         }
         if area == Area::Main {
-            self.replaced = None;
+            (self.replaced, self.folder) = (None, None);
         }
         Ok(())
+    }
+
+    /// Or a main file that is lost later would be taken for one that was never made.
+    fn remove_left(&mut self) {
+        for one in [&self.log, &self.main] {
+            let _ = remove_if_there(&creating_path(&one.path));
+        }
     }
 
     fn write_at(&mut self, area: Area, at: usize, bytes: &[u8]) -> io::Result<()> {

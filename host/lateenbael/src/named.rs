@@ -3,9 +3,10 @@ use crate::Error;
 use crate::direct::is_unsupported;
 use crate::lock::lock;
 use std::ffi::OsString;
-use std::fs::{self, File, OpenOptions};
+use std::fs::{self, File, Metadata, OpenOptions, Permissions};
 use std::io;
-use std::os::unix::fs::{MetadataExt, OpenOptionsExt, fchown};
+use std::os::unix::ffi::OsStrExt;
+use std::os::unix::fs::{MetadataExt, OpenOptionsExt, PermissionsExt, fchown};
 use std::path::{Path, PathBuf};
 use std::time::Duration;
 
@@ -35,6 +36,18 @@ pub fn is_there(path: &Path) -> Result<bool, Error> {
         Ok(_) => Ok(true),
         Err(error) if error.kind() == io::ErrorKind::NotFound => Ok(false),
         Err(error) => Err(Error::of_file(path, error)),
+    }
+}
+
+/// Names that are those of another store's files.
+const RESERVED: [&str; 2] = ["-wal", "-creating"];
+
+/// No store is made under such a name: another one's log, or a creation of another, would be taken for it.
+pub fn is_no_other_name(path: &Path) -> Result<(), Error> {
+    let name = path.as_os_str().as_bytes();
+    match RESERVED.iter().any(|suffix| name.ends_with(suffix.as_bytes())) {
+        true => Err(Error::ReservedName { file: path.to_path_buf() }),
+        false => Ok(()),
     }
 }
 
@@ -104,37 +117,42 @@ fn is_regular(path: &Path, file: &File) -> Result<(), Error> {
     }
 }
 
-/// A file opened under its other name.
+/// A main file opened under its other name.
 pub struct Begun {
     pub file: File,
     /// Whether it was there: a creation was cut, or is at work.
     pub was_there: bool,
 }
 
-/// Begins a file under its other name. An error names the file itself, or its folder.
-pub fn begin(path: &Path) -> Result<Begun, Error> {
+/// Makes a file under its other name, where there is none. An error names the file itself, or the folder that is missing.
+fn make_creating(path: &Path) -> Result<File, Error> {
     let creating = creating_path(path);
-    let failed = |error: io::Error| match error.kind() {
+    let mut options = OpenOptions::new();
+    options.read(true).write(true).create_new(true).custom_flags(O_NOFOLLOW);
+    options.open(&creating).map_err(|error| match error.kind() {
         io::ErrorKind::NotFound => Error::NotFound {
-            file: folder_of(path).to_path_buf(),
+            file: folder_of(&creating).to_path_buf(),
         },
         _ => Error::of_file(path, error),
-    };
-    let mut options = OpenOptions::new();
-    options
-        .read(true)
-        .write(true)
-        .create_new(true)
-        .custom_flags(O_NONBLOCK | O_NOFOLLOW);
+    })
+}
+
+/// Begins a log. What lies under its other name is what a creation that was cut has left, and goes.
+pub fn begin_log(path: &Path) -> Result<File, Error> {
+    remove_if_there(&creating_path(path)).map_err(|error| Error::of_file(path, error))?;
+    make_creating(path)
+}
+
+fn begin(path: &Path) -> Result<Begun, Error> {
     loop {
-        match options.open(&creating) {
-            Err(error) if error.kind() == io::ErrorKind::AlreadyExists => {}
+        match make_creating(path) {
+            Err(Error::AlreadyExists { .. }) => {}
             made => {
-                let (file, was_there) = (made.map_err(failed)?, false);
+                let (file, was_there) = (made?, false);
                 return Ok(Begun { file, was_there });
             }
         }
-        match open_regular(&creating, false) {
+        match open_regular(&creating_path(path), false) {
             Err(Error::NotFound { .. }) => {}
             found => {
                 let (file, was_there) = (found?, true);
@@ -160,12 +178,26 @@ pub fn begin_locked(path: &Path, wait: Duration) -> Result<Begun, Error> {
     }
 }
 
-/// Gives a new file the mode and owner of the one that it belongs to, as far as that is allowed: who looks after a store as another
+/// A mode whose group's rights are no more than everybody's.
+fn without_group(mode: u32) -> u32 {
+    mode & (!0o070 | (mode & 0o007) << 3)
+}
+
+/// Gives a new file the group of another, and its mode as far as `may` allows. Where the group can't be given, the file's own group gets
+/// no rights that were another's.
+pub fn share_as(file: &File, like: &Metadata, may: u32) {
+    let _ = fchown(file, None, Some(like.gid()));
+    let has_group = file.metadata().is_ok_and(|file| file.gid() == like.gid());
+    let mode = if has_group { like.mode() } else { without_group(like.mode()) };
+    let _ = file.set_permissions(Permissions::from_mode(mode & may & 0o7777));
+}
+
+/// Gives a new file the mode, group and owner of the one that it belongs to, as far as that is allowed: who looks after a store as another
 /// user must not lock its controller out.
 pub fn give_away(file: &File, like: &File) {
     if let Ok(like) = like.metadata() {
-        let _ = file.set_permissions(like.permissions());
-        let _ = fchown(file, Some(like.uid()), Some(like.gid()));
+        share_as(file, &like, u32::MAX);
+        let _ = fchown(file, Some(like.uid()), None);
     }
 }
 
@@ -176,10 +208,33 @@ pub fn folder_of(file: &Path) -> &Path {
     }
 }
 
+pub fn open_folder(file: &Path) -> io::Result<File> {
+    File::open(folder_of(file))
+}
+
 /// A new name outlasts a power cut only when its folder was synced too. A file system that syncs no folders says so.
-pub fn sync_folder(file: &Path) -> io::Result<()> {
-    match File::open(folder_of(file))?.sync_all() {
+pub fn sync_folder(folder: &File) -> io::Result<()> {
+    match folder.sync_all() {
         Err(error) if is_unsupported(&error) => Ok(()),
         synced => synced,
+    }
+}
+
+#[cfg(test)]
+mod tests {
+    use super::without_group;
+
+    #[test]
+    fn another_group_may_do_what_everybody_may() {
+        for (mode, left) in [
+            (0o640, 0o600),
+            (0o660, 0o600),
+            (0o664, 0o644),
+            (0o666, 0o666),
+            (0o646, 0o646),
+            (0o755, 0o755),
+        ] {
+            assert_eq!(without_group(mode), left, "{mode:o}");
+        }
     }
 }

@@ -69,6 +69,10 @@ impl<D: Disk> Disk for PowerCut<D> {
         self.disk.publish(area)
     }
 
+    fn remove_left(&mut self) {
+        self.disk.remove_left();
+    }
+
     fn write_at(&mut self, area: Area, at: usize, bytes: &[u8]) -> io::Result<()> {
         let stored = self.draw(bytes.len());
         if at + stored >= UNTORN && stored > 0 {

@@ -106,6 +106,9 @@ impl<D: Disk> Store<D> {
             .engine
             .reopen(mode == Mode::ReadWrite, main, log, mode == Mode::ReadOnly, salt);
         opened.map_err(|refusal| store.refused_opening(refusal, main, log))?;
+        if mode != Mode::ReadOnly {
+            store.disk.remove_left();
+        }
         if mode != Mode::ReadOnly && log.is_none() {
             make_file(&mut store.disk, Area::Log, store.engine.log_file())?;
             publish(&mut store.disk, Area::Log)?;
@@ -237,6 +240,7 @@ impl<D: Disk> Store<D> {
     pub fn append_mvcc_batch(&mut self, body: &[u8]) -> Result<(), Error> {
         self.running()?;
         self.check_tail()?;
+        self.check_intact(Area::Log)?;
         let write = self.engine.append_mvcc_batch(body)?;
         self.write_out(write)
     }
@@ -293,7 +297,7 @@ impl<D: Disk> Store<D> {
         }
     }
 
-    /// Stops the store if the file was removed, replaced or given another length behind its back: the log before a commit goes there, the
+    /// Stops the store if the file was removed, replaced or given another length behind its back: the log before a batch or a commit goes there, the
     /// main file before a commit that may be followed by a checkpoint, which empties the log.
     fn check_intact(&mut self, area: Area) -> Result<(), Error> {
         if !self.engine.is_writable() {
@@ -409,7 +413,7 @@ impl<D: Disk> Store<D> {
         Ok(log.map_or(0, |log| log.frames().filter(|frame| frame.batch().is_some()).count()))
     }
 
-    /// Copies both files as they lie to a new store. Who may not read or write this one's main file may not do so there.
+    /// Copies both files as they lie to a new store, which lets nobody do more than this one's main file does.
     pub fn copy_to(&self, path: impl AsRef<Path>) -> Result<(), Error> {
         self.running()?;
         let mut files = Files::fresh(path.as_ref(), DEFAULT_WAIT)?;

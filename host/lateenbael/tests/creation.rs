@@ -1,7 +1,7 @@
 //! Creation: what was there, what a cut or failed one leaves, and copies.
 mod common;
 use common::*;
-use lateenbael::{Area, Disk, Error, Files, Mode, OpenOptions, Store, wal_path_for};
+use lateenbael::{Error, Files, Mode, OpenOptions, Refusal, Snapshot, Store, wal_path_for};
 use std::fs;
 use std::os::unix::fs::PermissionsExt;
 use std::path::{Path, PathBuf};
@@ -167,17 +167,62 @@ fn a_file_with_two_names_is_not_begun() {
     fs::hard_link(&precious, &main).unwrap();
     assert!(matches!(Store::open_or_create(&path), Err(Error::Linked { file, links: 2 }) if file == main));
     fs::remove_file(&main).unwrap();
-    let mut files = Files::fresh(&path, Duration::ZERO).unwrap();
     fs::hard_link(&precious, &log).unwrap();
-    assert!(
-        files
-            .create(Area::Log)
-            .unwrap_err()
-            .to_string()
-            .contains("grips-wal-creating has 2 hard links")
-    );
-    drop(files);
+    drop(Store::create(&path).unwrap());
     assert_eq!(fs::read_to_string(&precious).unwrap(), "precious");
+}
+
+/// What is no store is not cleared of what lies beside it.
+#[test]
+fn a_refused_opening_removes_nothing() {
+    let folder = Folder::new();
+    let path = folder.store();
+    for file in [path.clone(), creating(&path), creating(&wal_path_for(&path))] {
+        fs::write(file, "a note").unwrap();
+    }
+    assert_eq!(refusal(Store::open(&path, Mode::ReadWrite)), Some(Refusal::Short));
+    assert_eq!(fs::read_dir(&folder.0).unwrap().count(), 3);
+}
+
+#[test]
+fn no_store_is_made_under_the_names_of_another_ones_files() {
+    let folder = Folder::new();
+    let path = folder.store();
+    let store = Store::create(&path).unwrap();
+    for name in [wal_path_for(&folder.0.join("other")), creating(&path)] {
+        for create in CREATIONS {
+            assert!(matches!(create(&name), Err(Error::ReservedName { file }) if file == name));
+        }
+        assert!(matches!(store.copy_to(&name), Err(Error::ReservedName { .. })));
+        assert!(Snapshot::of(&store).unwrap().create(&name).is_err());
+    }
+    assert_eq!(others(&folder), 0);
+}
+
+#[test]
+fn a_store_that_is_open_is_not_made_anew_in_its_place() {
+    let folder = Folder::new();
+    let path = folder.store();
+    seven_pages(&path);
+    let before = bytes_of(&path);
+    assert!(matches!(
+        Store::create_on(existing(&path), counting_salts(1)),
+        Err(Error::AlreadyExists { file }) if file == path
+    ));
+    assert_eq!(bytes_of(&path), before);
+}
+
+/// What can be known before the old store goes is looked at before.
+#[test]
+fn a_creation_over_a_store_whose_log_is_a_folder_leaves_it() {
+    let folder = Folder::new();
+    let (path, log) = (folder.store(), wal_path_for(&folder.store()));
+    seven_pages(&path);
+    fs::remove_file(&log).unwrap();
+    fs::create_dir(&log).unwrap();
+    assert!(matches!(Store::create_over(&path), Err(Error::NotAFile { file }) if file == log));
+    assert_eq!(fs::metadata(&path).unwrap().len(), 7 * 4096);
+    assert_eq!(others(&folder), 0);
 }
 
 #[test]

@@ -85,7 +85,7 @@ fn a_log_that_was_taken_away_stops_the_store() {
         },
         |log| fs::write(log, []).unwrap(),
     ];
-    for alter in alterations {
+    for (alter, appends) in alterations.into_iter().flat_map(|alter| [(alter, false), (alter, true)]) {
         seven_pages(&path);
         let mut store = open(&path, Mode::ReadWrite);
         commit_pages(&mut store, 3, &[33]);
@@ -93,7 +93,12 @@ fn a_log_that_was_taken_away_stops_the_store() {
         let left = bytes_of(&path);
         let header = store.header().unwrap();
         store.stage_page(3, &page(34)).unwrap();
-        assert!(matches!(store.commit(header), Err(Error::Replaced { file }) if file == log));
+        let call = if appends {
+            store.append_mvcc_batch(batch(1).body())
+        } else {
+            store.commit(header).map(drop)
+        };
+        assert!(matches!(call, Err(Error::Replaced { file }) if file == log));
         assert!(matches!(store.commit(header), Err(Error::Stopped)));
         assert_eq!(bytes_of(&path), left);
         drop(store);
