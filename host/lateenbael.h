@@ -57,16 +57,17 @@
  *               and fsync both files, rename the log, then the main file, and fsync the folder. A creation that fails removes what it made,
  *               STORE-creating last; a main file that has its own name by then is first renamed back.
  *               STORE-creating must be a regular file with one hard link; a STORE-wal-creating is removed, and made with O_EXCL. A missing
- *               log is made in this way too. A new log gets its main file's mode and owner, as far as that is allowed (fchmod, fchown). An
- *               opening to write that has its lock removes a STORE-creating and a STORE-wal-creating beside the store: were the main file
- *               lost later, they would tell of a cut creation.
+ *               log is made in this way too. A new log gets its main file's group, mode and owner, as far as that is allowed. An opening
+ *               to write that was not refused removes a STORE-creating and a STORE-wal-creating beside the store: were the main file lost
+ *               later, they would tell of a cut creation. Make no store under a name that ends in -wal or -creating.
  *     flush     fsync of every file with writes since its last one, the log first; not only of the step's own file.
  *     opening   To write, go by what is on the medium: fsync both files and the folder, let the cache go of both files
  *               (posix_fadvise, POSIX_FADV_DONTNEED), and compare what is then read with what is read past the cache (O_DIRECT, into
  *               an aligned buffer); where they differ, fail. For after an fsync that failed, in an earlier process too, the cache may
  *               hold bytes that the medium has not; the next fsync succeeds without storing them, and so may one behind a write to the
  *               same page. Where the file system has no O_DIRECT, write again all that was read, and fsync.
- *     failure   After a write or fsync that failed: stop using the store, open anew.
+ *     failure   After a write or fsync that failed: stop using the store, open anew. The same where the log has no name or another
+ *               length before a batch or a commit is written (fstat): it was removed or cut, and what is written would be lost.
  *     batches   A checkpoint ends them, and a commit that brings the log to LATEENBAEL_CHECKPOINT_FRAMES frames brings one on: read
  *               committed batches before. store.wal.frame_count tells how many frames the log has.
  *     count     A page staged at or above the new page count is committed and then reads as nothing: refuse it before the commit.

@@ -487,9 +487,10 @@ static void owner_of_log(void) {
     struct stat status;
     uid_t owner = geteuid() == 0 ? 12345 : geteuid();
     make_store("grips", 1);
-    CHECK(chmod("grips", 0604) == 0 && chown("grips", owner, (gid_t)-1) == 0 && unlink("grips-wal") == 0);
+    gid_t group = geteuid() == 0 ? 12346 : getegid();
+    CHECK(chmod("grips", 0624) == 0 && chown("grips", owner, group) == 0 && unlink("grips-wal") == 0);
     store_file_close(store_file_open("grips", STORE_READ_WRITE, &error));
-    CHECK(lstat("grips-wal", &status) == 0 && (status.st_mode & 07777) == 0604 && status.st_uid == owner);
+    CHECK(lstat("grips-wal", &status) == 0 && (status.st_mode & 07777) == 0624 && status.st_uid == owner && status.st_gid == group);
     CHECK(files_here(true) == 2);
 }
 
@@ -599,7 +600,7 @@ static void left_beside(void) {
     make_file("grips-creating", 100);
     make_file("grips-wal-creating", 100);
     CHECK(seen_in("grips", STORE_READ_ONLY) == 1 && files_here(false) == 4);
-    CHECK(seen_in("grips", STORE_READ_WRITE) == 1 && files_here(false) == 2 && names_flushed());
+    CHECK(seen_in("grips", STORE_READ_WRITE) == 1 && files_here(false) == 2);
     CHECK(unlink("grips") == 0);
     create_at_log();
     CHECK(files_here(true) == 1);
@@ -607,6 +608,28 @@ static void left_beside(void) {
 
 static void replace_store(void) {
     CHECK(rename("new-wal", "grips-wal") == 0 && rename("new", "grips") == 0);
+}
+
+/* What would be written to a log that was removed or cut behind the store's back is not acknowledged. */
+static void lost_log(void) {
+    for (int way = 0; way < 4; way++) {
+        make_store("grips", 1);
+        store_file *s = store_file_open("grips", STORE_READ_WRITE, &error);
+        CHECK(s != NULL && (way % 2 == 0 ? unlink("grips-wal") : truncate("grips-wal", 32)) == 0);
+        CHECK(!(way < 2 ? commit_page(s, 2, 2) : append_batch(s, 1)));
+        CHECK(error.code == EIO && strstr(error.text, "grips-wal was removed") != NULL);
+        CHECK(!commit_page(s, 2, 2) && strstr(error.text, "has failed before") != NULL);
+        store_file_close(s);
+        CHECK(length_of("grips-wal") == (way % 2 == 0 ? -1 : 32));
+        files_here(true);
+    }
+}
+
+/* Another store's files would be taken for a store of such a name. */
+static void reserved_names(void) {
+    CHECK(refused(store_file_create("grips-wal", &error), EINVAL, "grips-wal: "));
+    CHECK(refused(store_file_open_or_create("grips-creating", &error), EINVAL, "grips-creating: "));
+    CHECK(files_here(true) == 0);
 }
 
 /* Between opening and locking another store gets the name. */
@@ -695,6 +718,8 @@ int main(void) {
     run("no locks", no_locks);
     run("creations at once", creations_at_once);
     run("left beside", left_beside);
+    run("lost log", lost_log);
+    run("reserved names", reserved_names);
     run("replaced", replaced);
     run("refusals", refusals);
     run("strange files", strange_files);

@@ -96,11 +96,15 @@ static void remove_creating(const one_file *f) {
     }
 }
 
-/* What an earlier host has written and not flushed goes to the medium before anything is read. What a creation over this store has left
- * that was cut goes away: were the main file lost later, it would tell that the log is a cut creation's. */
-static bool settle(store_file *s, store_error *error) {
-    remove_creating(&s->main);
+/* What a creation over this store has left that was cut goes away: were the main file lost later, it would tell that the log is a cut
+ * creation's. Only beside a store: what is none is refused, and nothing is altered. */
+static void remove_left_beside(const store_file *s) {
     remove_creating(&s->log);
+    remove_creating(&s->main);
+}
+
+/* What an earlier host has written and not flushed goes to the medium before anything is read. */
+static bool settle(store_file *s, store_error *error) {
     s->main.unflushed = true;
     s->log.unflushed = s->log.fd >= 0;
     return flush(s, error) && flush_folder(s->main.path, error);
@@ -141,6 +145,7 @@ static bool open_engine(store_file *s, enum store_mode mode, store_error *error)
     if (!writing) {
         return true;
     }
+    remove_left_beside(s);
     return (has_log ? set_len(&s->log, s->store.wal.len, error) : make_log(s, error)) && flush(s, error);
 }
 
@@ -225,15 +230,21 @@ static bool fill(one_file *f, size_t len, store_error *error) {
     return set_len(f, 0, error) && write_all(f, f->area, len, 0, error) && flush_file(f, error);
 }
 
-/* A log has its main file's mode and owner, as far as that is allowed: who looks after a store as another user must not lock its controller
- * out. */
+/* A log has its main file's mode, group and owner, as far as that is allowed: who looks after a store as another user must not lock its
+ * controller out. Where the group can't be given, the log's own group gets no rights that were another's. */
 static void take_after(const one_file *log, const one_file *main) {
-    struct stat status;
-    if (fstat(main->fd, &status) == 0) {
-        fchmod(log->fd, status.st_mode & 07777);
-        int not_allowed = fchown(log->fd, status.st_uid, status.st_gid);
-        (void)not_allowed;
+    struct stat like, own;
+    if (fstat(main->fd, &like) != 0) {
+        return;
     }
+    mode_t mode = like.st_mode & 07777;
+    int not_allowed = fchown(log->fd, (uid_t)-1, like.st_gid);
+    if (fstat(log->fd, &own) != 0 || own.st_gid != like.st_gid) {
+        mode &= ~(mode_t)070 | (mode & 07) << 3;
+    }
+    fchmod(log->fd, mode);
+    not_allowed = fchown(log->fd, like.st_uid, (gid_t)-1);
+    (void)not_allowed;
 }
 
 /* What a cut one has left is not opened but removed: by another hard link it may be another's. */
@@ -350,10 +361,21 @@ static void unmake(const store_file *s, const char *name) {
     remove_made(&s->main);
 }
 
+static bool ends_in(const char *path, const char *suffix) {
+    size_t len = strlen(path), part = strlen(suffix);
+    return len >= part && strcmp(path + len - part, suffix) == 0;
+}
+
+/* Names that are those of another store's files. */
+static bool is_no_other_name(const one_file *f, store_error *error) {
+    return (!ends_in(f->path, "-wal") && !ends_in(f->path, CREATING)) ||
+           tell(error, LATEENBAEL_OK, EINVAL, "%s: a name that ends in -wal or " CREATING " is that of another store's file", f->path);
+}
+
 static bool create_both(store_file *s, store_error *error) {
     char name[NAME_SIZE];
     bool was_there = false;
-    if (!creating_name(name, &s->main, error) || !lock_creating(s, name, &was_there, error)) {
+    if (!is_no_other_name(&s->main, error) || !creating_name(name, &s->main, error) || !lock_creating(s, name, &was_there, error)) {
         return false;
     }
     bool begun = has_one_name(s->main.fd, name, error) && clear_way(s, was_there, error);
@@ -425,6 +447,16 @@ static bool keep(store_file *s, const lateenbael_answered *answered, store_error
     return answered->refusal == LATEENBAEL_OK || refused(error, answered->refusal, s->main.path);
 }
 
+/* Whether the log still has a name and that length: what is written to one that was removed or cut behind the store's back is lost. */
+static bool log_is_intact(const store_file *s, size_t len, store_error *error) {
+    struct stat status;
+    if (fstat(s->log.fd, &status) != 0) {
+        return failed(error, "looking at", s->log.path);
+    }
+    return (status.st_nlink > 0 && (size_t)status.st_size == len) ||
+           tell(error, LATEENBAEL_OK, EIO, "%s was removed, replaced or altered while the store was open", s->log.path);
+}
+
 bool store_file_stage(store_file *s, uint32_t page, const uint8_t bytes[PAGE], store_error *error) {
     if (!usable(s, error)) {
         return false;
@@ -446,7 +478,7 @@ bool store_file_append(store_file *s, const uint8_t body[PAGE], store_error *err
     if (!keep(s, &appended, error)) {
         return false;
     }
-    s->stopped = !write_all(&s->log, s->log.area + at, LATEENBAEL_FRAME_SIZE, at, error);
+    s->stopped = !log_is_intact(s, at, error) || !write_all(&s->log, s->log.area + at, LATEENBAEL_FRAME_SIZE, at, error);
     return !s->stopped;
 }
 
@@ -490,7 +522,8 @@ bool store_file_commit(store_file *s, lateenbael_db_header header, store_error *
         return false;
     }
     lateenbael_answered begun = lateenbael_begin_commit(s->store, AREAS(s), header, new_salt(s->store.wal.header.salt));
-    return run_steps(s, &begun, error);
+    s->stopped = begun.refusal == LATEENBAEL_OK && !log_is_intact(s, s->store.wal.len, error);
+    return !s->stopped && run_steps(s, &begun, error);
 }
 
 bool store_file_checkpoint(store_file *s, store_error *error) {
