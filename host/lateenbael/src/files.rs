@@ -176,12 +176,11 @@ impl Files {
         let folder = open_folder(path).map_err(|error| Error::of_file(folder_of(path), error))?;
         let Begun { file, was_there } = begin_locked(path, wait)?;
         let log = wal_path_for(path);
-        let left = |path: &Path| remove_if_there(path).map_err(|error| Error::of_file(path, error));
-        if was_there {
-            left(&creating_path(&log))?;
-        }
         if was_there && replaced.is_none() && !is_there(path)? {
-            left(&log)?;
+            remove_if_there(&log).map_err(|error| Error::of_file(&log, error))?;
+        }
+        if was_there && (replaced.is_some() || !is_there(path)?) {
+            remove_if_there(&creating_path(&log)).map_err(|error| Error::of_file(&log, error))?;
         }
         if let Some(replaced) = &replaced {
             give_away(&file, replaced);

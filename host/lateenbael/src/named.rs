@@ -15,14 +15,19 @@ const O_NONBLOCK: i32 = 0o4000;
 /// `open` fails on a symbolic link.
 const O_NOFOLLOW: i32 = 0o400000;
 
+/// Behind a main file's name: its log.
+const WAL: &str = "-wal";
+/// Behind a file's name: the other name that it has while it is being made.
+const CREATING: &str = "-creating";
+
 /// The log's path beside a main file: the same with `-wal` behind it, as the Rust names it.
 pub fn wal_path_for(main: &Path) -> PathBuf {
-    with_suffix(main, "-wal")
+    with_suffix(main, WAL)
 }
 
-/// A file's other name, while it is being made. Nobody would call a store so.
+/// A file's other name.
 pub fn creating_path(path: &Path) -> PathBuf {
-    with_suffix(path, "-creating")
+    with_suffix(path, CREATING)
 }
 
 fn with_suffix(path: &Path, suffix: &str) -> PathBuf {
@@ -39,13 +44,10 @@ pub fn is_there(path: &Path) -> Result<bool, Error> {
     }
 }
 
-/// Names that are those of another store's files.
-const RESERVED: [&str; 2] = ["-wal", "-creating"];
-
-/// No store is made under such a name: another one's log, or a creation of another, would be taken for it.
+/// No store is made under the name of another one's log, or of a creation: it would be taken for that.
 pub fn is_no_other_name(path: &Path) -> Result<(), Error> {
     let name = path.as_os_str().as_bytes();
-    match RESERVED.iter().any(|suffix| name.ends_with(suffix.as_bytes())) {
+    match [WAL, CREATING].iter().any(|suffix| name.ends_with(suffix.as_bytes())) {
         true => Err(Error::ReservedName { file: path.to_path_buf() }),
         false => Ok(()),
     }
