@@ -151,7 +151,7 @@ pub fn write_padded_frame(
     le::write_bytes(log, at + FRAME_HEADER_SIZE, front);
     le::write_zeros(log, at + FRAME_HEADER_SIZE + 32, PAGE_SIZE - 32);
     put_heading(log, at, page_num, commit_page_count, salt);
-    let sum = checksum::sum_over(le::part(log, at, 12), 0);
-    le::write_u32(log, at + 12, checksum::sum_over(front, sum));
+    let heading_sum = checksum::sum_over(le::part(log, at, 12), 0);
+    le::write_u32(log, at + 12, checksum::sum_over(front, heading_sum));
     Stored::Done
 }

@@ -1,0 +1,2 @@
+-- The root of the statement on sums of frames.
+pub mod FrameSums

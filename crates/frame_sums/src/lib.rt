@@ -1,0 +1,1 @@
+// What every opening compares with a frame's stored sum: see specs/FrameSums.antt.
