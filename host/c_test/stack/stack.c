@@ -1,5 +1,5 @@
 /* How much stack the calls take that read a log, with what is handed over and back. Each is run on a stack that was painted before: what is
- * paint no longer was used. A log is to be read with no page-sized array of its own (document 02, P3): every figure must be below a page's
+ * no longer paint was used. A log is to be read with no page-sized array of its own (document 02, P3): every figure must be below a page's
  * size. Prints them, and ends nonzero where one is too high or where a page-sized array would not be seen. */
 #define _POSIX_C_SOURCE 200809L
 #include "../../lateenbael.h"
