@@ -84,7 +84,7 @@ extern "C" {
 
 /* The version of this header; lateenbael_version() is the archive's. */
 #define LATEENBAEL_VERSION_MAJOR 0
-#define LATEENBAEL_VERSION_MINOR 1
+#define LATEENBAEL_VERSION_MINOR 2
 #define LATEENBAEL_VERSION_PATCH 0
 #define LATEENBAEL_VERSION (LATEENBAEL_VERSION_MAJOR * 1000000 + LATEENBAEL_VERSION_MINOR * 1000 + LATEENBAEL_VERSION_PATCH)
 
@@ -95,9 +95,9 @@ uint32_t lateenbael_version(void);
 #define LATEENBAEL_FRAME_SIZE 4112 /* a page's frame in the log: 16 bytes of heading, and the page */
 #define LATEENBAEL_LOG_AREA 4210720
 #define LATEENBAEL_MAIN_AREA 4194304
-#define LATEENBAEL_STAGING_AREA 262144
 #define LATEENBAEL_PAGES 1024
-#define LATEENBAEL_STAGED_PAGES 64
+#define LATEENBAEL_STAGED_PAGES 24 /* so many can be staged at a time */
+#define LATEENBAEL_STAGING_AREA (LATEENBAEL_PAGE_SIZE * LATEENBAEL_STAGED_PAGES)
 #define LATEENBAEL_CHECKPOINT_FRAMES 100 /* a commit that brings the log to so many frames is followed by a checkpoint */
 #define LATEENBAEL_LISTING_SIZE 2048
 #define LATEENBAEL_MVCC_FRAME_MARKER 4294967295u /* the page number of a frame that holds a batch */
@@ -117,7 +117,7 @@ enum lateenbael_refusal {
     LATEENBAEL_REFUSED_BUSY = 9,        /* a commit or checkpoint is part done: only its next step, or an opening, may come */
     LATEENBAEL_REFUSED_READ_ONLY = 10,  /* commit, checkpoint, batch append or clean opening, read-only */
     LATEENBAEL_REFUSED_PAGE = 11,       /* staging a page above 1,023 */
-    LATEENBAEL_REFUSED_STAGING = 12,    /* 64 other pages are staged */
+    LATEENBAEL_REFUSED_STAGING = 12,    /* LATEENBAEL_STAGED_PAGES other pages are staged */
     LATEENBAEL_REFUSED_NEW_HEADER = 13, /* commit with page count 0 or above 1,024, or a version that isn't 4 to 6 */
     LATEENBAEL_REFUSED_JOINING = 14,    /* a page, 1 or higher, from the old count to below the new one isn't staged */
     LATEENBAEL_REFUSED_LOG_FULL = 15,   /* no room in the log for the frames to add */
@@ -296,7 +296,7 @@ lateenbael_page_answer lateenbael_find_page(lateenbael_store store, const uint32
                                             size_t log_size, const uint8_t *main, size_t main_size, const uint8_t *staging,
                                             size_t staging_size, uint32_t page_num);
 
-/* The same in parts, for hosts that read often: a whole store is 296 bytes to hand over, and its refusals stay what they are until the
+/* The same in parts, for hosts that read often: a whole store is some 200 bytes to hand over, and its refusals stay what they are until the
  * next call that gives a store back. may_read answers the refusal that find_page would, or 0: page_count is current_header.page_count, job
  * is job.kind (any but 0 is refused with 9), log_len is wal.len, main_len is storage.len. */
 uint32_t lateenbael_may_read(uint32_t page_count, uint32_t job, size_t log_len, size_t main_len, const uint32_t *table,

@@ -27,7 +27,10 @@ PLACE(wal, last_commit_page_count, 60);
 SIZE(file_storage, 24);
 PLACE(file_storage, header, 8);
 
-SIZE(staged, 136);
+/* A count, and the numbers. */
+#define STAGED (8 + 2 * LATEENBAEL_STAGED_PAGES)
+
+SIZE(staged, STAGED);
 PLACE(staged, pages, 8);
 
 SIZE(job, 40);
@@ -36,15 +39,15 @@ PLACE(job, page, 8);
 PLACE(job, answer, 16);
 PLACE(job, header, 24);
 
-SIZE(store, 296);
+SIZE(store, 160 + STAGED);
 PLACE(store, wal, 16);
 PLACE(store, recovered, 80);
 PLACE(store, storage, 88);
 PLACE(store, staged, 112);
-PLACE(store, job, 248);
-PLACE(store, opening, 288);
+PLACE(store, job, 112 + STAGED);
+PLACE(store, opening, 152 + STAGED);
 
-SIZE(answered, 312);
+SIZE(answered, 176 + STAGED);
 PLACE(answered, begun, 4);
 PLACE(answered, answer, 8);
 PLACE(answered, store, 16);
@@ -64,7 +67,7 @@ PLACE(batch_place, found, 4);
 PLACE(batch_place, index, 8);
 PLACE(batch_place, offset, 16);
 
-SIZE(step_answered, 336);
+SIZE(step_answered, 200 + STAGED);
 PLACE(step_answered, kind, 4);
 PLACE(step_answered, area, 8);
 PLACE(step_answered, flush, 12);
@@ -131,7 +134,7 @@ PLACE(building, counted, 8);
 PLACE(building, records, 12);
 PLACE(building, columns, 14);
 
-_Static_assert(LATEENBAEL_VERSION == 1000, "0.1.0 as one number");
+_Static_assert(LATEENBAEL_VERSION == 2000, "0.2.0 as one number");
 
 /* Header and archive belong together, and every refusal has its name. */
 static void names(void) {

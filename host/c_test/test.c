@@ -176,6 +176,7 @@ static void run(const char *name, void (*part)(void)) {
 int main(void) {
     run("layout", test_layout);
     run("store", test_store);
+    run("staging", test_staging);
     run("opening", test_opening);
     run("forged", test_forged);
     run("files", test_files);

@@ -64,6 +64,7 @@ uint32_t stage(host *h, uint32_t page, uint8_t byte);
 
 void test_layout(void);
 void test_store(void);
+void test_staging(void);
 void test_opening(void);
 void test_forged(void);
 void test_files(void);

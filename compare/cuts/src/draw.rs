@@ -3,7 +3,7 @@
 use crate::batch;
 use crate::call::{AreaName, Call, Fault};
 use crate::expected::Expected;
-use crate::judge::{AUTO_CHECKPOINT_THRESHOLD_FRAMES, LOG_FRAMES};
+use crate::judge::{AUTO_CHECKPOINT_THRESHOLD_FRAMES, LOG_FRAMES, STAGED};
 use crate::model::{Header, PAGE};
 use crate::writes::FRAME;
 use splitmix::Random;
@@ -15,7 +15,7 @@ enum Goal {
     Frames(usize),
     /// So many pages.
     Count(u32),
-    /// So many pages staged; 65 can't be.
+    /// So many pages staged; more than [`STAGED`] can't be.
     Staged(usize),
     /// A commit.
     Commit,
@@ -146,7 +146,7 @@ impl Drawer {
         let patience = match goal {
             Goal::Frames(frames) if frames > AUTO_CHECKPOINT_THRESHOLD_FRAMES => 6000,
             Goal::Count(count) if count > 200 => 3000,
-            Goal::Staged(pages) if pages > 64 => 200,
+            Goal::Staged(pages) if pages > STAGED => 200,
             _ => 300,
         };
         if reached || self.random.one_in(patience) {
@@ -158,7 +158,10 @@ impl Drawer {
         }
         Some(match goal {
             Goal::Frames(_) => Call::Append(batch::encode_short(&batch::draw(&mut self.random))),
-            Goal::Staged(_) => Call::Stage(self.random.u32() % 80, self.seed(), PAGE),
+            Goal::Staged(_) => {
+                let page = self.random.below(STAGED + 16) as u32;
+                Call::Stage(page, self.seed(), PAGE)
+            }
             Goal::Count(count) => self.towards_count(expected, count),
             Goal::Commit => {
                 self.goals.pop();
@@ -167,15 +170,15 @@ impl Drawer {
         })
     }
 
-    /// Stages what joins, up to 60 pages at once, then commits.
+    /// Stages what joins, nearly as many pages at once as can be, then commits.
     fn towards_count(&mut self, expected: &Expected, count: u32) -> Call {
         let Header {
             page_count: now, ..
         } = expected.model.header;
-        let next = count.min(now + 60);
+        let next = count.min(now + STAGED as u32 - 4);
         let missing = (now..next).find(|page| !expected.model.staged.contains_key(page));
         match missing {
-            Some(_) if expected.model.staged.len() >= 64 => Call::DropStaging,
+            Some(_) if expected.model.staged.len() >= STAGED => Call::DropStaging,
             Some(page) => Call::Stage(page, self.seed(), PAGE),
             None => {
                 let commit = Call::Commit(self.header(expected, next), self.salt());
@@ -194,7 +197,9 @@ impl Drawer {
         let random = &mut self.random;
         match random.below(4) {
             0 => self.near(AUTO_CHECKPOINT_THRESHOLD_FRAMES),
-            1 => self.goals.push(Goal::Staged(random.between(60, 65))),
+            1 => self
+                .goals
+                .push(Goal::Staged(random.between(STAGED - 4, STAGED + 1))),
             _ => {
                 let count = random.between(1, self.most_pages as usize);
                 self.goals.push(Goal::Count(count as u32));

@@ -17,7 +17,8 @@ pub type Refused = (Number, usize);
 
 const LOG_AREA: usize = 4_210_720;
 const PAGES: u32 = 1024;
-const STAGED: usize = 64;
+/// Document 02, P9: "refusal 12 when 24 other pages are staged".
+pub const STAGED: usize = 24;
 /// "Log area 4,210,720 bytes (1,024 frames)".
 pub const LOG_FRAMES: usize = 1024;
 /// "At 100 frames or more it then folds."

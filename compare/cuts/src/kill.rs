@@ -5,6 +5,7 @@ use crate::batch;
 use crate::call::{Call, page_bytes};
 use crate::compare::{Check, compare_batches, compare_header, compare_pages};
 use crate::expected::Expected;
+use crate::judge::STAGED;
 use crate::model::{Header, PAGE};
 use crate::port::{from_port, to_port};
 use crate::writes::{FRAME, LOG_HEADER};
@@ -26,10 +27,14 @@ pub const CHILD: &str = "kill-child";
 const SIGKILL: i32 = 9;
 const LONGEST_MICROSECONDS: usize = 30_000;
 
+/// Other pages than those that join, at most, in a commit.
+const OTHERS: usize = 5;
+
+/// Never so many that those which join can't be staged with the others.
 fn page_count(seed: u64, number: u32) -> u32 {
     match number {
         0 => 2,
-        _ => 2 + Random::new(seed ^ u64::from(number / 5)).u32() % 30,
+        _ => 2 + Random::new(seed ^ u64::from(number / 5)).u32() % (STAGED - OTHERS) as u32,
     }
 }
 
@@ -45,7 +50,7 @@ fn calls(seed: u64, number: u32) -> Vec<Call> {
         calls.push(Call::Append(batch::encode_short(&batch::draw(random))));
     }
     let (old, new) = (page_count(seed, number - 1), page_count(seed, number));
-    let others: Vec<u32> = (0..random.below(6))
+    let others: Vec<u32> = (0..random.below(OTHERS + 1))
         .map(|_| random.between(1, new as usize - 1) as u32)
         .collect();
     for page in (old..new).chain(others) {

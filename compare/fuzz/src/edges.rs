@@ -1,6 +1,6 @@
 //! Numbers and bytes that are likely to find a fault.
 
-use lateenbael_sys::{FRAME_SIZE, LOG_AREA, MAIN_AREA, PAGE_SIZE, STAGING_AREA};
+use lateenbael_sys::{FRAME_SIZE, LOG_AREA, MAIN_AREA, PAGE_SIZE, STAGED_PAGES, STAGING_AREA};
 use splitmix::Random;
 
 /// Lengths and counts that the calls judge by.
@@ -8,7 +8,7 @@ const KEYS: [usize; 16] = [
     0,
     18,
     32,
-    64,
+    STAGED_PAGES,
     100,
     1_023,
     1_024,

@@ -428,14 +428,15 @@ fn next_step(world: &mut World, export: &'static str) {
     }
 }
 
-/// A commit adds at most 65 frames, and a checkpoint follows only if that makes
-/// 100.
+/// A commit adds a frame for each staged page and one more, and a checkpoint
+/// follows only if that makes 100.
 fn commit(world: &mut World, export: &'static str) {
     let given = world.any_store();
     let header = forge::db_header(&mut world.random, given.0.current_header);
     let salt = world.random.u32();
-    let mut log = vec![frames(given.0.wal.len, 65)];
-    let checkpoints = given.0.wal.frame_count > 34;
+    let most = sys::STAGED_PAGES + 1;
+    let mut log = vec![frames(given.0.wal.len, most)];
+    let checkpoints = given.0.wal.frame_count >= sys::CHECKPOINT_FRAMES - most;
     if checkpoints {
         log.push(LOG_HEADER);
     }

@@ -2,7 +2,7 @@
 
 use script::random;
 
-const REACHED: [&str; 36] = [
+const REACHED: [&str; 38] = [
     "call: batch, refused 15",
     "call: batch, refused 17",
     "call: batch, refused 18",
@@ -21,7 +21,7 @@ const REACHED: [&str; 36] = [
     "call: open rw, refused 8",
     "call: stage, refused 11",
     "call: stage, refused 12",
-    "case: 64 pages staged",
+    "case: as many pages staged as can be",
     "case: busy store asked",
     "case: commit behind a torn or bad tail",
     "case: commit or fold in one call, too",
@@ -30,7 +30,9 @@ const REACHED: [&str; 36] = [
     "case: commit to 100 frames, folded",
     "case: commit to 99 frames, kept",
     "case: commit, pages at or above the count in the log",
+    "case: commit of as many differing pages as can be",
     "case: commit, growing",
+    "case: commit, growing by as many pages as can be",
     "case: commit, growing from no page",
     "case: commit, shrinking",
     "case: commit, the log's area full",

@@ -52,7 +52,7 @@ use Rattle.history.proofs.CommitFrame.{framed-len, framed-header}
 
 -- nothing is staged any more
 pub none-slots : (s : Staged) → Slots s → Slots (noneStaged s)
-none-slots s k = record { few = omega arith; long = k .long }
+none-slots s k = record { few = omega arith; long = k .long; low = λ i h. absurd (omega arith); once = λ i h. absurd (omega arith) }
 
 pub none-staged : (s : Staged) (n : ℕ) → isStaged (noneStaged s) n ≡ false
 unfolding isStaged slotOf

@@ -124,7 +124,7 @@ module _ (w : World) (g : List ℕ) (b : Model) (z : List ℕ) (i : Inv w g b z)
 
 -- ---- in any history
 
-inv-history : (es : List Event) (r : Run) → AllTyped es → InvRun r → InvRun (after es r)
+pub inv-history : (es : List Event) (r : Run) → AllTyped es → InvRun r → InvRun (after es r)
 unfolding after
 inv-history [] r t i = i
 inv-history (e ∷ es) r t i = inv-history es (next e r) (t .1) (goes-on e r (t .0) i)

@@ -1,14 +1,12 @@
 -- A new store: its areas, and commits in it. Assumes nothing.
 use mathlib.Core.Path.{_≡_, refl, sym, ap, subst, _∙_}
-use mathlib.Core.Bool.{Bool, true, false}
-use mathlib.Core.List.{List, [], _∷_}
+use mathlib.Core.Bool.{true, false}
+use mathlib.Core.List.{List, []}
 use mathlib.Core.Option.{none}
-use Prim.Native.Nat.{ℕ, zero, suc, _+_, _≤_, _<_}
+use Prim.Native.Nat.{ℕ, _+_, _≤_}
 use native.Mathlib.Omega.{arith}
-use borrow.Author.Tests.{ltb-true, le-leb, le-ltb, eqb-true, eqb-false, ne-eqb}
-use lib.Dec.{eqb}
+use borrow.Author.Tests.{ltb-true, le-leb, le-ltb}
 use lib.ListN.{length, length-take}
-use Rattle.le.specs.Choice.{pick}
 use Rattle.le.proofs.Compare.{no-test}
 use Rattle.page.specs.Page.{pageSize, emptyTablePage}
 use Rattle.page.proofs.Written.{length-emptyTablePage}
@@ -20,8 +18,8 @@ use Rattle.wal.specs.Recovery.{walArea}
 use Rattle.wal.specs.Write.{createdHeader, emptyWal}
 use Rattle.wal.proofs.Encoding.{length-encodeWalHeader}
 use Rattle.pager_state.specs.World.{World, world, mainArea, stagingArea, stagedLimit, pageLimit, countOf, headerOf, readOnly}
-use Rattle.pager_state.specs.Overlay.{findIn, stagedPages, slotOf, isStaged}
-use Rattle.pager_state.specs.Pages.{among, pagesFrom, differs}
+use Rattle.pager_state.specs.Overlay.{stagedPages, slotOf, isStaged}
+use Rattle.pager_state.specs.Pages.{pagesFrom, differs}
 use Rattle.pager_state.specs.Opening.{tableOf, emptyStaged, opensAs, firstHeader, logStores, createStores, emptyFile, createdDisk, createdPager, createFine, createTable, createLog, createMain}
 use Rattle.pager_state.specs.Steps.{differing, commitRefusal}
 use Rattle.pager_state.specs.declared.Job.{Job}
@@ -29,6 +27,7 @@ use Rattle.pager_state.specs.declared.Job.the-variants as job
 use Rattle.pager_state.specs.declared.Staged.{Staged}
 use Rattle.pager_state.proofs.Stored.{Areas, AllInside, all-areas}
 use Rattle.pager_state.proofs.Sizes.{empty-len}
+use Rattle.pager_state.proofs.Counts.{none-among, few-among}
 use Rattle.pager_state.proofs.Steps.{differs-staged}
 use Rattle.pager_state.proofs.Made.{AsksOf, Made, every}
 use Rattle.pager_state.proofs.Opened.{created-made}
@@ -46,56 +45,6 @@ pub fine-create : (t l m g : List ℕ) → createFine t l m g ≡ true → Sized
 fine-create t l m g e = fine-sized (record { table = t; staging = g; log = l; main = m }) 0 0 e
 
 -- ---- no more pages are staged than there are slots
-
--- f but for the page x
-abbrev without : (ℕ → Bool) → ℕ → ℕ → Bool
-without f x n = pick (eqb n x) false (f n)
-
-module _ (f : ℕ → Bool) (x : ℕ) where
-  -- x was passed
-  behind : (k p : ℕ) → x < p → length (among f k p) ≤ length (among (without f x) k p)
-  unfolding among
-  behind zero p h = omega arith
-  behind (suc k) p h = rw (ne-eqb p x (λ e. omega arith)) (go (f p) (behind k (suc p) (omega arith)))
-    where
-      go : (b : Bool) → length (among f k (suc p)) ≤ length (among (without f x) k (suc p))
-          → length (pick b (p ∷ among f k (suc p)) (among f k (suc p))) ≤ length (pick b (p ∷ among (without f x) k (suc p)) (among (without f x) k (suc p)))
-      go true i = omega arith
-      go false i = omega arith
-
-  one-less : (k p : ℕ) → length (among f k p) ≤ suc (length (among (without f x) k p))
-  unfolding among
-  one-less zero p = omega arith
-  one-less (suc k) p = go (f p) (eqb p x) refl (one-less k (suc p))
-    where
-      go : (b c : Bool) → eqb p x ≡ c → length (among f k (suc p)) ≤ suc (length (among (without f x) k (suc p)))
-          → length (pick b (p ∷ among f k (suc p)) (among f k (suc p)))
-          ≤ suc (length (pick (pick c false b) (p ∷ among (without f x) k (suc p)) (among (without f x) k (suc p))))
-      go true true e i = let y : p ≡ x = eqb-true p x e in omega (arith, behind k (suc p) (omega arith))
-      go true false e i = omega arith
-      go false true e i = omega arith
-      go false false e i = omega arith
-
-none-among : (f : ℕ → Bool) (k p : ℕ) → ((n : ℕ) → f n ≡ true → ⊥) → among f k p ≡ []
-unfolding among
-none-among f zero p h = refl
-none-among f (suc k) p h = go (f p) refl (none-among f k (suc p) h)
-  where
-    go : (b : Bool) → f p ≡ b → among f k (suc p) ≡ [] → pick b (p ∷ among f k (suc p)) (among f k (suc p)) ≡ []
-    go true e i = absurd (h p e)
-    go false e i = i
-
-few-among : (xs : List ℕ) (f : ℕ → Bool) (k p : ℕ) → ((n : ℕ) → f n ≡ true → findIn xs n < length xs) → length (among f k p) ≤ length xs
-few-among [] f k p h = omega (arith, ap length (none-among f k p (λ n e. let z : findIn [] n < length {A = ℕ} [] = h n e in omega arith)))
-few-among (x ∷ xs) f k p h = omega (arith, one-less f x k p, few-among xs (without f x) k p (λ n e. later n (eqb n x) refl e))
-  where
-    later : (n : ℕ) (b : Bool) → eqb n x ≡ b → pick b false (f n) ≡ true → findIn xs n < length xs
-    later n true i e = no-test e
-    later n false i e =
-        let z : findIn (x ∷ xs) n < suc (length xs) = h n e in
-        let q : eqb x n ≡ false = ne-eqb x n (λ y. eqb-false n x i (sym y)) in
-        let y : suc (findIn xs n) < suc (length xs) = rw q at z in
-        omega arith
 
 pub few-differ : (g : List ℕ) (w : World) → length (w .pager .staged .pages) ≡ stagedLimit → differing g w ≤ stagedLimit
 unfolding differing pagesFrom isStaged slotOf

@@ -366,7 +366,7 @@ table-at h fs n k =
 
 pub empty-slots : Slots emptyStaged
 unfolding emptyStaged
-empty-slots = record { few = omega arith; long = refl }
+empty-slots = record { few = omega arith; long = refl; low = λ i h. absurd (omega arith); once = λ i h. absurd (omega arith) }
 
 pub empty-none : (n : ℕ) → isStaged emptyStaged n ≡ false
 unfolding emptyStaged isStaged slotOf

@@ -141,13 +141,20 @@ pub held-disk : {w : World} {g : List ℕ} {b : Model} {z : List ℕ} {l : WalHe
     → DiskOk (diskOf w) b z
 held-disk {w} {g} {b} {z} {l} {S} {P} {mh} k e = record { l = l; S = S; P = P; t = []; mh = mh; on = k .on; kept = e }
 
+some-held : {Q R : WalHeader → List (List ℕ) → List (List ℕ) → DbHeader → Type 0} {z : List ℕ}
+    → ((l : WalHeader) (S P : List (List ℕ)) (mh : DbHeader) → Q l S P mh → R l S P mh) → Some Q z → Some R z
+some-held f k = record { l = k .l; S = k .S; P = k .P; mh = k .mh; it = f (k .l) (k .S) (k .P) (k .mh) (k .it); kept = k .kept }
+
+pub inv-held : (j : Job) (w : World) (g : List ℕ) (b : Model) (z : List ℕ) → InvJob j w g b z → Some (Held w g b) z
+inv-held job.Idle w g b z i = some-held (λ l S P mh k. k .held) i
+inv-held (job.Commit h salt p answer) w g b z i = some-held (λ l S P mh k. k .held) i
+inv-held (job.Checkpoint salt p answer) w g b z i = some-held (λ l S P mh k. k .held) i
+inv-held (job.MainLength salt answer) w g b z i = some-held (λ l S P mh k. k .held) i
+inv-held (job.LogLength salt answer) w g b z i = some-held (λ l S P mh k. k .held) i
+inv-held (job.LogHeader salt answer) w g b z i = some-held (λ l S P mh k. k .held) i
+
 pub inv-disk : (j : Job) (w : World) (g : List ℕ) (b : Model) (z : List ℕ) → InvJob j w g b z → DiskOk (diskOf w) b z
-inv-disk job.Idle w g b z i = held-disk (i .it .held) (i .kept)
-inv-disk (job.Commit h salt p answer) w g b z i = held-disk (i .it .held) (i .kept)
-inv-disk (job.Checkpoint salt p answer) w g b z i = held-disk (i .it .held) (i .kept)
-inv-disk (job.MainLength salt answer) w g b z i = held-disk (i .it .held) (i .kept)
-inv-disk (job.LogLength salt answer) w g b z i = held-disk (i .it .held) (i .kept)
-inv-disk (job.LogHeader salt answer) w g b z i = held-disk (i .it .held) (i .kept)
+inv-disk j w g b z i = let k = inv-held j w g b z i in held-disk (k .it) (k .kept)
 
 -- ---- stores in the main file, a job, and a given header leave the rest
 

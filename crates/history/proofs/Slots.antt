@@ -1,15 +1,15 @@
 -- The staged pages by their slots: what is staged for a page, and a page staged anew. Assumes nothing.
-use mathlib.Core.Path.{_≡_, refl, sym, ap, _∙_}
+use mathlib.Core.Path.{_≡_, refl, sym, ap, subst, _∙_}
 use mathlib.Core.Bool.{Bool, true, false}
 use mathlib.Core.List.{List, [], _∷_, _++_}
-use mathlib.Core.Logic.{_⊎_, inl, inr}
+use mathlib.Core.Logic.{_⊎_, inl, inr, ⊎-elim}
 use mathlib.Core.Option.{Option, none, some}
 use Prim.Native.Nat.{ℕ, suc, _+_, _*_, max, _≤_, _<_}
 use native.Mathlib.Omega.{arith}
 use borrow.Author.Tests.{eq-eqb, ne-eqb, lt-ltb, le-ltb, ltb-true}
 use lib.Dec.{ltb, eqb}
 use lib.ListN.{length, drop, getD, set, length-append, length-take, length-drop, length-set}
-use lib.Seq.{length-take-le, getD-take, set-getD, take-suc-set}
+use lib.Seq.{length-take-le, getD-take, getD-set-same, getD-set-other, set-getD, take-suc-set}
 use Rattle.le.specs.Choice.{pick}
 use Rattle.le.specs.Le.{put}
 use Rattle.le.proofs.Tests.{le-or-lt, eq-or-not}
@@ -18,7 +18,7 @@ use Rattle.pager_state.specs.Overlay.{pageFrom, findIn, stagedPages, slotOf, is
 use Rattle.pager_state.specs.Staging.{withSlot}
 use Rattle.pager_state.specs.declared.Staged.{Staged}
 use Rattle.pager_state.proofs.Slots.{find-length, find-there}
-use Rattle.pager_state.specs.World.{stagingArea, stagedLimit}
+use Rattle.pager_state.specs.World.{stagingArea, stagedLimit, pageLimit}
 use Rattle.history.proofs.Files.{page-other, page-same}
 
 -- what is staged for a page
@@ -28,6 +28,8 @@ stagedFor s g n = pick (isStaged s n) (some (stagedBytes s g n)) none
 pub record Slots (s : Staged) : Type 0 where
   pub few : s .count ≤ stagedLimit
   pub long : length (s .pages) ≡ stagedLimit
+  pub low : (i : ℕ) → i < s .count → getD (s .pages) i 0 < pageLimit
+  pub once : (i : ℕ) → i < s .count → slotOf s (getD (s .pages) i 0) ≡ i  -- no page has two
 
 -- ---- finding a page
 
@@ -125,13 +127,9 @@ module _ (s : Staged) (k : Slots s) where
       length-take pageSize (drop (pageSize * slotOf s n) g) ∙ omega (arith, length-drop (pageSize * slotOf s n) g, slot-staged n e)
 
   module _ (n : ℕ) (low : slotOf s n < stagedLimit) where
-    pub slotted-slots : Slots (withSlot s (slotOf s n) n)
-    unfolding withSlot
-    slotted-slots = record { few = omega (arith, k .few); long = length-set (s .pages) (slotOf s n) n ∙ k .long }
-
-    pages-again : findIn (stagedPages s) n < length (stagedPages s) → stagedPages (withSlot s (slotOf s n) n) ≡ stagedPages s
+    slot-again : findIn (stagedPages s) n < length (stagedPages s) → withSlot s (slotOf s n) n ≡ s
     unfolding withSlot slotOf
-    pages-again h =
+    slot-again h =
         let i : ℕ = findIn (stagedPages s) n in
         let lt : i < s .count = omega (arith, slots-few) in
         let c : max (s .count) (i + 1) ≡ s .count = omega arith in
@@ -147,6 +145,59 @@ module _ (s : Staged) (k : Slots s) where
         let c : max (s .count) (i + 1) ≡ suc (s .count) = omega arith in
         rw (c, e) (take-suc-set (s .pages) (s .count) n (omega (arith, k .long, slot-most n, low)))
 
+    -- the next slot's page is n, the others are as they were
+    page-new : getD (withSlot s (slotOf s n) n .pages) (slotOf s n) 0 ≡ n
+    unfolding withSlot
+    page-new = getD-set-same (s .pages) (slotOf s n) n 0 (omega (arith, k .long, low))
+
+    page-old : (i : ℕ) → (i ≡ slotOf s n → ⊥) → getD (withSlot s (slotOf s n) n .pages) i 0 ≡ getD (s .pages) i 0
+    unfolding withSlot
+    page-old i h = getD-set-other (s .pages) (slotOf s n) i n 0 h
+
+    module _ (new : length (stagedPages s) ≤ findIn (stagedPages s) n) where
+      at-end : slotOf s n ≡ s .count
+      unfolding slotOf
+      at-end = omega (arith, find-length (stagedPages s) n, slots-few, new)
+
+      one-longer : withSlot s (slotOf s n) n .count ≡ s .count + 1
+      unfolding withSlot
+      one-longer = omega (arith, at-end)
+
+      -- an old page, or the new one
+      slot-cases : {A : ℕ → Type 0} → ((i : ℕ) → i < s .count → A i) → A (slotOf s n) → (i : ℕ) → i < withSlot s (slotOf s n) n .count → A i
+      slot-cases {A} old here i h =
+          ⊎-elim (λ (l : suc i ≤ s .count). old i l)
+          (λ l. let e : slotOf s n ≡ i = omega (arith, at-end, one-longer, h, l) in subst A e here) (le-or-lt (suc i) (s .count))
+
+      more-low : n < pageLimit → (i : ℕ) → i < withSlot s (slotOf s n) n .count → getD (withSlot s (slotOf s n) n .pages) i 0 < pageLimit
+      more-low page =
+          slot-cases (λ i h. rw (page-old i (λ e. omega (arith, at-end, e, h))) (k .low i h)) (rw page-new page)
+
+      more-once : (i : ℕ) → i < withSlot s (slotOf s n) n .count → slotOf (withSlot s (slotOf s n) n) (getD (withSlot s (slotOf s n) n .pages) i 0) ≡ i
+      unfolding slotOf
+      more-once =
+          slot-cases
+          (λ i h.
+          let y : ℕ = getD (s .pages) i 0 in
+          let e : findIn (stagedPages s) y ≡ i = k .once i h in
+          rw (page-old i (λ q. omega (arith, at-end, q, h)), pages-more new)
+          (find-in (stagedPages s) (n ∷ []) y (omega (arith, e, h, slots-few)) ∙ e))
+          (rw (page-new, pages-more new) (find-out (stagedPages s) (n ∷ []) n new ∙ rw (eq-eqb n n refl) (omega (arith, at-end, slots-few))))
+
+    pub slotted-slots : n < pageLimit → Slots (withSlot s (slotOf s n) n)
+    unfolding withSlot
+    slotted-slots page = go (le-or-lt (suc (findIn (stagedPages s) n)) (length (stagedPages s)))
+      where
+        go : (findIn (stagedPages s) n < length (stagedPages s)) ⊎ (length (stagedPages s) < suc (findIn (stagedPages s) n)) → Slots (withSlot s (slotOf s n) n)
+        go (inl h) = rw (slot-again h) k
+        go (inr h) =
+            record {
+              few = omega (arith, k .few);
+              long = length-set (s .pages) (slotOf s n) n ∙ k .long;
+              low = more-low (omega arith) page;
+              once = more-once (omega arith);
+            }
+
     -- "that page is staged anew"
     pub staged-anew : (g bytes : List ℕ) → length g ≡ stagingArea → length bytes ≡ pageSize → (m : ℕ)
         → stagedFor (withSlot s (slotOf s n) n) (put g (pageSize * slotOf s n) bytes) m ≡ pick (eqb m n) (some bytes) (stagedFor s g m)
@@ -158,5 +209,5 @@ module _ (s : Staged) (k : Slots s) where
 
         go : (findIn (stagedPages s) n < length (stagedPages s)) ⊎ (length (stagedPages s) < suc (findIn (stagedPages s) n))
             → stagedFor (withSlot s (slotOf s n) n) (put g (pageSize * slotOf s n) bytes) m ≡ pick (eqb m n) (some bytes) (stagedFor s g m)
-        go (inl h) = rw (pages-again h) (again (stagedPages s) g bytes n hb room h m)
+        go (inl h) = rw (slot-again h) (again (stagedPages s) g bytes n hb room h m)
         go (inr h) = rw (pages-more (omega arith)) (more (stagedPages s) g bytes n hb room (omega arith) m)

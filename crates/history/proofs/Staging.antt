@@ -43,6 +43,7 @@ module _ (w : World) (g : List ℕ) (b : Model) (z : List ℕ) (i : Inv w g b z)
   record Staging : Type 0 where
     long : length bytes ≡ pageSize
     idle : w .pager .job ≡ job.Idle
+    page : n < pageLimit
     low : slotOf (w .pager .staged) n < stagedLimit
 
   staging-ok : Staging
@@ -55,6 +56,7 @@ module _ (w : World) (g : List ℕ) (b : Model) (z : List ℕ) (i : Inv w g b z)
       record {
         long = eqb-true _ _ (both-true (stagingFine g) (eqb (length bytes) pageSize) (a .0) .1);
         idle = not-busy (w .pager .job) (off _ (c .0));
+        page = ltb-true _ _ (d .0);
         low = ltb-true _ _ (f .0);
       }
 
@@ -93,7 +95,7 @@ module _ (w : World) (g : List ℕ) (b : Model) (z : List ℕ) (i : Inv w g b z)
               clock = q .clock;
               header = q .header;
               clean = q .clean;
-              slots = slotted-slots (w .pager .staged) (q .slots) n low;
+              slots = slotted-slots (w .pager .staged) (q .slots) n low (staging-ok .page);
               staged = λ m. staged-anew (w .pager .staged) (q .slots) n low g bytes (q .stagingLong) long m ∙ ap (pick (eqb m n) (some bytes)) (q .staged m);
               waiting = q .waiting;
             };

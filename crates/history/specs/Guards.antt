@@ -120,7 +120,7 @@ BatchFullGuard =
 abbrev pub withSlots : World → Staged → World
 withSlots w s = onStore w (withStaged (w .pager) s)
 
--- with any 64 slots and any staging area, if the joining pages are staged
+-- with any slots and any staging area, if the joining pages are staged
 unfoldable pub CommitGuard : Type 0
 CommitGuard =
     (t l m g : List ℕ) (salt : ℕ) → createFine t l m g ≡ true → (s : Staged) → length (s .pages) ≡ stagedLimit → (h : DbHeader) → GoodHeader h

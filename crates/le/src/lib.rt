@@ -29,12 +29,6 @@ pub fn max(a: usize, b: usize) -> usize
     if a < b { b } else { a }
 }
 
-pub fn max_u16(a: u16, b: u16) -> u16
-    ensures { λ r. ⌜ r ≡ max a b ⌝ }
-{
-    if a < b { b } else { a }
-}
-
 pub fn widen_u16(x: u16) -> usize
     ensures { λ r. ⌜ r ≡ x ⌝ }
 {

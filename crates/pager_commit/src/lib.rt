@@ -26,6 +26,7 @@ use pager_state::Job;
 use pager_state::PAGES;
 use pager_state::Pager;
 use pager_state::Place;
+use pager_state::STAGED_PAGES;
 use pager_state::Staged;
 use pager_state::StepAnswer;
 use pager_state::Stepped;
@@ -327,7 +328,7 @@ pub fn begin_commit<'a>(
 // Stores the frames of the pages among the first n marks one after another, each as a step does; only the log and the page are handed
 // on, not the store, and no page is compared again.
 fn store_frames(
-    marks: &[u16],
+    marks: &[u16; STAGED_PAGES],
     n: usize,
     first: Wal,
     table: &mut [u32],
@@ -360,7 +361,7 @@ fn run_frames(
     header: DbHeader,
     salt: u32,
     answer: usize,
-    marks: &[u16],
+    marks: &[u16; STAGED_PAGES],
     table: &mut [u32],
     log: &mut [u8],
     staging: &[u8],

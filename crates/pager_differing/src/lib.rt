@@ -39,7 +39,7 @@ fn lowest(s: &[u16], n: usize, page: usize) -> usize
 }
 
 // The first page from `page` on among the first n numbers, and where it stands.
-pub fn next_of(s: &[u16], n: usize, page: usize) -> Slot
+pub fn next_of(s: &[u16; STAGED_PAGES], n: usize, page: usize) -> Slot
     ensures { λ r. ⌜ r .page ≡ nextIn (take n (now (s .entry))) page ⌝ }
     ensures { λ r. ⌜ (r .page < pageLimit → r .index ≡ findIn (take n (now (s .entry))) (r .page)) ⌝ }
 {
@@ -56,7 +56,7 @@ pub fn next_of(s: &[u16], n: usize, page: usize) -> Slot
     }
     Slot {
         page: found,
-        index: pager_state::find_in(s, n, found),
+        index: pager_state::find_among(s, n, found),
     }
 }
 
@@ -203,7 +203,7 @@ pub fn mark_differing<'a>(
     while i < end {
         let number = staged.pages[i];
         let page = le::widen_u16(number);
-        let first = pager_state::find_in(&staged.pages, count, page);
+        let first = pager_state::find_among(&staged.pages, count, page);
         let yes = is_counted(first, table, log, main, staging, page, i);
         pages[i] = mark(number, yes);
         n = tally(n, yes);
@@ -221,7 +221,7 @@ pub fn first_lacking(staged: Staged, old: u32, new: u32) -> usize
     let end = le::min(le::widen_u32(new), PAGES);
     let mut p = le::max(1, le::widen_u32(old));
     while p < end {
-        if slots <= pager_state::find_in(&staged.pages, count, p) {
+        if slots <= pager_state::find_among(&staged.pages, count, p) {
             return p;
         }
         p += 1;

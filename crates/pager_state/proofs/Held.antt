@@ -1,4 +1,4 @@
--- What holding a `Staged` by value tells: it has 64 slots.
+-- What holding a `Staged` by value tells: it has `stagedLimit` slots.
 use Prim.Native.Nat.{ℕ}
 use mathlib.Core.List.{List, map}
 use mathlib.Core.Path.{_≡_, sym, _∙_}

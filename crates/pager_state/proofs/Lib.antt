@@ -3,6 +3,7 @@ pub mod Jobs
 pub mod Slots
 pub mod Held
 pub mod Searches
+pub mod Counts
 pub mod Stored
 pub mod Sizes
 pub mod Entries

@@ -49,7 +49,7 @@ module _ (t la l ma m : ℕ) (d : Bool) where
 
 -- ---- staged pages
 
--- a staged page's slot is one of the 64
+-- a staged page's slot is one that there is
 pub staged-slot : (s : Staged) (n : ℕ) → length (s .pages) ≡ stagedLimit → isStaged s n ≡ true → slotOf s n < stagedLimit
 unfolding isStaged
 staged-slot s n h e =

@@ -23,7 +23,7 @@ use Rattle.pager_state.specs.declared.StagedCleared.{StagedCleared}
 
 -- ---- staging, by what it takes of a store: whether something is part done, and the staged pages
 
--- refusals 1; 9; 11 "staging above 1,023"; 12 "64 other pages are staged"
+-- refusals 1; 9; 11 "staging above 1,023"; 12 when `stagedLimit` other pages are staged
 unfoldable pub stageRefusal : Bool → Staged → List ℕ → ℕ → List ℕ → Option Refusal
 stageRefusal busy s g n bytes =
     unless (both (stagingFine g) (eqb (length bytes) pageSize)) refusal.Area

@@ -28,9 +28,9 @@ pageLimit = 1024
 abbrev pub mainArea : ℕ
 mainArea = pageSize * pageLimit
 
--- "staging 262,144 (64 pages)": another limit is another number here, and in `STAGED_PAGES` of src/lib.rt
+-- document 02, P9: "Make that the limit: staging area 98,304 bytes". Another limit is another number here, and in `STAGED_PAGES` of src/lib.rt
 abbrev pub stagedLimit : ℕ
-stagedLimit = 64
+stagedLimit = 24
 
 abbrev pub stagingArea : ℕ
 stagingArea = pageSize * stagedLimit

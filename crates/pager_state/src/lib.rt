@@ -1,8 +1,8 @@
 // The open store: what it holds, and what its calls answer. The definitions of every call are this crate's specs.
 ghost use mathlib.Core.Path.{_≡_};
 ghost use mathlib.Core.Bool.{true};
-ghost use Prim.Native.Nat.{_+_};
-ghost use lib.Dec.{eqb};
+ghost use Prim.Native.Nat.{_+_, _≤_, _<_};
+ghost use lib.Dec.{leb, eqb};
 ghost use lib.ListN.{length, take};
 ghost use Rattle.le.specs.Choice.{pick, both};
 ghost use Rattle.pager_state.specs.World.{stagingArea, stagedLimit, busyWith, readOnlyBy, inArea, filesFine, fineIn, fineBy, withJob, withWal};
@@ -20,7 +20,7 @@ pub const PAGES: usize = 1_024;
 pub const MAIN_AREA: usize = PAGE_SIZE * PAGES;
 
 // Pages that can be staged at a time.
-pub const STAGED_PAGES: usize = 64;
+pub const STAGED_PAGES: usize = 24;
 
 // The staging area: a page for each.
 pub const STAGING_AREA: usize = PAGE_SIZE * STAGED_PAGES;
@@ -350,27 +350,20 @@ pub fn are_fine(pager: Pager, table: usize, log: usize, main: usize, staging: us
     staging == STAGING_AREA
 }
 
-fn weight(hit: bool, w: u16) -> u16
-    ensures { λ r. ⌜ r ≡ pick hit w 0 ⌝ }
-{
-    if hit { w } else { 0 }
-}
+// So many numbers are searched at once: a vector of 16 bytes.
+const BLOCK: usize = 8;
 
-// The number of slots less the index of the first p in them, or 0. Every slot is looked at: with no way out in between the compiler
-// compares several at once.
-fn find_in_slots(s: &[u16], p: u16) -> u16
-    requires { ⌜ length (now s) ≡ stagedLimit ⌝ }
-    ensures { λ r. ⌜ findIn (now (s .entry)) p + r ≡ stagedLimit ⌝ }
+// Whether p is none of these numbers. Every one is looked at: with no way out in between the compiler compares several at once.
+fn is_none_of(s: &[u16], p: u16) -> bool
+    ensures { λ r. ⌜ r ≡ leb (length (now (s .entry))) (findIn (now (s .entry)) p) ⌝ }
 {
-    let mut best: u16 = 0;
-    let mut left: u16 = STAGED_PAGES as u16;
+    let mut none = true;
     let mut i: usize = 0;
-    while i < STAGED_PAGES {
-        best = le::max_u16(best, weight(s[i] == p, left));
-        left -= 1;
+    while i < s.len() {
+        none = le::both(none, s[i] != p);
         i += 1;
     }
-    best
+    none
 }
 
 // The index of the first p, or the length.
@@ -387,28 +380,78 @@ fn find_each(s: &[u16], p: usize) -> usize
     i
 }
 
+fn front_after(clear: bool, front: usize, at: usize) -> usize
+    ensures { λ r. ⌜ r ≡ pick clear at front ⌝ }
+{
+    if clear { at } else { front }
+}
+
+// Where the blocks in front end that have no p. Every block is looked at.
+fn front_without(s: &[u16], p: u16) -> usize
+    ensures { λ r. ⌜ (r ≤ length (now (s .entry))) × (r ≤ findIn (now (s .entry)) p) ⌝ }
+    ensures { λ r. ⌜ (r + 8 ≤ length (now (s .entry)) → findIn (now (s .entry)) p < r + 8) ⌝ }
+{
+    let mut clear = true;
+    let mut front: usize = 0;
+    let mut at: usize = 0;
+    while BLOCK <= s.len() - at {
+        clear = le::both(clear, is_none_of(&s[at..at + BLOCK], p));
+        at += BLOCK;
+        front = front_after(clear, front, at);
+    }
+    front
+}
+
+// Behind the k numbers from `at` on, if p is none of them.
+fn past(s: &[u16], at: usize, k: usize, p: u16) -> usize
+    requires { ⌜ at + k ≤ length (now s) ⌝ }
+    ensures { λ r. ⌜ (at ≤ findIn (now (s .entry)) p → r ≡ pick (leb (at + k) (findIn (now (s .entry)) p)) (at + k) at) ⌝ }
+{
+    front_after(is_none_of(&s[at..at + k], p), at, at + k)
+}
+
+// The index of the first p, or the length: block by block, then by halves.
 fn find(s: &[u16], p: usize) -> usize
     ensures { λ r. ⌜ r ≡ findIn (now (s .entry)) p ⌝ }
 {
-    if s.len() != STAGED_PAGES {
-        return find_each(s, p);
-    }
     if (u16::MAX as usize) < p {
         return find_each(s, p);
     }
-    let found = le::widen_u16(find_in_slots(s, p as u16));
-    STAGED_PAGES - found
+    let number = p as u16;
+    let front = front_without(s, number);
+    if s.len() - front < BLOCK {
+        return front + find_each(&s[front..], p);
+    }
+    let of_four = past(s, front, 4, number);
+    let of_two = past(s, of_four, 2, number);
+    past(s, of_two, 1, number)
 }
 
-// The index of the first p among the first n, or their number.
-pub fn find_in(s: &[u16], n: usize, p: usize) -> usize
+// The index of the first p among the first n, or their number. The numbers are an array: a slice would go over in memory.
+pub fn find_among(s: &[u16; STAGED_PAGES], n: usize, p: usize) -> usize
+    ensures { λ r. ⌜ r ≡ findIn (take n (now (s .entry))) p ⌝ }
+    ensures { λ _. ⌜ length (now (s .entry)) ≡ stagedLimit ⌝ }
+{
+    le::min(n, find(s, p))
+}
+
+// The same, one by one.
+fn find_few(s: &[u16], n: usize, p: usize) -> usize
     ensures { λ r. ⌜ r ≡ findIn (take n (now (s .entry))) p ⌝ }
 {
+    let end = le::min(n, s.len());
+    find_each(&s[..end], p)
+}
+
+// The same for reading and staging: where nothing or one page is staged, as mostly, no block is searched.
+pub fn find_in(s: &[u16; STAGED_PAGES], n: usize, p: usize) -> usize
+    ensures { λ r. ⌜ r ≡ findIn (take n (now (s .entry))) p ⌝ }
+    ensures { λ _. ⌜ length (now (s .entry)) ≡ stagedLimit ⌝ }
+{
     if n < 2 {
-        let end = le::min(n, s.len());
-        return find_each(&s[..end], p);
+        return find_few(s, n, p);
     }
-    le::min(n, find(s, p))
+    find_among(s, n, p)
 }
 
 // The slot that has the page, else the next free one.

@@ -26,7 +26,7 @@ pub enum Refusal {
     ReadOnly,
     // Staging above 1,023.
     Page,
-    // 64 other pages are staged.
+    // As many other pages are staged as can be.
     Staging,
     // Commit count 0 or above 1,024, version not 4..6.
     NewHeader,

@@ -110,7 +110,7 @@ As JSON, integers stand whole, also those beyond 2^53. A real has a value, null 
 pub const COMMIT: &str = "\
 lateenbael commit STORE [OPTION]... [PAGE=FILE]...
 
-Stages each FILE, of 4,096 bytes, as that page and commits them: at most 64 pages at once, and each once. FILE - is standard input, once.
+Stages each FILE, of 4,096 bytes, as that page and commits them: at most 24 pages at once, and each once. FILE - is standard input, once.
 Page 0 is the header's and is refused.
 
   --count N      the new page count; without it the present one, or as many as the pages given need. A page given at or above it

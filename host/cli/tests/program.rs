@@ -2,6 +2,7 @@
 mod common;
 
 use common::{WorkDir, damage, forge_log};
+use lateenbael::sys::STAGED_PAGES;
 use std::fs;
 use std::process::Command;
 
@@ -87,6 +88,25 @@ fn a_refused_commit_leaves_even_uncommitted_frames() {
     fs::remove_file(dir.path("grips-wal")).unwrap();
     dir.fails("commit grips 1=p2 --count 0", 1, "refused 13");
     assert!(dir.shows("info grips").contains("there is no log"));
+}
+
+#[test]
+fn more_pages_than_can_be_staged_are_refused() {
+    let dir = WorkDir::with_store();
+    let call = |most: usize| (1..=most).fold("commit grips".to_string(), |call, n| format!("{call} {n}=p{}", 1 + n % 9));
+    let files = || ["grips", "grips-wal"].map(|name| fs::read(dir.path(name)).unwrap());
+    let before = files();
+    dir.fails(
+        &call(STAGED_PAGES + 1),
+        1,
+        &format!("refused 12 Staging: {STAGED_PAGES} other pages are staged"),
+    );
+    assert!(files() == before);
+    assert_eq!(
+        dir.done(&call(STAGED_PAGES)),
+        format!("committed; pages that differed: {STAGED_PAGES}\n")
+    );
+    assert_eq!(dir.page(STAGED_PAGES as u32), [1 + (STAGED_PAGES % 9) as u8; 4096]);
 }
 
 #[test]

@@ -2,6 +2,7 @@
 mod common;
 
 use common::WorkDir;
+use lateenbael::sys::STAGED_PAGES;
 use std::ffi::{OsStr, OsString};
 use std::fs;
 use std::os::unix::ffi::OsStrExt;
@@ -201,12 +202,13 @@ fn help_before_a_command_is_about_it() {
 #[test]
 fn help_tells_the_limits() {
     let dir = WorkDir::new();
+    let staged = format!("at most {STAGED_PAGES} pages at once");
     let table = [
         ("help", "Not for log and restore"),
         ("help", "- alone stays standard input or output"),
         ("log", "takes no lock"),
         ("read", "Page 0 is the header's, and reads only while the log has it"),
-        ("commit", "at most 64 pages at once"),
+        ("commit", &staged),
         ("commit", "a clock is stored with a fold alone"),
         ("commit", "behind a tail that ends in bytes that are no frame a commit is refused"),
         ("append", "is refused where the clock would rise and no fold follows"),

@@ -46,7 +46,7 @@ const ALL: [(Refusal, &str, &str); 21] = [
     (Busy, "Busy", "a commit or fold is part done"),
     (ReadOnly, "ReadOnly", "the store is open read-only"),
     (Page, "Page", "a page number above 1,023"),
-    (Staging, "Staging", "64 other pages are staged"),
+    (Staging, "Staging", "24 other pages are staged"),
     (NewHeader, "NewHeader", "page count 0 or above 1,024, or version not 4 to 6"),
     (Joining, "Joining", "a page that the new count brings in isn't staged"),
     (LogFull, "LogFull", "no room in the log"),

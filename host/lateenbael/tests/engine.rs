@@ -1,6 +1,6 @@
 //! The engine in memory.
 mod common;
-use common::{FRAME, page};
+use common::{FRAME, PAGE, page};
 use lateenbael::sys::MAIN_AREA;
 use lateenbael::{DbHeader, Engine, Refusal, Step};
 
@@ -64,4 +64,36 @@ fn every_refusal_has_its_number_and_name() {
         assert_eq!(format!("{refusal:?}"), refusal.name());
         assert!(refusal.to_string().starts_with(&format!("refused {n} {}: ", refusal.name())));
     }
+}
+
+/// The former length too.
+#[test]
+fn a_staging_area_of_another_length_is_refused() {
+    let mut engine = Engine::new();
+    engine.create(7).unwrap();
+    engine.stage_page(1, &page(3)).unwrap();
+    let (header, store) = (engine.header().unwrap(), *engine.store());
+    let (main, log) = (engine.main.clone(), engine.log.clone());
+    let right = engine.staging.clone();
+    assert_eq!(right.len(), 98_304);
+    for length in [0, PAGE, 98_303, 98_305, 98_304 + PAGE, 262_144] {
+        engine.staging = vec![0; length].into();
+        engine.check_readable();
+        assert_eq!(engine.create(7), Err(Refusal::Area));
+        assert_eq!(engine.read_page(1), Err(Refusal::Area));
+        assert_eq!(engine.stage_page(1, &page(1)), Err(Refusal::Area));
+        assert_eq!(engine.begin_commit(header, 1), Err((Refusal::Area, 0)));
+        assert_eq!(engine.commit(header, 1), Err((Refusal::Area, 0)));
+        assert_eq!(engine.begin_checkpoint(1), Err(Refusal::Area));
+        assert_eq!(engine.checkpoint(1), Err(Refusal::Area));
+        assert_eq!(engine.next_step(), Err(Refusal::Area));
+        for clean in [true, false] {
+            assert_eq!(engine.reopen(clean, 2 * PAGE, Some(32), false, 1), Err(Refusal::Area));
+        }
+        assert!(engine.staging.iter().all(|&byte| byte == 0));
+        assert_eq!((*engine.store(), &engine.main, &engine.log), (store, &main, &log));
+    }
+    engine.staging = right;
+    engine.check_readable();
+    assert_eq!(engine.read_page(1).unwrap(), Some(&page(3)));
 }

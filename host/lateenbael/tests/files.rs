@@ -1,6 +1,7 @@
 //! A store on two real files: creation, commits, checkpoints and openings.
 mod common;
 use common::*;
+use lateenbael::sys::STAGED_PAGES;
 use lateenbael::{Area, Disk, Error, Files, Mode, OpenOptions, Refusal, Store, wal_path_for};
 use std::fs;
 use std::path::Path;
@@ -133,7 +134,7 @@ fn areas_of_an_earlier_store_show_nothing_of_it() {
     let folder = Folder::new();
     let other = folder.0.join("other");
     let mut earlier = Store::create(&other).unwrap();
-    commit_pages(&mut earlier, 2, &[7; 30]);
+    commit_pages(&mut earlier, 2, &[7; STAGED_PAGES]);
     earlier.stage_page(1, &page(7)).unwrap();
     let path = folder.store();
     let mut store = Store::create(&path).unwrap();

@@ -2,6 +2,7 @@
 //! although stores that adjoin are one write.
 mod common;
 use common::*;
+use lateenbael::sys::STAGED_PAGES;
 use lateenbael::{Area, Comparison, Disk, Engine, Step, Store, Write};
 use std::io;
 
@@ -185,11 +186,12 @@ impl Both {
     fn any_commit(&mut self) -> (usize, usize) {
         let old = self.store.header().unwrap().page_count;
         let new = 1 + self.below(70);
-        let joining = old..new.max(old).min(old + 40);
+        let half = STAGED_PAGES as u32 / 2;
+        let joining = old..new.max(old).min(old + half);
         let count = if new < old { new } else { joining.end };
         joining.for_each(|n| self.stage(n));
         let (first, step) = (1 + self.below(40), 1 + self.below(3));
-        let scattered = (0..self.below(20)).map(|k| first + k * step);
+        let scattered = (0..self.below(half + 1)).map(|k| first + k * step);
         scattered.filter(|n| *n < count).for_each(|n| self.stage(n));
         self.commit(count)
     }

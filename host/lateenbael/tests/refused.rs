@@ -1,6 +1,7 @@
 //! Refused calls alter neither file, and the store goes on.
 mod common;
 use common::*;
+use lateenbael::sys::STAGED_PAGES;
 use lateenbael::{BatchBuilder, Disk, Error, Mode, Refusal, Store, wal_path_for};
 use std::fs::OpenOptions;
 use std::io::Write;
@@ -49,16 +50,36 @@ fn read_only_writes_nothing() {
 }
 
 #[test]
-fn a_65th_staged_page_is_refused() {
+fn a_page_more_than_can_be_staged_is_refused() {
     let folder = Folder::new();
     let mut store = Store::create(folder.store()).unwrap();
-    for n in 0..64 {
+    let most = STAGED_PAGES as u32;
+    for n in 0..most {
         store.stage_page(n, &page(1)).unwrap();
     }
-    assert_eq!(refusal(store.stage_page(64, &page(1))), Some(Refusal::Staging));
-    store.stage_page(63, &page(2)).unwrap();
+    assert_eq!(refusal(store.stage_page(most, &page(1))), Some(Refusal::Staging));
+    assert_eq!(refusal(store.stage_page(1024, &page(1))), Some(Refusal::Page));
+    store.stage_page(most - 1, &page(2)).unwrap();
     store.clear_staged().unwrap();
-    store.stage_page(64, &page(1)).unwrap();
+    store.stage_page(most, &page(1)).unwrap();
+    let told = Refusal::Staging.to_string();
+    assert_eq!(told, format!("refused 12 Staging: {most} other pages are staged"));
+}
+
+/// By one page more than can be staged no commit grows.
+#[test]
+fn a_commit_grows_by_what_can_be_staged() {
+    let folder = Folder::new();
+    let mut store = Store::create(folder.store()).unwrap();
+    let header = store.header().unwrap();
+    let end = 2 + STAGED_PAGES as u32;
+    for n in 2..end {
+        store.stage_page(n, &page(n as u8)).unwrap();
+    }
+    assert_eq!(refusal(store.stage_page(end, &page(1))), Some(Refusal::Staging));
+    assert!(matches!(store.commit(with_count(header, end + 1)), Err(Error::Joining { page }) if page == end as usize));
+    assert_eq!(store.commit(with_count(header, end)).unwrap(), STAGED_PAGES);
+    assert_eq!(store.read_page(end - 1).unwrap(), Some(&page(end as u8 - 1)));
 }
 
 #[test]

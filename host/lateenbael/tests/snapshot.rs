@@ -2,7 +2,7 @@
 mod common;
 
 use common::{Folder, batch, bytes_of, commit_pages, open, page, put_back, with_count};
-use lateenbael::sys::{DbHeader, LOG_AREA, MVCC_FRAME_MARKER, PAGE_SIZE};
+use lateenbael::sys::{DbHeader, LOG_AREA, MVCC_FRAME_MARKER, PAGE_SIZE, STAGED_PAGES};
 use lateenbael::{BatchBuilder, Error, Mode, Refusal, Snapshot, SnapshotError, Store, wal_path_for};
 use std::fs;
 use std::path::Path;
@@ -86,8 +86,8 @@ fn pages_clock_and_batches_are_carried_over() {
 fn a_store_of_1024_pages_is_carried_over() {
     let folder = Folder::new();
     let mut store = Store::create(folder.store()).unwrap();
-    for first in (2..1024).step_by(60) {
-        let seeds: Vec<u8> = (first..1024.min(first + 60)).map(|n| (n % 255) as u8).collect();
+    for first in (2..1024).step_by(STAGED_PAGES) {
+        let seeds: Vec<u8> = (first..1024.min(first + STAGED_PAGES as u32)).map(|n| (n % 255) as u8).collect();
         commit_pages(&mut store, first, &seeds);
     }
     drop(store);

@@ -17,7 +17,7 @@
 #![warn(missing_docs)]
 
 /// The version of these declarations, major * 1,000,000 + minor * 1,000 + patch; [`lateenbael_version`] is the archive's.
-pub const VERSION: u32 = 1000;
+pub const VERSION: u32 = 2000;
 /// A page's bytes.
 pub const PAGE_SIZE: usize = 4096;
 /// A page's frame in the log: 16 bytes of heading, and the page.
@@ -27,11 +27,11 @@ pub const LOG_AREA: usize = 4210720;
 /// The main area's bytes: [`PAGES`] pages.
 pub const MAIN_AREA: usize = 4194304;
 /// The staging area's bytes: [`STAGED_PAGES`] pages.
-pub const STAGING_AREA: usize = 262144;
+pub const STAGING_AREA: usize = PAGE_SIZE * STAGED_PAGES;
 /// The most pages that a store has, and how many numbers the table has.
 pub const PAGES: usize = 1024;
 /// The most pages that are staged at a time.
-pub const STAGED_PAGES: usize = 64;
+pub const STAGED_PAGES: usize = 24;
 /// A commit that brings the log to so many frames is followed by a checkpoint.
 pub const CHECKPOINT_FRAMES: usize = 100;
 /// The buffer that [`lateenbael_list_log`] is given has so many bytes or more.

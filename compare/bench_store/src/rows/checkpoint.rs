@@ -1,5 +1,7 @@
 //! Checkpoints of logs with so many pages.
 
+use lateenbael::sys::STAGED_PAGES;
+
 use super::{Beside, Folder, assert_agreed, begin, in_words};
 use crate::files;
 use crate::side::Side;
@@ -9,7 +11,7 @@ use crate::{port, rust};
 
 pub fn rows(table: &Table) {
     let folder = Folder::new();
-    for pages in [1, 64, 500] {
+    for pages in [1, STAGED_PAGES as u32, 500] {
         let log = files::log(pages, pages + 1, pages + 1);
         let memory = (rust::InMemory::new(), port::InMemory::new(false));
         let what = format!("{}, in memory", in_words(pages as usize));

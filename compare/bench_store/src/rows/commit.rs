@@ -2,6 +2,8 @@
 
 use std::time::Duration;
 
+use lateenbael::sys::STAGED_PAGES;
+
 use super::{Beside, Folder, assert_agreed, begin, in_words};
 use crate::files::{self, Differs, Pool};
 use crate::side::Side;
@@ -27,7 +29,7 @@ enum Time {
 
 pub fn rows(table: &Table) {
     let folder = Folder::new();
-    for pages in [1, 8, 64] {
+    for pages in [1, 8, STAGED_PAGES] {
         for differs in [Differs::FromTheFirst, Differs::AtTheLast] {
             for time in [Time::InMemory, Time::InFiles, Time::Staging] {
                 row(

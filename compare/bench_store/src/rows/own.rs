@@ -22,7 +22,7 @@ pub fn rows(table: &Table) {
         Differs::InTheMiddle,
         Differs::AtTheLast,
     ] {
-        for pages in [1, 4, 8, 16, 64] {
+        for pages in [1, 4, 8, 16, sys::STAGED_PAGES] {
             let what = format!("{}, {}", in_words(pages), differs.name());
             row(table, &what, pages, differs);
         }

@@ -4,6 +4,8 @@ use std::hint::black_box;
 
 use splitmix::mix;
 
+use lateenbael::sys::STAGED_PAGES;
+
 use super::{Folder, assert_agreed, begin};
 use crate::files::{self, PAGE_COUNT, PAGES};
 use crate::side::{Page, Side};
@@ -14,8 +16,9 @@ use crate::{port, rust};
 /// Pages up to this one are in the log.
 const IN_LOG: u32 = 250;
 
-/// Every page with a number that this divides is staged, up to 64.
-const STAGED: u32 = 7;
+/// Every page with a number that this divides is staged, as many as there are
+/// to be.
+const STAGED: u32 = 20;
 
 const READS: usize = 4_096;
 
@@ -33,7 +36,7 @@ pub fn rows(table: &Table) {
         ("none", (PAGE_COUNT..2 * PAGE_COUNT).collect()),
         ("any that is there", (1..=PAGES).collect()),
     ];
-    for staged in [0, 64] {
+    for staged in [0, 1, STAGED_PAGES as u32] {
         let pages: Vec<u32> = (1..=staged).map(|k| k * STAGED).collect();
         for &page_num in &pages {
             let bytes: Page = [page_num as u8; _];

@@ -4,6 +4,8 @@ use std::hint::black_box;
 
 use engine::sql::pager::page::PAGE_SIZE;
 
+use lateenbael::sys::STAGED_PAGES;
+
 use super::{Folder, assert_agreed, begin};
 use crate::files::{self, Differs, Pool};
 use crate::side::{Page, Side};
@@ -15,7 +17,7 @@ use crate::{port, rust};
 const TIMES: usize = 16;
 
 pub fn rows(table: &Table) {
-    for (pages, drop) in [(1, false), (64, false), (64, true)] {
+    for (pages, drop) in [(1, false), (STAGED_PAGES, false), (STAGED_PAGES, true)] {
         let what = match drop {
             false => format!("one of {pages} again and again"),
             true => format!("{pages} anew, each, then dropped"),

@@ -8,6 +8,7 @@ use super::view::View;
 use crate::call::{Call, Edit, Opening};
 use crate::port::Probe;
 use crate::run::Outcome;
+use crate::rust::MOST_STAGED;
 use crate::side::{Area, CutWrite};
 
 #[derive(Default)]
@@ -81,8 +82,8 @@ impl Tally {
             _ => {}
         }
         self.case_if(
-            after.state.staged == 64 && before.state.staged == 63,
-            "64 pages staged",
+            after.state.staged == MOST_STAGED && before.state.staged + 1 == MOST_STAGED,
+            "as many pages staged as can be",
         );
     }
 
@@ -132,7 +133,14 @@ impl Tally {
         self.case_if(new < old, "commit, shrinking");
         self.case_if(new == 1_024, "commit to 1,024 pages");
         self.case_if(frames == 1, "commit of no differing page");
-        self.case_if(frames == 65, "commit of 64 differing pages");
+        self.case_if(
+            frames == MOST_STAGED + 1,
+            "commit of as many differing pages as can be",
+        );
+        self.case_if(
+            new as usize == old.max(1) as usize + MOST_STAGED,
+            "commit, growing by as many pages as can be",
+        );
         self.case_if(
             frames - 1 < before.state.staged,
             "commit, a staged page not differing",

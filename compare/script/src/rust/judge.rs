@@ -14,7 +14,8 @@ const LOG_AREA: usize = 4_210_720;
 const MAIN_AREA: usize = 4_194_304;
 const FRAME: usize = 4_112;
 const MOST_PAGES: u32 = 1_024;
-const MOST_STAGED: usize = 64;
+/// Document 02, P9: "refusal 12 when 24 other pages are staged". The Rust has no such limit.
+pub const MOST_STAGED: usize = 24;
 
 fn unless(number: u32, refused: bool) -> Answer<()> {
     match refused {
@@ -98,7 +99,8 @@ fn is_commit_frame(frame: &[u8]) -> bool {
 }
 
 /// "Area | 1 | a wrong area length" for what isn't a page; "Page | 11 |
-/// staging above 1,023"; "Staging | 12 | 64 other pages are staged".
+/// staging above 1,023"; "Staging | 12 |", as many other pages are staged
+/// as can be.
 pub fn of_staging(model: &Model, page: u32, bytes: &[u8]) -> Answer<()> {
     unless(1, bytes.len() != PAGE_SIZE)?;
     unless(11, page >= MOST_PAGES)?;

@@ -16,6 +16,7 @@ use stand_in::world;
 
 use crate::call::{Edit, Opening};
 use crate::side::{Act, Answer, Area, Cut, CutWrite, Performed, Recovered, Side, State, Write};
+pub use judge::MOST_STAGED;
 use model::{Model, Pages};
 
 /// One to a thread, since the world is the thread's.

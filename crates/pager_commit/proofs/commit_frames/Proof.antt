@@ -17,7 +17,7 @@ returns c =
 
 run-frames-requires : tie.Need-run-frames-requires
 run-frames-requires c κs =
-    let c5 = c .before .before .before .before .before in
+    let c5 = c .before .before .before .before in
     let c7 = c5 .before .before in
     let a = c7 .before .before .before .before .before .before .before .args in
     let g = now (a .staging) in
@@ -30,7 +30,7 @@ run-frames-requires c κs =
 returns-2 : tie.Need-returns-2
 returns-2 c =
     let c5 = c .before .before .before .before .before in
-    let c11 = c5 .before .before .before .before .before .before in
+    let c11 = c5 .before .before .before .before .before in
     let c13 = c11 .before .before in
     let a = c13 .before .before .before .before .before .before .before .args in
     let g = now (a .staging) in

@@ -8,12 +8,12 @@ use Rattle.pager_commit.proofs.run_frames.Statement.{statement}
 use Rattle.pager_commit.proofs.run_frames.Tie as tie
 
 store-frames-requires : tie.Need-store-frames-requires
-store-frames-requires c κs = c .before .before .before .before .before .before .before .before .pre
+store-frames-requires c κs = c .before .before .before .before .before .before .before .pre
 
 store-commit-frame-requires : tie.Need-store-commit-frame-requires
 store-commit-frame-requires c κs =
     let f = c .before .before .before .before .before .before in
-    let a = f .before .before .before .before .before .before .before .before .before in
+    let a = f .before .before .before .before .before .before .before .before in
     let k = f .store-frames .kept in
     (record { table = k .1 .1 .1 .0 ∙ a .pre .1 .0 .table; log = k .1 .1 .1 .1 .0 ∙ a .pre .1 .0 .log }, f .store-frames .ensures .1)
 
@@ -31,7 +31,7 @@ returns : tie.Need-returns
 returns c =
     let s = c .before .before .before .before .before in
     let f = s .before .before .before .before .before .before .before in
-    let d = f .before .before .before .before .before .before .before .before .before in
+    let d = f .before .before .before .before .before .before .before .before in
     let a = d .args in
     let q = f .store-frames .kept in
     let e = f .store-frames .ensures in

@@ -20,7 +20,7 @@ abbrev μ-loop : tie.MeasureT-loop
 
 loop-holds : tie.Need-loop-holds Inv-loop μ-loop
 loop-holds c =
-    let S = c .before .before .before .before in
+    let S = c .before .before .before in
     let a = S .args in
     loop-start (take (a .n) (now (a .marks))) (now (a .staging)) (a .first) (now (a .table)) (now (a .log)) (S .pre .0 .1)
 
@@ -34,7 +34,7 @@ returns : tie.Need-returns Inv-loop μ-loop
 returns c =
     let d = c .before .before in
     let L = d .before .before in
-    let a = L .before .before .before .before .before .args in
+    let a = L .before .before .before .before .args in
     let M = take (a .n) (now (a .marks)) in
     let z = none-found (isIn M) (L .loop .page) (d .next-of .result .page) (d .next-of .ensures .0) (c .if1 .taken) in
     (loop-end M (now (a .staging)) (a .first) (now (a .table)) (now (a .log)) (L .loop .inv) z, loop-room M (now (a .staging)) (a .first) (now (a .table)) (now (a .log)) (L .loop .inv))
@@ -43,12 +43,12 @@ returns c =
 found : (c : tie.Else1 Inv-loop μ-loop)
     → let d = c .before .before in
     let L = d .before .before in
-    let a = L .before .before .before .before .before .args in
+    let a = L .before .before .before .before .args in
     First (isIn (take (a .n) (now (a .marks)))) (L .loop .page) (d .next-of .result .page)
 found c =
     let d = c .before .before in
     let L = d .before .before in
-    let a = L .before .before .before .before .before .args in
+    let a = L .before .before .before .before .args in
     lowest (isIn (take (a .n) (now (a .marks)))) (L .loop .page) (d .next-of .result .page) (d .next-of .ensures .0) (c .if1 .left)
 
 store-frame-requires : tie.Need-store-frame-requires Inv-loop μ-loop
@@ -56,7 +56,7 @@ store-frame-requires c κs =
     let e = c .before .before in
     let d = e .before .before in
     let L = d .before .before in
-    let S = L .before .before .before .before .before in
+    let S = L .before .before .before .before in
     let a = S .args in
     let M = take (a .n) (now (a .marks)) in
     let h = e .if1 .left in
@@ -79,7 +79,7 @@ loop-again c =
     let e = f .before .before .before in
     let d = e .before .before in
     let L = d .before .before in
-    let S = L .before .before .before .before .before in
+    let S = L .before .before .before .before in
     let a = S .args in
     let M = take (a .n) (now (a .marks)) in
     let h = e .if1 .left in
@@ -96,7 +96,7 @@ same-length-4 c = c .before .loop .inv .log
 returns-2 : tie.Need-returns-2 Inv-loop μ-loop
 returns-2 c =
     let L = c .before in
-    let a = L .before .before .before .before .before .args in
+    let a = L .before .before .before .before .args in
     let M = take (a .n) (now (a .marks)) in
     let z = pages-end (isIn M) (L .loop .page) (c .loop-test .left) in
     (loop-end M (now (a .staging)) (a .first) (now (a .table)) (now (a .log)) (L .loop .inv) z, loop-room M (now (a .staging)) (a .first) (now (a .table)) (now (a .log)) (L .loop .inv))

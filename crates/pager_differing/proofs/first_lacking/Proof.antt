@@ -29,12 +29,12 @@ loop-holds c =
 returns : tie.Need-returns Inv-loop μ-loop
 returns c =
     let c1 = c .before in
-    let c6 = c1 .before .before .before .before .before in
+    let c6 = c1 .before .before .before .before in
     let c11 = c6 .before .before .before .before .before .before in
     let s = c11 .args .t1 in
     let v = c6 .loop .inv in
     let h : c6 .loop .p < c11 .args .new = omega arith in
-    let k = without-slot s (slots s _ (c11 .good .0)) (c6 .loop .p) (c1 .find-in .ensures) (v .0) (c .if1 .taken) in
+    let k = without-slot s (slots s _ (c11 .good .0)) (c6 .loop .p) (c1 .find-among .ensures .0) (v .0) (c .if1 .taken) in
     lack-here s (c11 .args .old) (c11 .args .new) (c6 .loop .p) (v .1 .1 .0) h (omega arith) k ∙ sym (ap firstOf (v .1 .1 .1))
 
 add-p : tie.Need-add-p Inv-loop μ-loop
@@ -46,12 +46,12 @@ loop-less c = omega arith
 loop-again : tie.Need-loop-again Inv-loop μ-loop
 loop-again c =
     let c1 = c .before in
-    let c6 = c1 .before .before .before .before .before in
+    let c6 = c1 .before .before .before .before in
     let c11 = c6 .before .before .before .before .before .before in
     let s = c11 .args .t1 in
     let v = c6 .loop .inv in
     let h : c6 .loop .p < c11 .args .new = omega arith in
-    let k = with-slot s (slots s _ (c11 .good .0)) (c6 .loop .p) (c1 .find-in .ensures) (v .0) (c .if1 .left) in
+    let k = with-slot s (slots s _ (c11 .good .0)) (c6 .loop .p) (c1 .find-among .ensures .0) (v .0) (c .if1 .left) in
     (v .0, (v .1 .0, (omega arith, v .1 .1 .1 ∙ lack-past s (c11 .args .old) (c11 .args .new) (c6 .loop .p) (v .1 .1 .0) h (omega arith) k)))
 
 returns-2 : tie.Need-returns-2 Inv-loop μ-loop

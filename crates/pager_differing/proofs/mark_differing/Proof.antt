@@ -53,7 +53,7 @@ loop-again c =
     let c1 = c .before in
     let c2 = c1 .before in
     let c3 = c2 .before in
-    let c7 = c3 .before .before .before .before in
+    let c7 = c3 .before .before .before in
     let c10 = c7 .before .before .before in
     let c16 = c10 .before .before .before .before .before .before in
     let s = c16 .args .t1 in
@@ -68,8 +68,8 @@ loop-again c =
     let b : c10 .loop .i < stagedLimit = omega arith in
     let e = c7 .widen-u16 .ensures in
     let d : c1 .mark .result ≡ pick (c2 .is-counted .result) (c7 .widen-u16 .result) 65535 = c1 .mark .ensures ∙ rw e in
-    let k = count-step s g t l m (c10 .loop .i) (c7 .widen-u16 .result) h e (c3 .find-in .ensures) (c2 .is-counted .ensures) (c .tally .ensures) (v .1 .1 .1 .0) in
-    let p = marks-step s g t l m (c10 .loop .i) (v .1 .1 .1 .1) b e (c3 .find-in .ensures) (c2 .is-counted .ensures) d in
+    let k = count-step s g t l m (c10 .loop .i) (c7 .widen-u16 .result) h e (c3 .find-among .ensures .0) (c2 .is-counted .ensures) (c .tally .ensures) (v .1 .1 .1 .0) in
+    let p = marks-step s g t l m (c10 .loop .i) (v .1 .1 .1 .1) b e (c3 .find-among .ensures .0) (c2 .is-counted .ensures) d in
     (v .0, (omega arith, (tally-most (c10 .loop .n) (c2 .is-counted .result) (c .tally .ensures) (v .1 .1 .0), (k, p))))
 
 returns : tie.Need-returns Inv-loop μ-loop

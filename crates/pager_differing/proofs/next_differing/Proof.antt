@@ -23,7 +23,7 @@ loop-holds c = refl
 -- a page that was found has a slot
 within : (c : tie.After-next-of Inv-loop μ-loop) → c .next-of .result .page < pageLimit → c .next-of .result .index < stagedLimit
 within c h =
-    let c5 = c .before .before .before .before .before in
+    let c5 = c .before .before .before .before in
     let c10 = c5 .before .before .before .before .before in
     let s = c10 .args .t1 in
     let a = c .next-of .ensures in
@@ -33,7 +33,7 @@ within c h =
 returns : tie.Need-returns Inv-loop μ-loop
 returns c =
     let c2 = c .before .before in
-    let c7 = c2 .before .before .before .before .before in
+    let c7 = c2 .before .before .before .before in
     let c12 = c7 .before .before .before .before .before in
     let a = c2 .next-of .ensures in
     let e = found-staged (c12 .args .t1) (c7 .loop .p) (a .0) (a .1) in
@@ -47,7 +47,7 @@ returns-2 c =
     let c1 = c .before in
     let c2 = c1 .before in
     let c4 = c2 .before .before in
-    let c9 = c4 .before .before .before .before .before in
+    let c9 = c4 .before .before .before .before in
     let c14 = c9 .before .before .before .before .before in
     let a = c4 .next-of .ensures in
     let e = found-staged (c14 .args .t1) (c9 .loop .p) (a .0) (a .1) in
@@ -62,7 +62,7 @@ loop-less : tie.Need-loop-less Inv-loop μ-loop
 loop-less c =
     let c3 = c .before .before .before in
     let c5 = c3 .before .before in
-    let c9 = c5 .before .before .before .before in
+    let c9 = c5 .before .before .before in
     let c10 = c9 .before in
     let c15 = c10 .before .before .before .before .before in
     let a = c5 .next-of .ensures in
@@ -76,7 +76,7 @@ loop-again c =
     let c2 = c1 .before in
     let c3 = c2 .before in
     let c5 = c3 .before .before in
-    let c10 = c5 .before .before .before .before .before in
+    let c10 = c5 .before .before .before .before in
     let c15 = c10 .before .before .before .before .before in
     let a = c5 .next-of .ensures in
     let e = found-staged (c15 .args .t1) (c10 .loop .p) (a .0) (a .1) in

@@ -13,7 +13,7 @@ use Rattle.pager_differing.proofs.next_of.Tie as tie
 
 returns : tie.Need-returns
 returns c =
-    let a = c .before .before .args in
+    let a = c .before .args in
     (sym (ap firstOf (pages-end (isIn (take (a .n) (now (a .s)))) (a .page) (c .if1 .taken))), λ h. absurd (omega (arith, h)))
 
 returns-2 : tie.Need-returns-2
@@ -27,7 +27,7 @@ returns-3 : tie.Need-returns-3
 returns-3 c =
     let c1 = c .before in
     let c2 = c1 .before in
-    (c2 .lowest .ensures, λ k. c .find-in .ensures)
+    (c2 .lowest .ensures, λ k. c .find-among .ensures .0)
 
 pub next-of-spec : {M : Type 1} → statement M
 next-of-spec = tie.close (tie.spec returns (search needs) returns-2 (search needs) returns-3)

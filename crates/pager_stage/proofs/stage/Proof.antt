@@ -48,9 +48,9 @@ returns-5 : tie.Need-returns-5
 unfolding stageRefusal slotOf
 returns-5 c =
     let S = c .before .before in
-    let L = S .before .before .before in
+    let L = S .before .before in
     let A = L .before .before .before .before .before .before .args in
-    let f : stagedLimit ≤ slotOf (slots (A .count) (now (A .pages))) (A .page-num) = rw (← S .find-in .ensures) (c .before .if5 .taken) in
+    let f : stagedLimit ≤ slotOf (slots (A .count) (now (A .pages))) (A .page-num) = rw (← S .find-in .ensures .0) (c .before .if5 .taken) in
     refuses (A .busy) (slots (A .count) (now (A .pages))) (now (A .staging)) (A .page-num) (now (A .bytes)) refusal.Staging
     (rw (eq-eqb _ _ (L .before .before .before .if1 .left), eq-eqb _ _ (L .before .before .if2 .left), L .before .if3 .left, lt-ltb _ _ (L .if4 .left), le-ltb _ _ f))
     (c .refused-in5 .ensures .0) (rw (c .refused-in5 .ensures .1))
@@ -60,9 +60,9 @@ unfolding stageRefusal slotOf withSlot
 returns-6 c =
     let W = c .before .before .before in
     let S = W .before .before .before in
-    let L = S .before .before .before in
+    let L = S .before .before in
     let A = L .before .before .before .before .before .before .args in
-    let e = S .find-in .ensures in
+    let e = S .find-in .ensures .0 in
     let f : slotOf (slots (A .count) (now (A .pages))) (A .page-num) < stagedLimit = rw (← e) (W .before .before .if5 .left) in
     let g = L .before .before .before .if1 .left in
     let n = L .before .before .if2 .left in

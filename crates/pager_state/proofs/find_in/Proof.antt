@@ -1,39 +1,12 @@
-use mathlib.Core.Path.{_≡_, sym, ap, _∙_}
-use Prim.Native.Nat.{_-_, _≤_, min}
-use native.Mathlib.Omega.{arith}
-use denote.Ref.{now}
 use borrow.Author.Needs.{needs}
-use lib.ListN.{length, take}
-use lib.Seq.{length-take-le}
-use Rattle.pager_state.specs.Overlay.{findIn}
-use Rattle.pager_state.proofs.Slots.{find-take, find-length}
 use Rattle.pager_state.proofs.find_in.Statement.{statement}
 use Rattle.pager_state.proofs.find_in.Tie as tie
 
-slice-aggregate-find-each : tie.Need-slice-aggregate-find-each
-slice-aggregate-find-each c =
-    let a = c .before .before .before .before .args in
-    let h : c .before .min .result ≡ min (a .n) (length (now (a .s))) = c .before .min .ensures in
-    let l : c .before .min .result ≤ length (now (a .s)) = omega (arith, h) in
-    sym (length-take-le (c .before .min .result) (now (a .s)) l)
-
 returns : tie.Need-returns
-returns c =
-    let s = now (c .before .before .before .before .before .args .s) in
-    let n = c .before .before .before .before .before .args .n in
-    let p = c .before .before .before .before .before .args .p in
-    let e = c .before .before .min .result in
-    let h : e ≡ min n (length s) = c .before .before .min .ensures in
-    let f : c .find-each .result ≡ findIn (take e s) p = c .find-each .ensures in
-    let a = find-take s e p in
-    let b = find-take s n p in
-    let l = find-length s p in
-    omega (arith, f, a, b, h, l)
+returns c = (c .find-few .ensures, c .before .find-few-arg .given .0)
 
 returns-2 : tie.Need-returns-2
-returns-2 c =
-    let a = c .before .before .before .before .args in
-    c .min2 .ensures ∙ ap (min (a .n)) (c .before .find .ensures) ∙ sym (find-take (now (a .s)) (a .n) (a .p))
+returns-2 c = c .find-among .ensures
 
 pub find-in-spec : {M : Type 1} → statement M
-find-in-spec = tie.close (tie.spec (search needs) slice-aggregate-find-each (search needs) returns (search needs) (search needs) returns-2)
+find-in-spec = tie.close (tie.spec (search needs) returns (search needs) returns-2)

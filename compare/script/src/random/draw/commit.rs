@@ -5,6 +5,7 @@ use engine::sql::pager::header::DbHeader;
 use super::Draw;
 use crate::call::Call;
 use crate::random::view::View;
+use crate::rust::MOST_STAGED;
 
 impl Draw {
     /// A commit of any kind, its stagings before it. The commit is last.
@@ -22,14 +23,14 @@ impl Draw {
             }
             39..41 => vec![Call::Commit(self.bad_header(count))],
             41..44 => {
-                let more = self.random.between(1, 70) as u32;
+                let more = self.random.between(1, MOST_STAGED + 6) as u32;
                 vec![self.commit_to(count + more)]
             }
             44 => {
-                let more = self.random.between(5, 66) as u32;
+                let more = self.random.between(5, MOST_STAGED + 2) as u32;
                 self.grow(count, count + more)
             }
-            45 => self.grow(count, 1_025.min(count + 64)),
+            45 => self.grow(count, 1_025.min(count + MOST_STAGED as u32)),
             46..50 => self.behind_the_count(view),
             _ => {
                 let mut calls = self.stage_some(count, 6);

@@ -3,6 +3,7 @@
 use super::{Draw, Theme, edits};
 use crate::call::{Call, Edit, Opening};
 use crate::random::view::View;
+use crate::rust::MOST_STAGED;
 use crate::side::Area;
 use crate::spec::Spec;
 
@@ -21,7 +22,9 @@ impl Draw {
         }
         let (often, seldom) = (self.random.one_in(2), self.random.one_in(12));
         calls.extend(match self.theme {
-            Theme::Wide => self.of_pages(&[65, 300, 1_000, 1_020, 1_023, 1_024, 1_024]),
+            Theme::Wide => {
+                self.of_pages(&[MOST_STAGED + 1, 300, 1_000, 1_020, 1_023, 1_024, 1_024])
+            }
             Theme::Hundred | Theme::Full if often => self.many_frames(),
             _ if seldom => self.of_pages(&[0, 0, 1]),
             _ => Vec::new(),
@@ -70,18 +73,32 @@ impl Draw {
         calls
     }
 
-    /// A commit that brings the frames to 98, 99, 100 or 101, or as near as
-    /// 64 staged pages bring them.
+    /// Commits of as many pages as it takes, of which the last brings the
+    /// frames to 98, 99, 100 or 101.
     pub(super) fn near_a_hundred(&mut self, view: &View) -> Vec<Call> {
         let wanted = self.random.pick(&[98, 99, 99, 100, 100, 101]);
-        let missing = (wanted - 1usize).saturating_sub(view.state.frames).min(64);
         let mut calls = vec![Call::Clear];
+        let mut frames = view.state.frames;
+        loop {
+            let pages = (wanted - 1usize).saturating_sub(frames).min(MOST_STAGED);
+            calls.extend(self.commit_of(view, pages));
+            frames += pages + 1;
+            if frames >= wanted {
+                return calls;
+            }
+        }
+    }
+
+    /// A commit of so many pages that differ, now and then with a page more
+    /// than can be staged.
+    fn commit_of(&mut self, view: &View, pages: usize) -> Vec<Call> {
         let first = 1 + self.random.below(4) as u32;
-        for page in (first..).take(missing) {
+        let mut calls = Vec::new();
+        for page in (first..).take(pages) {
             let seed = self.random.u64();
             calls.push(Call::Stage(page, Spec::Seed(seed)));
         }
-        if missing == 64 && self.random.one_in(4) {
+        if pages == MOST_STAGED && self.random.one_in(4) {
             calls.push(self.stage(900));
         }
         let count = view.header.page_count.max(1);
@@ -98,7 +115,7 @@ impl Draw {
             let batch = self.batch();
             return vec![batch; batches];
         }
-        let room = self.random.pick(&[0, 1, 1, 2, 2, 3, 4, 8, 65]);
+        let room = self.random.pick(&[0, 1, 1, 2, 2, 3, 4, 8, MOST_STAGED + 1]);
         let beside = self
             .random
             .pick(&[LOG_AREA - 1, LOG_AREA, LOG_AREA, LOG_AREA + 1]);
@@ -114,7 +131,9 @@ impl Draw {
         if self.random.one_in(3) {
             calls.push(self.batch());
         }
-        let pages = (room + self.random.below(3)).saturating_sub(1).min(64);
+        let pages = (room + self.random.below(3))
+            .saturating_sub(1)
+            .min(MOST_STAGED);
         calls.extend((1..).take(pages).map(|page| self.stage(page)));
         calls.push(self.commit_to(view.header.page_count.max(1)));
         calls
@@ -134,7 +153,7 @@ impl Draw {
 
     /// Many pages staged and committed, up to the last that there can be.
     fn wide(&mut self, view: &View) -> Vec<Call> {
-        let some = self.random.between(1, 66);
+        let some = self.random.between(1, MOST_STAGED + 2);
         let mut calls: Vec<_> = (0..some)
             .map(|_| {
                 let page = self.random.below(1_024) as u32;

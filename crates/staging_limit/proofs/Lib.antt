@@ -1,0 +1,2 @@
+-- The root of its proof.
+pub mod StagingLimit

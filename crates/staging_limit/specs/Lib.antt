@@ -1,0 +1,2 @@
+-- The root of the statement on the staging limit.
+pub mod StagingLimit

@@ -1,0 +1,1 @@
+// How many pages can be staged, over histories: see specs/StagingLimit.antt.
