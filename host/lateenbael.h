@@ -84,7 +84,7 @@ extern "C" {
 
 /* The version of this header; lateenbael_version() is the archive's. */
 #define LATEENBAEL_VERSION_MAJOR 0
-#define LATEENBAEL_VERSION_MINOR 2
+#define LATEENBAEL_VERSION_MINOR 3
 #define LATEENBAEL_VERSION_PATCH 0
 #define LATEENBAEL_VERSION (LATEENBAEL_VERSION_MAJOR * 1000000 + LATEENBAEL_VERSION_MINOR * 1000 + LATEENBAEL_VERSION_PATCH)
 
@@ -438,11 +438,18 @@ lateenbael_header_answer lateenbael_decode_header(const uint8_t *buf, size_t buf
  * A batch is a commit time and records: rows that are there, with their columns, and rows that are gone. It lies in a body, which is
  * decoded where it lies: texts and vectors are told by their places in it. Behind each call stand its refusals. */
 
-/* Bytes of the body. */
+/* Bytes of the body; of a text also how many characters, Unicode scalar values, they are. */
 typedef struct {
     size_t start;
-    size_t len;
+    size_t len;   /* of a vector the number of elements */
+    size_t chars; /* of a vector, and where there is no place, 0 */
 } lateenbael_text_place;
+
+/* A text by itself. */
+typedef struct {
+    uint32_t refusal;
+    size_t chars; /* beside a refusal 0 */
+} lateenbael_text_answer;
 
 /* A whole batch; the first record stands at LATEENBAEL_FIRST_RECORD. */
 typedef struct {
@@ -510,6 +517,9 @@ lateenbael_batch lateenbael_mvcc_decode(const uint8_t *body, size_t body_len); /
 lateenbael_record lateenbael_mvcc_decode_record(const uint8_t *body, size_t body_len, size_t at);
 lateenbael_column lateenbael_mvcc_decode_column(const uint8_t *body, size_t body_len, size_t at);
 lateenbael_value_answer lateenbael_mvcc_decode_value(const uint8_t *body, size_t body_len, size_t at);
+
+/* Whether bytes are UTF-8, and how many characters they are. 19 */
+lateenbael_text_answer lateenbael_from_utf8(const uint8_t *text, size_t text_len);
 
 /* Element i of the vector whose place is start and count. */
 lateenbael_element lateenbael_mvcc_vector_bits(const uint8_t *body, size_t body_len, size_t start, size_t count, size_t i);

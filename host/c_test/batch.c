@@ -7,8 +7,8 @@ static const uint8_t *text(const char *s) {
     return (const uint8_t *)s;
 }
 
-static bool is_text(lateenbael_text_place place, const char *s) {
-    return place.len == strlen(s) && memcmp(body + place.start, s, place.len) == 0;
+static bool is_text(lateenbael_text_place place, const char *s, size_t chars) {
+    return place.len == strlen(s) && place.chars == chars && memcmp(body + place.start, s, place.len) == 0;
 }
 
 /* Keeps what a call gives if it wasn't refused. */
@@ -45,9 +45,9 @@ static void walk(void) {
     lateenbael_batch batch = lateenbael_mvcc_decode(body, PAGE);
     CHECK(batch.refusal == LATEENBAEL_OK && batch.commit_ts == 0x0102030405060708 && batch.records == 2);
     lateenbael_record gone = lateenbael_mvcc_decode_record(body, PAGE, LATEENBAEL_FIRST_RECORD);
-    CHECK(gone.refusal == LATEENBAEL_OK && gone.op == 0 && gone.rowid == -3 && is_text(gone.table, "cabins"));
+    CHECK(gone.refusal == LATEENBAEL_OK && gone.op == 0 && gone.rowid == -3 && is_text(gone.table, "cabins", 6));
     lateenbael_record there = lateenbael_mvcc_decode_record(body, PAGE, gone.next);
-    CHECK(there.refusal == LATEENBAEL_OK && there.op == 1 && there.rowid == 7 && there.count == 6 && is_text(there.table, "grips"));
+    CHECK(there.refusal == LATEENBAEL_OK && there.op == 1 && there.rowid == 7 && there.count == 6 && is_text(there.table, "grips", 5));
     CHECK(there.next == batch.end);
     lateenbael_value values[6];
     size_t at = there.first;
@@ -55,16 +55,18 @@ static void walk(void) {
         const char name[] = {(char)('a' + i), 0};
         lateenbael_column column = lateenbael_mvcc_decode_column(body, PAGE, at);
         lateenbael_value_answer alone = lateenbael_mvcc_decode_value(body, PAGE, column.name.start + column.name.len);
-        CHECK(column.refusal == LATEENBAEL_OK && column.value.tag == i && is_text(column.name, name));
+        CHECK(column.refusal == LATEENBAEL_OK && column.value.tag == i && is_text(column.name, name, 1));
         CHECK(alone.next == column.next && memcmp(&alone.value, &column.value, sizeof column.value) == 0);
+        CHECK(is_no_place(column.value.place) == (i != LATEENBAEL_VALUE_TEXT && i != LATEENBAEL_VALUE_VECTOR));
         values[i] = column.value;
         at = column.next;
     }
     CHECK(at == there.next && values[LATEENBAEL_VALUE_INTEGER].integer == -5);
     CHECK(values[LATEENBAEL_VALUE_REAL].bits == 0x7ff8000000000001 && values[LATEENBAEL_VALUE_BOOL].flag == 1);
-    CHECK(is_text(values[LATEENBAEL_VALUE_TEXT].place, "gr\xc3\xbcn"));
+    CHECK(is_text(values[LATEENBAEL_VALUE_TEXT].place, "gr\xc3\xbcn", 4));
     lateenbael_text_place vector = values[LATEENBAEL_VALUE_VECTOR].place;
-    CHECK(vector.len == 2 && lateenbael_mvcc_vector_bits(body, PAGE, vector.start, vector.len, 0).bits == 0x3fc00000);
+    CHECK(vector.len == 2 && vector.chars == 0);
+    CHECK(lateenbael_mvcc_vector_bits(body, PAGE, vector.start, vector.len, 0).bits == 0x3fc00000);
     CHECK(lateenbael_mvcc_vector_bits(body, PAGE, vector.start, vector.len, 1).bits == 0x80000000);
     CHECK(lateenbael_mvcc_vector_bits(body, PAGE, vector.start, vector.len, 2).found == 0);
 }

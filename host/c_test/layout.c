@@ -94,36 +94,40 @@ PLACE(frame_answer, header, 16);
 SIZE(list_answer, 16);
 PLACE(list_answer, len, 8);
 
-SIZE(text_place, 16);
+SIZE(text_place, 24);
 PLACE(text_place, len, 8);
+PLACE(text_place, chars, 16);
+
+SIZE(text_answer, 16);
+PLACE(text_answer, chars, 8);
 
 SIZE(batch, 32);
 PLACE(batch, commit_ts, 8);
 PLACE(batch, records, 16);
 PLACE(batch, end, 24);
 
-SIZE(record, 56);
+SIZE(record, 64);
 PLACE(record, op, 4);
 PLACE(record, next, 8);
 PLACE(record, table, 16);
-PLACE(record, rowid, 32);
-PLACE(record, count, 40);
-PLACE(record, first, 48);
+PLACE(record, rowid, 40);
+PLACE(record, count, 48);
+PLACE(record, first, 56);
 
-SIZE(value, 40);
+SIZE(value, 48);
 PLACE(value, flag, 4);
 PLACE(value, integer, 8);
 PLACE(value, bits, 16);
 PLACE(value, place, 24);
 
-SIZE(value_answer, 56);
+SIZE(value_answer, 64);
 PLACE(value_answer, next, 8);
 PLACE(value_answer, value, 16);
 
-SIZE(column, 72);
+SIZE(column, 88);
 PLACE(column, next, 8);
 PLACE(column, name, 16);
-PLACE(column, value, 32);
+PLACE(column, value, 40);
 
 SIZE(element, 8);
 PLACE(element, bits, 4);
@@ -134,7 +138,7 @@ PLACE(building, counted, 8);
 PLACE(building, records, 12);
 PLACE(building, columns, 14);
 
-_Static_assert(LATEENBAEL_VERSION == 2000, "0.2.0 as one number");
+_Static_assert(LATEENBAEL_VERSION == 3000, "0.3.0 as one number");
 
 /* Header and archive belong together, and every refusal has its name. */
 static void names(void) {

@@ -149,6 +149,10 @@ bool reads_as(const host *h, uint32_t page, uint8_t byte) {
     return found.refusal == LATEENBAEL_OK && found.area != LATEENBAEL_AREA_NONE && all_are(areas[found.area] + found.at, byte);
 }
 
+bool is_no_place(lateenbael_text_place place) {
+    return place.start == 0 && place.len == 0 && place.chars == 0;
+}
+
 uint32_t stage(host *h, uint32_t page, uint8_t byte) {
     uint8_t bytes[PAGE];
     memset(bytes, byte, PAGE);
@@ -182,6 +186,7 @@ int main(void) {
     run("files", test_files);
     run("log", test_log);
     run("batch", test_batch);
+    run("text", test_text);
     printf("C test: %u checks, %u failed\n", checks, failures);
     return failures != 0;
 }

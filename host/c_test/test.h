@@ -58,6 +58,9 @@ lateenbael_page_answer found_in(const host *h, const lateenbael_store *store, ui
 /* Whether a page reads as 4,096 equal bytes. */
 bool reads_as(const host *h, uint32_t page, uint8_t byte);
 
+/* Whether there is no place: not even a number of characters. */
+bool is_no_place(lateenbael_text_place place);
+
 /* Keeps the store that a call gives back; answers the refusal. */
 uint32_t keep_store(host *h, lateenbael_answered a);
 uint32_t stage(host *h, uint32_t page, uint8_t byte);
@@ -70,5 +73,6 @@ void test_forged(void);
 void test_files(void);
 void test_log(void);
 void test_batch(void);
+void test_text(void);
 
 #endif

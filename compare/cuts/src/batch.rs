@@ -30,6 +30,23 @@ pub enum Value {
     Vector(Vec<u32>),
 }
 
+impl Batch {
+    /// All its texts: each record's table, then its columns' names and texts.
+    pub fn texts(&self) -> Vec<&str> {
+        let mut texts: Vec<&str> = Vec::new();
+        for record in &self.records {
+            texts.push(&record.table);
+            for (name, value) in record.columns.iter().flatten() {
+                texts.push(name);
+                if let Value::Text(text) = value {
+                    texts.push(text);
+                }
+            }
+        }
+        texts
+    }
+}
+
 /// Reads a body byte by byte.
 struct Cursor<'a>(&'a [u8]);
 

@@ -3,6 +3,7 @@ use crate::batch;
 use crate::expected::Expected;
 use crate::judge::{Answer, Refused};
 use crate::port;
+use crate::wrong::Wrong;
 use lateenbael::Engine;
 
 /// What was found different, in words.
@@ -68,7 +69,7 @@ pub fn compare_pages(engine: &Engine, expected: &Expected) -> Check {
     Ok(())
 }
 
-/// The recovered batches, in order, each as `encode` writes it.
+/// The recovered batches, in order, each as `encode` writes it and as the port reads it.
 pub fn compare_batches(engine: &Engine, expected: &Expected) -> Check {
     let mut index = 0;
     let mut wanted = expected.model.committed.iter();
@@ -98,6 +99,28 @@ pub fn compare_batches(engine: &Engine, expected: &Expected) -> Check {
             )
         };
         ensure(same, what)?;
+        compare_reading(body, batch, expected.wrong)?;
         index = found.index + 1;
     }
+}
+
+/// What the port reads in a batch's bytes: the same batch, and with each text the number of its
+/// characters that the Standard's rule gives.
+fn compare_reading(body: &[u8], batch: &batch::Batch, wrong: Wrong) -> Check {
+    let count = |text: &str| match wrong {
+        Wrong::BytesCounted => Some(text.len()),
+        _ => characters::count(text.as_bytes()),
+    };
+    let texts = batch.texts().into_iter();
+    let counts: Vec<_> = texts.clone().filter_map(count).collect();
+    let time = batch.commit_time;
+    let (read, carried) = port::read_batch(body)
+        .map_err(|(number, _)| format!("the port refuses the batch of time {time}: {number}"))?;
+    ensure(read == *batch, || {
+        format!("the port reads the batch of time {time} as {read:?}")
+    })?;
+    ensure(carried == counts, || {
+        let texts: Vec<_> = texts.collect();
+        format!("{texts:?} have {counts:?} characters, with the port {carried:?}")
+    })
 }

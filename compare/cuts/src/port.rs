@@ -1,11 +1,12 @@
-//! One call, given to the port through its C interface.
+//! One call, given to the port through its C interface; and a batch as the port reads it.
+use crate::batch;
 use crate::call::{AreaName, Call, Fault, page_bytes};
 use crate::expected::encode_header;
 use crate::judge::{Answer, Refused};
 use crate::model::{Header, PAGE};
 use crate::writes::{FRAME, LOG_HEADER};
 use lateenbael::sys::{DbHeader, LOG_AREA, MAIN_AREA};
-use lateenbael::{Engine, Refusal, Step};
+use lateenbael::{Engine, Refusal, Step, Text, Value};
 
 fn refused(refusal: Refusal) -> Refused {
     (refusal.number(), 0)
@@ -181,5 +182,81 @@ fn area_bytes(engine: &mut Engine, area: AreaName) -> &mut Box<[u8]> {
         AreaName::Log => &mut engine.log,
         AreaName::Main => &mut engine.main,
         AreaName::Table | AreaName::Staging => &mut engine.staging,
+    }
+}
+
+/// A batch, and the number of characters that comes with each of its texts.
+pub fn read_batch(body: &[u8]) -> Result<(batch::Batch, Vec<usize>), Refused> {
+    let read = lateenbael::Batch::decode(body).map_err(refused)?;
+    let mut counts = Vec::new();
+    let mut text = |text: Text| {
+        counts.push(text.char_count());
+        text.to_string()
+    };
+    let mut records = Vec::new();
+    for record in read.records() {
+        let table = text(record.table);
+        let columns = record.columns.map(|columns| {
+            let column = |column: lateenbael::Column| {
+                let name = text(column.name);
+                (name, value(column.value, &mut text))
+            };
+            columns.map(column).collect()
+        });
+        records.push(batch::Record {
+            table,
+            row_id: record.rowid,
+            columns,
+        });
+    }
+    let commit_time = read.commit_ts();
+    Ok((
+        batch::Batch {
+            commit_time,
+            records,
+        },
+        counts,
+    ))
+}
+
+fn value(value: Value, text: impl FnOnce(Text) -> String) -> batch::Value {
+    match value {
+        Value::Null => batch::Value::Null,
+        Value::Integer(number) => batch::Value::Integer(number),
+        Value::Real(real) => batch::Value::Real(real.to_bits()),
+        Value::Text(of) => batch::Value::Text(text(of)),
+        Value::Bool(is) => batch::Value::Bool(is),
+        Value::Vector(vector) => {
+            batch::Value::Vector(vector.elements().map(f32::to_bits).collect())
+        }
+    }
+}
+
+#[cfg(test)]
+mod tests {
+    use super::*;
+
+    #[test]
+    fn a_batch_is_read_with_its_counts() {
+        let columns = [
+            ("–", batch::Value::Text("🚡 7, pylône".to_string())),
+            ("", batch::Value::Vector(vec![0x7f80_0001, 3])),
+            ("雪", batch::Value::Bool(true)),
+        ];
+        let columns = columns.map(|(name, value)| (name.to_string(), value));
+        let record = |table: &str, columns| batch::Record {
+            table: table.to_string(),
+            row_id: -1,
+            columns,
+        };
+        let batch = batch::Batch {
+            commit_time: 9,
+            records: vec![
+                record("Süd", None),
+                record("e\u{301}", Some(columns.into())),
+            ],
+        };
+        let read = read_batch(&batch::encode(&batch));
+        assert_eq!(read, Ok((batch, vec![3, 2, 1, 11, 0, 1])));
     }
 }

@@ -1,5 +1,5 @@
-//! Wrong models, wrong orders of writes and a wrong opening, each of which the comparison must
-//! find: `cuts SEED COUNT --wrong NAME`.
+//! Wrong models, wrong orders of writes, a wrong opening and a wrong counting, each of which the
+//! comparison must find: `cuts SEED COUNT --wrong NAME`.
 use crate::call::Call;
 use crate::model::{Entry, Model};
 use crate::writes::WriteKind;
@@ -34,9 +34,11 @@ pub enum Wrong {
     BatchesNever,
     /// The model keeps pages at or above the new count.
     PagesStay,
+    /// A text's bytes are taken for its characters.
+    BytesCounted,
 }
 
-pub const ALL: [(&str, Wrong); 13] = [
+pub const ALL: [(&str, Wrong); 14] = [
     ("plain-opening", Wrong::PlainOpening),
     ("header-late", Wrong::HeaderLate),
     ("log-first", Wrong::LogFirst),
@@ -50,6 +52,7 @@ pub const ALL: [(&str, Wrong); 13] = [
     ("early-seal", Wrong::EarlyCommit),
     ("batches-never", Wrong::BatchesNever),
     ("pages-stay", Wrong::PagesStay),
+    ("bytes-counted", Wrong::BytesCounted),
 ];
 
 impl Wrong {

@@ -1,15 +1,16 @@
 //! The calls of batches: reading any bytes, and building.
 
 use lateenbael_sys as sys;
-use sys::{Building, PAGE_SIZE, TextPlace};
+use sys::{Building, PAGE_SIZE, TextAnswer, TextPlace};
 
 use crate::area::Area;
-use crate::closed::NO_BUILDING;
+use crate::closed::{NO_BUILDING, no_batch, no_column, no_record, no_value};
 use crate::edges;
 use crate::forge;
 use crate::world::{Call, World, Writes};
 
-pub const CALLS: [Call; 15] = [
+pub const CALLS: [Call; 16] = [
+    ("from_utf8", from_utf8),
     ("mvcc_decode", decode),
     ("mvcc_decode_record", decode_record),
     ("mvcc_decode_column", decode_column),
@@ -27,16 +28,15 @@ pub const CALLS: [Call; 15] = [
     ("mvcc_add_vector", add_vector),
 ];
 
-/// A body: the one being built, cut, lengthened or spoiled, or any bytes.
+/// A body: the one being built, cut or lengthened, or a row; spoiled, or any
+/// bytes.
 pub fn any_body(world: &mut World) -> Area<u8> {
-    let mut bytes = world.body.bytes().to_vec();
-    let len = match world.random.below(6) {
-        0 => world.random.below(40),
-        1 => world.random.below(PAGE_SIZE + 200),
-        2 => (world.building.at as usize).min(PAGE_SIZE),
-        _ => PAGE_SIZE,
+    world.row = None;
+    let mut bytes = match world.random.below(4) {
+        0 => row(world),
+        _ => built(world),
     };
-    bytes.resize(len, 0);
+    let len = bytes.len();
     match world.random.below(5) {
         0 => edges::overwrite(&mut world.random, &mut bytes),
         1 if len > 0 => {
@@ -49,29 +49,126 @@ pub fn any_body(world: &mut World) -> Area<u8> {
     world.slice(&bytes)
 }
 
+fn built(world: &mut World) -> Vec<u8> {
+    let mut bytes = world.body.bytes().to_vec();
+    let len = match world.random.below(6) {
+        0 => world.random.below(40),
+        1 => world.random.below(PAGE_SIZE + 200),
+        2 => (world.building.at as usize).min(PAGE_SIZE),
+        _ => PAGE_SIZE,
+    };
+    bytes.resize(len, 0);
+    bytes
+}
+
+/// A batch of one row with one column, a text: it and the names come near to
+/// texts, as nothing that is built does.
+fn row(world: &mut World) -> Vec<u8> {
+    let [table, name, value] = [(); 3].map(|()| {
+        let text = near_text(world);
+        let len = text.bytes().len().min(300);
+        text.bytes()[..len].to_vec()
+    });
+    let mut bytes = b"MVCC0001\0\0\0\0\0\0\0\0\x01\0".to_vec();
+    let record = bytes.len();
+    bytes.push(1);
+    bytes.extend((table.len() as u16).to_le_bytes());
+    bytes.extend(table);
+    bytes.extend([0, 0, 0, 0, 0, 0, 0, 0, 1, 0]); // row id, column count
+    let column = bytes.len();
+    bytes.extend((name.len() as u16).to_le_bytes());
+    bytes.extend(name);
+    let tag = bytes.len();
+    bytes.push(3);
+    bytes.extend((value.len() as u32).to_le_bytes());
+    bytes.extend(value);
+    world.row = Some([record, column, tag]);
+    bytes
+}
+
 /// A cursor into a body: mostly where something begins.
 fn cursor(world: &mut World) -> usize {
-    match world.random.below(6) {
-        0 => edges::number(&mut world.random) as usize,
-        1 => world.random.below(200),
-        2 => 18,
-        _ => world.random.pick(&world.begins),
+    match (world.random.below(6), world.row) {
+        (0, _) => edges::number(&mut world.random) as usize,
+        (1, _) => world.random.below(200),
+        (2, _) => 18,
+        (_, Some(begins)) => world.random.pick(&begins),
+        (_, None) => world.random.pick(&world.begins),
     }
 }
 
-/// A text's place is inside the body.
+/// A text's place is inside the body, and has the number of characters that
+/// the Standard's rule gives.
 fn text_inside(world: &mut World, export: &str, text: TextPlace, body: &Area<u8>) {
-    world.inside(export, text.start, text.len, body.bytes().len());
+    let TextPlace { start, len, chars } = text;
+    world.inside(export, start, len, body.bytes().len());
+    let bytes = body.bytes().get(start..).and_then(|rest| rest.get(..len));
+    let rule = bytes.and_then(characters::count);
+    if rule != Some(chars) {
+        let what = format!("{chars} characters, by the rule {rule:?}");
+        world.tally.fault(export, &what);
+    }
 }
 
-/// What a value tells stands inside the body.
+/// What a value tells stands inside the body. Without a text or vector it has
+/// no place, and without a text no characters.
 fn value_inside(world: &mut World, export: &str, value: &sys::Value, body: &Area<u8>) {
-    let bytes = match value.tag {
-        3 => value.place.len,
-        5 => value.place.len.saturating_mul(4),
-        _ => return,
-    };
-    world.inside(export, value.place.start, bytes, body.bytes().len());
+    let TextPlace { start, len, chars } = value.place;
+    match value.tag {
+        3 => return text_inside(world, export, value.place, body),
+        5 => world.inside(export, start, len.saturating_mul(4), body.bytes().len()),
+        _ if (start, len) != (0, 0) => world.tally.fault(export, "a place of nothing"),
+        _ => {}
+    }
+    if chars != 0 {
+        world.tally.fault(export, "characters of what is no text");
+    }
+}
+
+/// Beside a refusal every other number is 0.
+fn refused(world: &mut World, export: &str, with_nothing: bool) {
+    if !with_nothing {
+        world.tally.fault(export, "refused with numbers");
+    }
+}
+
+/// Bytes that are a text, or would be but for one of them or a cut.
+fn near_text(world: &mut World) -> Area<u8> {
+    let text = text(world);
+    let mut bytes = text.bytes().to_vec();
+    let at = world.random.below(bytes.len() + 1);
+    match world.random.below(8) {
+        0 => bytes.truncate(at),
+        1 => drop(bytes.drain(..at)),
+        2 => bytes.insert(at, world.random.u8()),
+        3 if at < bytes.len() => bytes[at] = world.random.u8(),
+        _ => {}
+    }
+    world.slice(&bytes)
+}
+
+fn from_utf8(world: &mut World, export: &'static str) {
+    let mut text = near_text(world);
+    let arg = text.lend_own();
+    let answer = unsafe { sys::lateenbael_from_utf8(arg.at, arg.len) };
+    world.end(export, answer.refusal, true, &Writes::default());
+    let rule = by_the_rule(text.bytes());
+    if answer != rule {
+        let what = format!("{answer:?}, by the rule {rule:?}");
+        world.tally.fault(export, &what);
+    }
+    world.unaltered(export, &text);
+}
+
+/// What is no text is refused with 19, and has no number.
+fn by_the_rule(bytes: &[u8]) -> TextAnswer {
+    match characters::count(bytes) {
+        Some(chars) => TextAnswer { refusal: 0, chars },
+        None => TextAnswer {
+            refusal: 19,
+            chars: 0,
+        },
+    }
 }
 
 fn decode(world: &mut World, export: &'static str) {
@@ -79,8 +176,10 @@ fn decode(world: &mut World, export: &'static str) {
     let arg = body.lend_own();
     let answer = unsafe { sys::lateenbael_mvcc_decode(arg.at, arg.len) };
     world.end(export, answer.refusal, true, &Writes::default());
-    if answer.refusal == 0 {
-        world.inside(export, answer.end, 0, arg.len);
+    let refusal = answer.refusal;
+    match refusal {
+        0 => world.inside(export, answer.end, 0, arg.len),
+        _ => refused(world, export, answer == no_batch(refusal)),
     }
     world.unaltered(export, &body);
 }
@@ -91,9 +190,12 @@ fn decode_record(world: &mut World, export: &'static str) {
     let arg = body.lend_own();
     let answer = unsafe { sys::lateenbael_mvcc_decode_record(arg.at, arg.len, at) };
     world.end(export, answer.refusal, true, &Writes::default());
-    if answer.refusal == 0 {
+    let refusal = answer.refusal;
+    if refusal == 0 {
         world.inside(export, answer.next, 0, arg.len);
         text_inside(world, export, answer.table, &body);
+    } else {
+        refused(world, export, answer == no_record(refusal));
     }
     world.unaltered(export, &body);
 }
@@ -104,10 +206,13 @@ fn decode_column(world: &mut World, export: &'static str) {
     let arg = body.lend_own();
     let answer = unsafe { sys::lateenbael_mvcc_decode_column(arg.at, arg.len, at) };
     world.end(export, answer.refusal, true, &Writes::default());
-    if answer.refusal == 0 {
+    let refusal = answer.refusal;
+    if refusal == 0 {
         world.inside(export, answer.next, 0, arg.len);
         text_inside(world, export, answer.name, &body);
         value_inside(world, export, &answer.value, &body);
+    } else {
+        refused(world, export, answer == no_column(refusal));
     }
     world.unaltered(export, &body);
 }
@@ -118,9 +223,12 @@ fn decode_value(world: &mut World, export: &'static str) {
     let arg = body.lend_own();
     let answer = unsafe { sys::lateenbael_mvcc_decode_value(arg.at, arg.len, at) };
     world.end(export, answer.refusal, true, &Writes::default());
-    if answer.refusal == 0 {
+    let refusal = answer.refusal;
+    if refusal == 0 {
         world.inside(export, answer.next, 0, arg.len);
         value_inside(world, export, &answer.value, &body);
+    } else {
+        refused(world, export, answer == no_value(refusal));
     }
     world.unaltered(export, &body);
 }
@@ -185,7 +293,8 @@ fn start(world: &mut World, export: &'static str) {
     });
 }
 
-/// A name or text: mostly short and UTF-8.
+/// A name or text: mostly short and UTF-8, some with characters of every
+/// length.
 fn text(world: &mut World) -> Area<u8> {
     let len = match world.random.below(20) {
         0 => world.random.below(5_000),
@@ -194,8 +303,10 @@ fn text(world: &mut World) -> Area<u8> {
         _ => world.random.below(20),
     };
     let mut bytes = vec![b'a'; len];
-    if world.random.percent(20) {
-        edges::overwrite(&mut world.random, &mut bytes);
+    match world.random.below(10) {
+        0 | 1 => edges::overwrite(&mut world.random, &mut bytes),
+        2..6 => edges::characters(&mut world.random, &mut bytes),
+        _ => {}
     }
     world.slice(&bytes)
 }

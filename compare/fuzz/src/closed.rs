@@ -1,7 +1,8 @@
 //! Structs in which nothing is open, and what a forged store stands for.
 
 use lateenbael_sys::{
-    Building, DbHeader, FileStorage, Job, STAGED_PAGES, Staged, Store, Wal, WalHeader,
+    Batch, Building, Column, DbHeader, FileStorage, Job, Record, STAGED_PAGES, Staged, Store,
+    TextPlace, Value, ValueAnswer, Wal, WalHeader,
 };
 
 const NO_HEADER: DbHeader = DbHeader {
@@ -72,6 +73,59 @@ pub const NO_BUILDING: Building = Building {
     records: 0,
     columns: 0,
 };
+
+const NO_PLACE: TextPlace = TextPlace {
+    start: 0,
+    len: 0,
+    chars: 0,
+};
+
+const NO_VALUE: Value = Value {
+    tag: 0,
+    flag: 0,
+    integer: 0,
+    bits: 0,
+    place: NO_PLACE,
+};
+
+/// A refused reading of a batch; below of a record, a column and a value.
+pub fn no_batch(refusal: u32) -> Batch {
+    Batch {
+        refusal,
+        commit_ts: 0,
+        records: 0,
+        end: 0,
+    }
+}
+
+pub fn no_record(refusal: u32) -> Record {
+    Record {
+        refusal,
+        op: 0,
+        next: 0,
+        table: NO_PLACE,
+        rowid: 0,
+        count: 0,
+        first: 0,
+    }
+}
+
+pub fn no_column(refusal: u32) -> Column {
+    Column {
+        refusal,
+        next: 0,
+        name: NO_PLACE,
+        value: NO_VALUE,
+    }
+}
+
+pub fn no_value(refusal: u32) -> ValueAnswer {
+    ValueAnswer {
+        refusal,
+        next: 0,
+        value: NO_VALUE,
+    }
+}
 
 /// The store that any numbers stand for: a kind of job that there is not is
 /// none, one of opening has no log, and numbers that tell nothing are 0.

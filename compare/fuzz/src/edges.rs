@@ -38,6 +38,33 @@ pub fn number(random: &mut Random) -> u64 {
     .wrapping_add(if random.percent(5) { near } else { 0 })
 }
 
+/// Of one to four bytes.
+const CHARACTERS: [&str; 10] = [
+    "a",
+    "\0",
+    "ü",
+    "\u{80}",
+    "\u{7ff}",
+    "–",
+    "\u{d7ff}",
+    "\u{feff}",
+    "🚡",
+    "\u{10ffff}",
+];
+
+/// Characters of every length from the front on, as far as they fit.
+pub fn characters(random: &mut Random, bytes: &mut [u8]) {
+    let mut at = 0;
+    loop {
+        let character = random.pick(&CHARACTERS).as_bytes();
+        let Some(place) = bytes.get_mut(at..at + character.len()) else {
+            return;
+        };
+        place.copy_from_slice(character);
+        at += character.len();
+    }
+}
+
 /// Bytes: any, all alike, or nearly all zero.
 pub fn overwrite(random: &mut Random, bytes: &mut [u8]) {
     let kind = random.below(3);

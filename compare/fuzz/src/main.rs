@@ -76,7 +76,7 @@ mod tests {
         for guard in [0, GUARD_LEN] {
             let world = run(7, 20_000, guard);
             assert_eq!(world.tally.faults, 0);
-            assert_eq!(world.tally.exports(), 50);
+            assert_eq!(world.tally.exports(), 51);
         }
     }
 

@@ -44,6 +44,8 @@ pub struct World {
     pub building: Building,
     /// Where records, columns and values of it begin.
     pub begins: [usize; 16],
+    /// Where record, column and value of the last body begin, if it is a row.
+    pub row: Option<[usize; 3]>,
     pub tally: Tally,
 }
 
@@ -61,6 +63,7 @@ impl World {
             body: Area::new(sys::PAGE_SIZE, guard),
             building: NO_BUILDING,
             begins: [18; 16],
+            row: None,
             tally: Tally::default(),
         }
     }

@@ -1,8 +1,10 @@
 //! `script port|rust FILE DIR [--stores]` runs a written list of calls on
-//! one side; `script random SEED COUNT` runs drawn ones on both and compares.
+//! one side; `script random SEED COUNT` runs drawn ones on both and compares;
+//! `script desk KIND FILE` prints what the port tells of a file's bytes.
 
 use std::env;
 use std::fs;
+use std::io::{self, Write};
 use std::path::Path;
 use std::process::ExitCode;
 
@@ -10,13 +12,14 @@ use script::port::Port;
 use script::run::Runner;
 use script::rust::Rust;
 use script::side::Side;
-use script::{random, written};
+use script::{desk, random, written};
 
 fn main() -> ExitCode {
     let words: Vec<String> = env::args().skip(1).collect();
     let words: Vec<&str> = words.iter().map(String::as_str).collect();
     let done = match &words[..] {
         ["random", seed, count] => compare(seed, count),
+        ["desk", kind, file] => at_desk(kind, file),
         [side, file, folder] => one_side(side, file, folder, false),
         [side, file, folder, "--stores"] => one_side(side, file, folder, true),
         _ => Err(USAGE.to_string()),
@@ -31,7 +34,8 @@ fn main() -> ExitCode {
 }
 
 const USAGE: &str = "usage: script (port | rust) FILE DIR [--stores]
-       script random SEED COUNT";
+       script random SEED COUNT
+       script desk chars FILE";
 
 fn one_side(side: &str, file: &str, folder: &str, stores: bool) -> Result<(), String> {
     match side {
@@ -66,4 +70,11 @@ fn compare(seed: &str, count: &str) -> Result<(), String> {
             Err("a difference".to_string())
         }
     }
+}
+
+fn at_desk(kind: &str, file: &str) -> Result<(), String> {
+    let kind = desk::kind(kind).ok_or(USAGE)?;
+    let bytes = fs::read(file).map_err(|error| format!("{file}: {error}"))?;
+    let printed = io::stdout().write_all(&kind(&bytes));
+    printed.map_err(|error| format!("standard output: {error}"))
 }

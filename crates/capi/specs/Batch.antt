@@ -60,7 +60,7 @@ firstNumber payload.Tombstone = 0
 firstNumber (payload.Present count first) = first
 
 abbrev pub noPlace : TextPlace
-noPlace = record { start = 0; len = 0 }
+noPlace = record { start = 0; len = 0; chars = 0 }
 
 -- what reading a record at a cursor answers
 abbrev pub recordNumbers : Answer MvccLogRecord → RecordNumbers
@@ -97,7 +97,7 @@ valueNumbers (value.Real x) = valueOf 2 0 (pos 0) (toBits binary64 x) noPlace
 valueNumbers (value.Nan b) = valueOf 2 0 (pos 0) b noPlace
 valueNumbers (value.Text p) = valueOf 3 0 (pos 0) 0 p
 valueNumbers (value.Bool b) = valueOf 4 (flagNumber b) (pos 0) 0 noPlace
-valueNumbers (value.Vector start count) = valueOf 5 0 (pos 0) 0 (record { start = start; len = count })
+valueNumbers (value.Vector start count) = valueOf 5 0 (pos 0) 0 (record { start = start; len = count; chars = 0 })
 
 -- what reading a value at a cursor answers
 abbrev pub valueReply : Answer Value → ValueAnswer

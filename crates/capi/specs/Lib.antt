@@ -2,4 +2,5 @@
 pub mod Batch
 pub mod Log
 pub mod Store
+pub mod Text
 pub mod Version

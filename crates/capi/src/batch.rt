@@ -55,7 +55,7 @@ pub struct ValueNumbers {
     pub integer: i64,
     // A real's bits.
     pub bits: u64,
-    // A text's place; a vector's first byte and number of elements.
+    // A text's place; a vector's first byte and number of elements, and no character.
     pub place: TextPlace,
 }
 
@@ -137,7 +137,11 @@ fn first_of(p: VersionPayload) -> usize
 fn no_place() -> TextPlace
     ensures { λ r. ⌜ r ≡ noPlace ⌝ }
 {
-    TextPlace { start: 0, len: 0 }
+    TextPlace {
+        start: 0,
+        len: 0,
+        chars: 0,
+    }
 }
 
 #[no_mangle]
@@ -204,7 +208,11 @@ fn numbers_of(v: Value) -> ValueNumbers
             0,
             0,
             0,
-            TextPlace { start, len: count },
+            TextPlace {
+                start,
+                len: count,
+                chars: 0,
+            },
         ),
     }
 }

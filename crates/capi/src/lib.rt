@@ -3,4 +3,5 @@
 pub mod batch;
 pub mod log;
 pub mod store;
+pub mod texts;
 pub mod version;

@@ -101,6 +101,13 @@ unfolding cutOpenings
 reopens-end [] lent w x k = k .1 .0
 reopens-end (a ∷ rest) lent w x k = reopens-end rest lent w (cutOpening a x) (k .1)
 
+-- it returns the model's batches
+reopens-returns : (attempts : List Attempt) (lent : Lent) (w : World) (x : Left) → Reopens attempts lent w x
+    → Returns (reopened lent w (cutOpenings attempts x))
+unfolding cutOpenings
+reopens-returns [] lent w x k = k .1 .1
+reopens-returns (a ∷ rest) lent w x k = reopens-returns rest lent w (cutOpening a x) (k .1)
+
 -- ---- where demand 3 holds
 
 module _ (d : Demand3) (t l m g : List ℕ) (salt : ℕ) (f : createFine t l m g ≡ true) (small : salt < 2 ^ 32) where
@@ -134,6 +141,13 @@ module _ (d : Demand3) (t l m g : List ℕ) (salt : ℕ) (f : createFine t l m g
 
       pub opening-returns : Returns (whole (Open mode.ReadWrite lent) r)
       opening-returns = answers (Whole (Open mode.ReadWrite lent)) tt .1 refl opening-taken
+
+    -- the opening behind a cut, wherever it falls
+    pub cut-returns : (c : Call) (j k : ℕ) (attempts : List Attempt) (lent : Lent) → TypedEvent (Cut c j k attempts lent)
+        → Returns (next (Cut c j k attempts lent) r)
+    unfolding next
+    cut-returns c j k attempts lent typed =
+        reopens-returns attempts lent (r .world) (cutCall c j k r) (answers (Cut c j k attempts lent) typed .1)
 
     -- it is at rest, and so is one behind a cut that falls in no store
     pub opening-rests : (lent : Lent) → Sized lent → busy (whole (Open mode.ReadWrite lent) r .world .pager) ≡ false

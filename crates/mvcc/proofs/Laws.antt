@@ -7,7 +7,7 @@ use native.Mathlib.Nat.{zero-add}
 use native.Mathlib.Numerals.{sub-one}
 use native.Mathlib.Omega.{arith}
 use borrow.Author.Tests.{le-leb, lt-leb, le-ltb, lt-ltb, leb-true, eq-eqb, ne-eqb}
-use lib.ListN.{length, take, drop}
+use lib.ListN.{length, take, drop, length-take, length-drop}
 use lib.IntN.{pos, negsuc, _-ℤ_}
 use lib.Ieee.{binary32, binary64, nanBits}
 use lib.Ieee.Bits.{nanBits-above}
@@ -17,10 +17,8 @@ use mir.Syntax.{w64}
 use Rattle.le.specs.Choice.{pick}
 use Rattle.le.specs.Le.{field, wholeField}
 use Rattle.le.proofs.Fields.{field-whole}
-use Rattle.text.specs.Utf8.{wellFormed, utf8Of}
-use Rattle.text.proofs.Answers.{well-is, ill-is}
-use Rattle.text.specs.declared.Utf8.{Utf8}
-use Rattle.text.specs.declared.Utf8.the-variants.{WellFormed, IllFormed}
+use Rattle.text.specs.Utf8.{wellFormed, chars}
+use Rattle.text.proofs.Answers.{counted-well, counted-ill, empty-well, empty-chars}
 use Rattle.refusal.specs.declared.Refusal.{Refusal}
 use Rattle.refusal.specs.declared.Refusal.the-variants.{Short, Magic, Truncated, Text}
 use Rattle.mvcc.specs.Answer.{Answer, taken, refused, then, many, why}
@@ -139,16 +137,29 @@ module _ (n : ℕ) where
 
 -- ---- texts
 
-module _ (s : List ℕ) (at n : ℕ) where
-  pub text-good : {l : List ℕ} {u : Utf8} → fitsIn s at n ≡ true → l ≡ take n (drop at s) → u ≡ utf8Of l → u ≡ WellFormed
-      → taken (record { start = at; len = n }) (at + n) ≡ textOf s at n
-  unfolding textOf
-  text-good {l} t e f g = rw (t, ← e, well-is (wellFormed l) (sym f ∙ g))
+positive : (n : ℕ) → (n ≡ 0 → ⊥) → 0 < n
+positive zero h = absurd (h refl)
+positive (suc n) h = omega arith
 
-  pub text-bad : {l : List ℕ} {u : Utf8} → fitsIn s at n ≡ true → l ≡ take n (drop at s) → u ≡ utf8Of l → u ≡ IllFormed
+text-zero : (s : List ℕ) (at : ℕ) → fitsIn s at 0 ≡ true → taken (record { start = at; len = 0; chars = 0 }) (at + 0) ≡ textOf s at 0
+unfolding textOf
+text-zero s at t = rw (t, empty-well, empty-chars)
+
+module _ (s : List ℕ) (at n : ℕ) where
+  pub text-good : {l : List ℕ} {m : ℕ} → fitsIn s at n ≡ true → l ≡ take n (drop at s) → m ≡ pick (wellFormed l) (chars l) 0 → (m ≡ 0 → ⊥)
+      → taken (record { start = at; len = n; chars = m }) (at + n) ≡ textOf s at n
+  unfolding textOf
+  text-good {l} t e f g = let w = counted-well l f g in rw (t, ← e, w .0, w .1)
+
+  pub text-bad : {l : List ℕ} {m : ℕ} → fitsIn s at n ≡ true → (n ≡ 0 → ⊥) → l ≡ take n (drop at s) → m ≡ pick (wellFormed l) (chars l) 0 → m ≡ 0
       → refused Text ≡ textOf s at n
   unfolding textOf
-  text-bad {l} t e f g = rw (t, ← e, ill-is (wellFormed l) (sym f ∙ g))
+  text-bad {l} t h e f g =
+      let z : length l ≡ n = rw e (simp (length-take, length-drop) (omega (arith, leb-true (at + n) (length s) t))) in
+      rw (t, ← e, counted-ill l (positive (length l) (λ y. absurd (h (sym z ∙ y)))) f g)
+
+  pub text-none : fitsIn s at n ≡ true → n ≡ 0 → taken (record { start = at; len = n; chars = 0 }) (at + n) ≡ textOf s at n
+  text-none t z = rw z (text-zero s at (rw z at t))
 
   pub text-short : fitsIn s at n ≡ false → refused Truncated ≡ textOf s at n
   unfolding textOf

@@ -16,7 +16,7 @@ use Rattle.le.proofs.Tests.{le-or-lt}
 use Rattle.le.proofs.Fields.{length-leBytes}
 use Rattle.text.specs.Utf8.{wellFormed}
 use Rattle.mvcc.specs.Answer.{Answer, taken, refused, then, many}
-use Rattle.mvcc.specs.Decode.{fitsIn, numAt, textOf, textAt, signed, realOf, integerAt, realAt, textValueAt, boolAt, vectorAt, taggedAt, valueAt, columnAt, presentAt, judgedAt, recordAt}
+use Rattle.mvcc.specs.Decode.{fitsIn, numAt, placeOf, textOf, textAt, signed, realOf, integerAt, realAt, textValueAt, boolAt, vectorAt, taggedAt, valueAt, columnAt, presentAt, judgedAt, recordAt}
 use Rattle.mvcc.specs.Batch.{Rec, present, all, encodeText, encodeValue, encodeColumn, encodeRecord, Each, GoodText, GoodValue, GoodColumn, GoodRow, GoodRecord}
 use Rattle.mvcc.specs.Seen.{bytesOf, words, seen, seenColumn, seenRow, seenRecord}
 use Rattle.mvcc.specs.declared.TextPlace.{TextPlace}
@@ -85,7 +85,7 @@ module _ (s : List ℕ) (sb : Bytes s) where
   TextOk k at = Ok (GoodText k) (encodeText k) (bytesOf s) s at
 
   text-good : (k at n next : ℕ) → Num k s at n next → next + n ≤ length s → wellFormed (take n (drop next s)) ≡ true
-      → TextOk k at (record { start = next; len = n }) (next + n)
+      → TextOk k at (placeOf s next n) (next + n)
   text-good k at n next p h w =
       let l : length (take n (drop next s)) ≡ n = simp (length-take, length-drop) (omega arith) in
       record {

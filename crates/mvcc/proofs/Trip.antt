@@ -18,7 +18,7 @@ use Rattle.le.specs.Choice.{pick}
 use Rattle.le.specs.Le.{leBytes}
 use Rattle.le.proofs.Fields.{length-leBytes}
 use Rattle.mvcc.specs.Answer.{Answer, taken, many}
-use Rattle.mvcc.specs.Decode.{textOf, textAt, signed, realOf, integerAt, realAt, textValueAt, boolAt, vectorAt, taggedAt, valueAt, columnAt, presentAt, judgedAt, recordAt}
+use Rattle.mvcc.specs.Decode.{placeOf, textOf, textAt, signed, realOf, integerAt, realAt, textValueAt, boolAt, vectorAt, taggedAt, valueAt, columnAt, presentAt, judgedAt, recordAt}
 use Rattle.mvcc.specs.Batch.{Val, null, integer, real, text, bool, vector, Col, Rec, tombstone, present, all, encodeText, encodeValue, encodeColumn, encodeRecord, Each, GoodText, GoodValue, GoodColumn, GoodRow, GoodColumns, GoodRecord}
 use Rattle.mvcc.specs.Seen.{bytesOf, words, seen, seenColumn, seenRow, seenRecord}
 use Rattle.mvcc.specs.declared.Value.the-variants as value
@@ -45,7 +45,7 @@ text-has k t {s} {at} g h =
     let b : Has s (at + k) t = has-after k (leBytes k (length t)) t (length-leBytes k (length t)) h in
     let r : at + k + length t ≤ length s = has-room t b in
     record {
-      item = record { start = at + k; len = length t };
+      item = placeOf s (at + k) (length t);
       is = rw (has-num k (length t) (g .small) l, le-leb (at + k + length t) (length s) r, has-part t b, g .utf8, add-assoc);
       same = has-part t b;
     }

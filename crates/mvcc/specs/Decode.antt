@@ -10,7 +10,7 @@ use lib.Ieee.{binary64, nanBits, ofBits}
 use Rattle.mvcc.specs.Batch.{headingSize}
 use Rattle.le.specs.Choice.{pick}
 use Rattle.le.specs.Le.{leOf, field}
-use Rattle.text.specs.Utf8.{wellFormed}
+use Rattle.text.specs.Utf8.{wellFormed, chars}
 use Rattle.refusal.specs.Refusal.{unless, answered}
 use Rattle.refusal.specs.declared.Refusal.{Refusal}
 use Rattle.refusal.specs.declared.Refusal.the-variants.{Short, Magic, Truncated, Tag, Text}
@@ -33,11 +33,15 @@ fitsIn s at n = leb (at + n) (length s)
 unfoldable pub numAt : ℕ → List ℕ → ℕ → Answer ℕ
 numAt k s at = pick (fitsIn s at k) (taken (field k at s) (at + k)) (refused Truncated)
 
+-- where n bytes of text stand, with "the number of Unicode scalar values" (document 02): "batch names and texts carry it along"
+abbrev pub placeOf : List ℕ → ℕ → ℕ → TextPlace
+placeOf s at n = record { start = at; len = n; chars = chars (take n (drop at s)) }
+
 -- n bytes of text
 unfoldable pub textOf : List ℕ → ℕ → ℕ → Answer TextPlace
 textOf s at n =
     pick (fitsIn s at n)
-    (pick (wellFormed (take n (drop at s))) (taken (record { start = at; len = n }) (at + n)) (refused Text))
+    (pick (wellFormed (take n (drop at s))) (taken (placeOf s at n) (at + n)) (refused Text))
     (refused Truncated)
 
 -- "Text: length (2), UTF-8"; a value's text has a length of 4 bytes

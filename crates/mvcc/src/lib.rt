@@ -22,11 +22,12 @@ pub const BATCH_BODY_SIZE: usize = 4096;
 // The leading bytes of a body, `MVCC0001`, as one number.
 pub const MVCC_BODY_MAGIC: u64 = 0x3130_3030_4343_564d;
 
-// Where a text stands in the body.
+// Where a text stands in the body, and its number of Unicode scalar values.
 #[repr(C)]
 pub struct TextPlace {
     pub start: usize,
     pub len: usize,
+    pub chars: usize,
 }
 
 // A column's value. A float is its bits: Nan has those of a NaN, Real every other one.
@@ -180,16 +181,33 @@ fn real_of(n: u64) -> Value
     }
 }
 
-// The text of n bytes from `at` on.
+// The text of n bytes from `at` on. The empty one needs no look.
 fn text_of(body: &[u8], at: usize, n: usize) -> TextField
     ensures { λ r. ⌜ textAnswer r ≡ textOf (now (body .entry)) at n ⌝ }
 {
     if le::fits_in(body.len(), at, n) {
-        let checked = text::from_utf8(le::part(body, at, n));
-        let text::Utf8::WellFormed = checked else {
+        if n == 0 {
+            return TextField::Taken(
+                TextPlace {
+                    start: at,
+                    len: n,
+                    chars: 0,
+                },
+                at + n,
+            );
+        }
+        let chars = text::count(le::part(body, at, n));
+        if chars == 0 {
             return TextField::Refused(Refusal::Text);
-        };
-        return TextField::Taken(TextPlace { start: at, len: n }, at + n);
+        }
+        return TextField::Taken(
+            TextPlace {
+                start: at,
+                len: n,
+                chars,
+            },
+            at + n,
+        );
     }
     TextField::Refused(Refusal::Truncated)
 }

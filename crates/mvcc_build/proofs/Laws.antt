@@ -18,11 +18,8 @@ use Rattle.le.specs.Choice.{pick, both}
 use Rattle.le.specs.Le.{Bytes, leBytes, put, store}
 use Rattle.le.proofs.Fields.{length-leBytes, leBytes-field}
 use Rattle.le.proofs.Stores.{put-all, put-next, length-put, set-put, put-more, store-put, store-next}
-use Rattle.text.specs.Utf8.{wellFormed, utf8Of}
-use Rattle.text.specs.declared.Utf8.{Utf8}
-use Rattle.text.specs.declared.Utf8.the-variants.{WellFormed, IllFormed}
+use Rattle.text.specs.Utf8.{wellFormed}
 use Rattle.mvcc.specs.Batch.{Val, null, integer, real, text, bool, vector, tombstone, present, all, encodeText, encodeValue, encodeColumn, encodeRecord, encodeBatch, encodeBody, padded}
-use Rattle.text.proofs.Answers.{well-is, ill-is}
 use Rattle.mvcc.proofs.Trip.{length-encodeText}
 use Rattle.mvcc.proofs.Sound.{words-length}
 use Rattle.mvcc.specs.Seen.{words}
@@ -35,12 +32,6 @@ use Rattle.refusal.specs.declared.Refusal.the-variants.{Area, Truncated, Text, 
 use Rattle.mvcc_build.specs.declared.Added.the-variants.{Done, Refused}
 
 -- ---- tests
-
-pub is-text : (l : List ℕ) {u : Utf8} → u ≡ utf8Of l → u ≡ WellFormed → wellFormed l ≡ true
-is-text l e f = well-is (wellFormed l) (sym e ∙ f)
-
-pub no-text : (l : List ℕ) {u : Utf8} → u ≡ utf8Of l → u ≡ IllFormed → wellFormed l ≡ false
-no-text l e f = ill-is (wellFormed l) (sym e ∙ f)
 
 -- what a test that was passed says
 pub within : {r : Bool} (n : ℕ) → r ≡ leb n 4096 → not r ≡ false → n ≤ 4096

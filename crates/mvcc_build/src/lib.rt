@@ -112,10 +112,7 @@ fn is_text(s: &[u8]) -> bool
     if is_short_ascii(s) {
         return true;
     }
-    let text::Utf8::WellFormed = text::from_utf8(s) else {
-        return false;
-    };
-    true
+    text::is_utf8(s)
 }
 
 // Stores the k lowest bytes of a number.

@@ -18,7 +18,7 @@ use Rattle.le.proofs.Tests.{le-or-lt}
 use Rattle.le.proofs.Fields.{field-one, length-leBytes, leBytes-field}
 use Rattle.text.specs.Utf8.{wellFormed}
 use Rattle.mvcc.specs.Answer.{Answer, taken, refused, then, many}
-use Rattle.mvcc.specs.Decode.{fitsIn, numAt, textOf, textAt, signed, realOf, integerAt, realAt, textValueAt, boolAt, vectorAt, taggedAt, valueAt, columnAt, presentAt, judgedAt, recordAt}
+use Rattle.mvcc.specs.Decode.{fitsIn, numAt, placeOf, textOf, textAt, signed, realOf, integerAt, realAt, textValueAt, boolAt, vectorAt, taggedAt, valueAt, columnAt, presentAt, judgedAt, recordAt}
 use Rattle.mvcc.specs.Batch.{all, encodeText, encodeValue, encodeColumn, encodeRecord}
 use Rattle.mvcc.specs.Seen.{bytesOf, seen, seenColumn, seenRow, seenRecord}
 use Rattle.mvcc.specs.declared.TextPlace.{TextPlace}
@@ -130,7 +130,7 @@ module _ (s : List ℕ) (sb : Bytes s) where
     stands : At s at (encodeText k (bytesOf s p)) next
     far : next ≡ at + (k + field k at s)
 
-  txt-good : (k at n next : ℕ) → Num k at n next → next + n ≤ length s → Txt k at (record { start = next; len = n }) (next + n)
+  txt-good : (k at n next : ℕ) → Num k at n next → next + n ≤ length s → Txt k at (placeOf s next n) (next + n)
   unfolding encodeText
   txt-good k at n next p h =
       let e : length (take n (drop next s)) ≡ n = simp (length-take, length-drop) (omega arith) in

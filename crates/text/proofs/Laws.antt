@@ -1,19 +1,21 @@
 -- What a walk over a text knows of the sequence at an index, and of a run of ASCII. Assumes nothing.
 use Prim.Native.Nat.{ℕ, zero, suc, _+_, _-_, _≤_, _<_}
-use mathlib.Core.Path.{_≡_, refl, sym, _∙_}
+use mathlib.Core.Path.{_≡_, refl, sym, ap, _∙_}
 use mathlib.Core.List.{List, [], _∷_}
 use mathlib.Core.Bool.{Bool, true, false, _&&_}
 use mathlib.Core.Logic.{⊎-elim}
-use native.Mathlib.Nat.{add-zero, eq-or-lt-of-le}
+use native.Mathlib.Nat.{add-zero, zero-add, eq-or-lt-of-le}
+use native.Mathlib.Numerals.{sub-one}
 use native.Mathlib.Omega.{arith}
-use borrow.Author.Tests.{lt-ltb, le-ltb, le-leb, lt-leb, leb-true}
-use lib.Dec.{leb, ltb}
+use borrow.Author.Tests.{lt-ltb, le-ltb, le-leb, lt-leb, leb-true, ne-eqb}
+use lib.Dec.{leb, ltb, eqb}
 use lib.ListN.{length, drop, getD, length-drop, drop-of-length-le}
 use lib.Seq.{drop-cons, drop-drop, getD-drop}
 use Rattle.le.specs.Choice.{pick}
-use Rattle.text.specs.Utf8.{two, three, four, size, sequenceSize, formedBehind, wellFormed, utf8Of}
+use Rattle.text.specs.Utf8.{two, three, four, size, sequenceSize, formedBehind, wellFormed, charsBehind, chars, utf8Of}
+use Rattle.text.specs.declared.Utf8.{Utf8}
 use Rattle.text.specs.declared.Utf8.the-variants.{WellFormed, IllFormed}
-use Rattle.text.specs.Walk.{Ascii, Passes}
+use Rattle.text.specs.Walk.{Ascii, Passes, numberBehind}
 
 -- ---- the size of the sequence at an index
 
@@ -77,10 +79,22 @@ after-drop [] (suc k) = refl
 after-drop (a ∷ s) zero = refl
 after-drop (a ∷ s) (suc k) = after-drop s k
 
-pub behind : (s : List ℕ) (n : ℕ) → size s ≡ suc n → wellFormed s ≡ wellFormed (drop (suc n) s)
-unfolding wellFormed formedBehind
-behind [] n e = refl
-behind (a ∷ s) n e = rw e (after-drop s n)
+count-drop : (s : List ℕ) (k : ℕ) → charsBehind s k ≡ charsBehind (drop k s) zero
+unfolding charsBehind
+count-drop [] zero = refl
+count-drop [] (suc k) = refl
+count-drop (a ∷ s) zero = refl
+count-drop (a ∷ s) (suc k) = count-drop s k
+
+-- s begins with a sequence, and t is what is behind it
+pub record Behind (s t : List ℕ) : Type 0 where
+  pub formed : wellFormed s ≡ wellFormed t
+  pub one : chars s ≡ suc (chars t)
+
+pub behind : (s : List ℕ) (n : ℕ) → size s ≡ suc n → Behind s (drop (suc n) s)
+unfolding wellFormed formedBehind chars charsBehind
+behind [] n e = absurd (omega (arith, size-le []))
+behind (a ∷ s) n e = record { formed = rw e (after-drop s n); one = rw (e, sub-one) (ap suc (count-drop s n)) }
 
 -- where no sequence is, the text is ill-formed; at its end it is well-formed
 no-sequence-cons : (a : ℕ) (s : List ℕ) → size (a ∷ s) ≡ 0 → wellFormed (a ∷ s) ≡ false
@@ -94,40 +108,101 @@ pub at-end : (s : List ℕ) (i : ℕ) → length s ≤ i → wellFormed (drop i 
 unfolding wellFormed formedBehind
 at-end s i h = rw (drop-of-length-le s h)
 
+none-left : (s : List ℕ) (i : ℕ) → length s ≤ i → chars (drop i s) ≡ 0
+unfolding chars charsBehind
+none-left s i h = rw (drop-of-length-le s h)
+
 -- ---- steps of a walk
 
 module _ {s : List ℕ} where
-  pub stay : {a : ℕ} → a ≤ length s → Passes s a a
-  stay h = record { on = omega arith; inside = h; same = refl }
+  pub stay : {a : ℕ} → a ≤ length s → Passes s a a 0
+  stay h = record { few = omega arith; inside = h; same = refl; count = omega arith }
 
-  pub then : {a b c : ℕ} → Passes s a b → Passes s b c → Passes s a c
-  then p q = record { on = omega arith; inside = q .inside; same = q .same ∙ p .same }
+  pub then : {a b c m n : ℕ} → Passes s a b m → Passes s b c n → Passes s a c (m + n)
+  then p q = record { few = omega arith; inside = q .inside; same = q .same ∙ p .same; count = omega arith }
 
-  -- what is known where a walk has come to is known where it began
-  pub told : {a b : ℕ} {t : Bool} → Passes s a b → wellFormed (drop b s) ≡ t → pick t WellFormed IllFormed ≡ utf8Of (drop a s)
-  told p e = rw (← p .same, e)
+  -- the same numbers told otherwise
+  pub told : {a b c m n : ℕ} → Passes s a b m → b ≡ c → m ≡ n → Passes s a c n
+  told p e f = rw (← e, ← f) p
 
-by-size : (s : List ℕ) (a n : ℕ) → a ≤ length s → n ≡ size (drop a s) → wellFormed (drop (a + n) s) ≡ wellFormed (drop a s)
-by-size s a zero h e = rw add-zero
-by-size s a (suc n) h e = rw (← drop-drop (suc n) a s) (sym (behind (drop a s) n (sym e)))
+  -- the text's end, and a place where no sequence is, decide
+  pub well : (k : ℕ) {a b n m : ℕ} → Passes s a b n → length s ≤ b → m ≡ k + n → m ≡ numberBehind k (drop a s)
+  well k {a} {b} p h e =
+      let f : wellFormed (drop a s) ≡ true = sym (p .same) ∙ at-end s b h in
+      rw f (omega (arith, p .count, none-left s b h, e))
 
-pub over-sequence : (s : List ℕ) (a : ℕ) {n : ℕ} → a ≤ length s → n ≡ size (drop a s) → Passes s a (a + n)
-over-sequence s a {n} h e =
-    record { on = omega arith; inside = omega (arith, rw length-drop at (size-le (drop a s))); same = by-size s a n h e }
+  pub ill : (k : ℕ) {a b n : ℕ} → Passes s a b n → b < length s → 0 ≡ size (drop b s) → 0 ≡ numberBehind k (drop a s)
+  ill k {b = b} p h e = rw (← p .same, no-sequence s b h e)
+
+  -- what is left behind a walk from the start on
+  pub left : {b n : ℕ} → Passes s 0 b n → numberBehind n (drop b s) ≡ numberBehind 0 s
+  left p = rw (p .same, ← p .count, zero-add)
+
+-- ---- the answer by the number: a text that is not empty has one, and it is not 0
+
+pub some-chars : (s : List ℕ) → 0 < length s → 0 < chars s
+unfolding chars charsBehind
+some-chars [] h = absurd (omega arith)
+some-chars (a ∷ s) h = omega arith
+
+by-number : (s : List ℕ) (b : Bool) → wellFormed s ≡ b → 0 < length s → pick (eqb (pick b (0 + chars s) 0) 0) IllFormed (WellFormed (pick b (0 + chars s) 0)) ≡ pick b (WellFormed (chars s)) IllFormed
+by-number s true e h = rw (zero-add, ne-eqb (chars s) 0 (λ z. absurd (omega (arith, some-chars s h))))
+by-number s false e h = refl
+
+pub answered : (s : List ℕ) {n : ℕ} {u : Utf8} → 0 < length s → n ≡ numberBehind 0 s → u ≡ pick (eqb n 0) IllFormed (WellFormed n) → u ≡ utf8Of s
+answered s h e f = f ∙ rw e (by-number s (wellFormed s) refl h)
+
+-- a number that is not 0 is a text's
+above : (s : List ℕ) {n : ℕ} (b : Bool) → wellFormed s ≡ b → 0 < n → n ≡ pick b (0 + chars s) 0 → WellFormed n ≡ pick b (WellFormed (chars s)) IllFormed
+above s true e h f = ap WellFormed (omega (arith, f))
+above s false e h f = absurd (omega arith)
+
+pub numbered : (s : List ℕ) {n : ℕ} → 0 < n → n ≡ numberBehind 0 s → WellFormed n ≡ utf8Of s
+numbered s h f = above s (wellFormed s) refl h f
+
+-- so it tells whether the text is well-formed
+tells : (s : List ℕ) {n : ℕ} (b : Bool) → wellFormed s ≡ b → 0 < length s → n ≡ pick b (chars s) 0 → ltb 0 n ≡ b
+tells s {n} true e h f = lt-ltb 0 n (omega (arith, f, some-chars s h))
+tells s {n} false e h f = le-ltb 0 n (omega (arith, f))
+
+-- the number of a text from its start on
+pub from-start : (s : List ℕ) {n : ℕ} → n ≡ numberBehind 0 s → n ≡ pick (wellFormed s) (chars s) 0
+from-start s e = e ∙ rw zero-add
+
+pub told-by : (s : List ℕ) {n : ℕ} → 0 < length s → n ≡ pick (wellFormed s) (chars s) 0 → ltb 0 n ≡ wellFormed s
+told-by s h f = tells s (wellFormed s) refl h f
+
+pub empty-text : (s : List ℕ) → length s ≡ 0 → true ≡ wellFormed s
+empty-text s e = sym (at-end s 0 (omega arith))
+
+-- a text of one-byte sequences alone
+pub plain : (s : List ℕ) {n : ℕ} → Passes s 0 n n → n ≡ length s → WellFormed n ≡ utf8Of s
+plain s {n} p e =
+    let f : wellFormed s ≡ true = sym (p .same) ∙ at-end s n (omega arith) in
+    let g : n ≡ chars s = omega (arith, p .count, none-left s n (omega arith)) in
+    rw (f, ← g)
+
+by-size : (s : List ℕ) (a n : ℕ) → suc n ≡ size (drop a s) → Behind (drop a s) (drop (a + suc n) s)
+by-size s a n e = rw (← drop-drop (suc n) a s) (behind (drop a s) n (sym e))
+
+pub over-sequence : (s : List ℕ) (a n : ℕ) → a ≤ length s → 0 < n → n ≡ size (drop a s) → Passes s a (a + n) 1
+over-sequence s a zero h l e = absurd (omega arith)
+over-sequence s a (suc n) h l e =
+    let b = by-size s a n e in
+    record { few = omega arith; inside = omega (arith, rw length-drop at (size-le (drop a s))); same = sym (b .formed); count = omega (arith, b .one) }
 
 -- a run of ASCII, the last byte of it first
-run : (s : List ℕ) (a n : ℕ) → a + n ≤ length s → Ascii s a (a + n) → wellFormed (drop (a + n) s) ≡ wellFormed (drop a s)
-run s a zero h f = rw add-zero
+run : (s : List ℕ) (a n : ℕ) → a + n ≤ length s → Ascii s a (a + n) → Passes s a (a + n) n
+run s a zero h f = told (stay (omega arith)) (omega arith) refl
 run s a (suc n) h f =
     let i : a + n < length s = omega arith in
-    let e = by-size s (a + n) 1 (omega arith) (size-one s (a + n) i (f (a + n) (omega arith) (omega arith))) in
-    let g : a + suc n ≡ a + n + 1 = omega arith in
-    rw g e ∙ run s a n (omega arith) (λ k l m. f k l (omega arith))
+    let p = run s a n (omega arith) (λ k l m. f k l (omega arith)) in
+    let q = over-sequence s (a + n) 1 (omega arith) (omega arith) (size-one s (a + n) i (f (a + n) (omega arith) (omega arith))) in
+    told (then p q) (omega arith) (omega arith)
 
-pub over-ascii : (s : List ℕ) {a b : ℕ} (i j : ℕ) → Ascii s a b → a ≤ i → i ≤ j → j ≤ b → j ≤ length s → Passes s i j
+pub over-ascii : (s : List ℕ) {a b : ℕ} (i j : ℕ) → Ascii s a b → a ≤ i → i ≤ j → j ≤ b → j ≤ length s → Passes s i j (j - i)
 over-ascii s i j f l m n h =
-    let e : i + (j - i) ≡ j = omega arith in
-    record { on = m; inside = h; same = rw e at (run s i (j - i) (rw e h) (rw e (λ k p q. f k (omega arith) (omega arith)))) }
+    told (run s i (j - i) (omega arith) (λ k p q. f k (omega arith) (omega arith))) (omega arith) refl
 
 -- one byte more of a run
 pub ascii-more : (s : List ℕ) (a n : ℕ) → Ascii s a (a + n) → getD s (a + n) 0 < 0x80 → Ascii s a (a + (n + 1))

@@ -1,3 +1,4 @@
 pub mod Table
 pub mod Utf8
+pub mod Agrees
 pub mod Walk

@@ -1,5 +1,5 @@
--- Well-formed UTF-8, computed, sequence by sequence; the answer that from_utf8 gives; and its number in document 01.
-use Prim.Native.Nat.{ℕ, zero, suc, _+_, _*_}
+-- Well-formed UTF-8 and its number of scalar values, computed, sequence by sequence; the answer that from_utf8 gives; and its number in document 01.
+use Prim.Native.Nat.{ℕ, zero, suc, _+_, _-_, _*_}
 use mathlib.Core.List.{List, [], _∷_}
 use mathlib.Core.Bool.{Bool, true, false, _&&_, _||_}
 use lib.Dec.{leb, ltb}
@@ -58,10 +58,21 @@ formedBehind (a ∷ s) (suc k) = formedBehind s k
 unfoldable pub wellFormed : List ℕ → Bool
 wellFormed s = formedBehind s 0
 
+-- the number of sequences of s after its first k bytes; it is asked of well-formed texts alone
+unfoldable pub charsBehind : List ℕ → ℕ → ℕ
+charsBehind [] k = 0
+charsBehind (a ∷ s) zero = suc (charsBehind s (size (a ∷ s) - 1))
+charsBehind (a ∷ s) (suc k) = charsBehind s k
+
+-- "The text check now also gives the number of Unicode scalar values"
+unfoldable pub chars : List ℕ → ℕ
+chars s = charsBehind s 0
+
+-- a well-formed text's number; an ill-formed text has none
 abbrev pub utf8Of : List ℕ → Utf8
-utf8Of s = pick (wellFormed s) WellFormed IllFormed
+utf8Of s = pick (wellFormed s) (WellFormed (chars s)) IllFormed
 
 -- document 01's number: 0 for a result, 19 for a text that is not UTF-8
 abbrev pub utf8Refusal : Utf8 → ℕ
-utf8Refusal WellFormed = 0
+utf8Refusal (WellFormed n) = 0
 utf8Refusal IllFormed = 19

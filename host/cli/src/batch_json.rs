@@ -14,7 +14,7 @@ fn record(record: Record) -> Json {
     let columns = record.columns.map(|columns| Json::list(columns.map(column)));
     Json::object([
         ("op", op.into()),
-        ("table", record.table.into()),
+        ("table", record.table.as_str().into()),
         ("rowid", record.rowid.into()),
         ("columns", columns.into()),
     ])
@@ -22,7 +22,7 @@ fn record(record: Record) -> Json {
 
 fn column(column: Column) -> Json {
     let (kind, value, bits) = value(column.value);
-    let named = [("name", column.name.into()), ("kind", kind.into()), ("value", value)];
+    let named = [("name", column.name.as_str().into()), ("kind", kind.into()), ("value", value)];
     Json::object(named.into_iter().chain(bits.map(|bits| ("bits", bits))))
 }
 
@@ -32,7 +32,7 @@ fn value(value: Value) -> (&'static str, Json, Option<Json>) {
         Value::Null => ("null", None::<u32>.into(), None),
         Value::Integer(n) => ("integer", n.into(), None),
         Value::Real(x) => ("real", Json::real(x), Some(Json::text(&format!("{:016x}", x.to_bits())))),
-        Value::Text(text) => ("text", text.into(), None),
+        Value::Text(text) => ("text", text.as_str().into(), None),
         Value::Bool(flag) => ("bool", flag.into(), None),
         Value::Vector(vector) => {
             let bits = vector.elements().map(|x| Json::text(&format!("{:08x}", x.to_bits())));

@@ -15,9 +15,9 @@ pub fn print(batch: &Batch) -> String {
 
 fn print_record(text: &mut String, record: &Record) {
     let word = if record.columns.is_some() { "present" } else { "tombstone" };
-    let _ = writeln!(text, "{word} {} {}", quoted(record.table), record.rowid);
+    let _ = writeln!(text, "{word} {} {}", quoted(&record.table), record.rowid);
     for column in record.columns.into_iter().flatten() {
-        let _ = writeln!(text, "  column {} {}", quoted(column.name), value_text(column.value));
+        let _ = writeln!(text, "  column {} {}", quoted(&column.name), value_text(column.value));
     }
 }
 
@@ -27,7 +27,7 @@ fn value_text(value: Value) -> String {
         Value::Integer(n) => format!("integer {n}"),
         Value::Real(x) if x.is_nan() => format!("real 0x{:016x}", x.to_bits()),
         Value::Real(x) => format!("real {x:?}"),
-        Value::Text(text) => format!("text {}", quoted(text)),
+        Value::Text(text) => format!("text {}", quoted(&text)),
         Value::Bool(flag) => format!("bool {flag}"),
         Value::Vector(vector) => vector
             .elements()
@@ -111,7 +111,7 @@ fn add_column(batch: &mut BatchBuilder, name: &str, kind: &str, values: &[Token]
         ("null", []) => Value::Null,
         ("integer", [Token::Word(n)]) => Value::Integer(parsed(n)?),
         ("real", [Token::Word(x)]) => Value::Real(real(x)?),
-        ("text", [Token::Quoted(text)]) => Value::Text(text),
+        ("text", [Token::Quoted(text)]) => text.as_str().into(),
         ("bool", [Token::Word(flag)]) => Value::Bool(parsed(flag)?),
         ("vector", elements) => {
             bytes = Vector::bytes_of(&elements.iter().map(element).collect::<Result<Vec<f32>, Failure>>()?);
@@ -271,7 +271,7 @@ mod tests {
                 0 => Value::Null,
                 1 => Value::Integer(self.next() as i64),
                 2 => Value::Real(f64::from_bits(self.next() | (self.below(2) * (0x7ff0 << 48)))),
-                3 => Value::Text(&text),
+                3 => text.as_str().into(),
                 4 => Value::Bool(self.below(2) == 1),
                 _ => Value::Vector(Vector(&bits)),
             };

@@ -1,5 +1,5 @@
 //! Batches: walking one in its bytes, and building one.
-use crate::Refusal;
+use crate::{Refusal, Text};
 use lateenbael_sys as sys;
 use std::fmt;
 use sys::PAGE_SIZE;
@@ -18,7 +18,7 @@ pub struct Batch<'a> {
 #[derive(Clone, Copy, Debug, PartialEq)]
 pub struct Record<'a> {
     /// The table's name.
-    pub table: &'a str,
+    pub table: Text<'a>,
     /// The row's number.
     pub rowid: i64,
     /// None: a tombstone.
@@ -37,7 +37,7 @@ pub struct Columns<'a> {
 #[derive(Clone, Copy, Debug, PartialEq)]
 pub struct Column<'a> {
     /// Its name.
-    pub name: &'a str,
+    pub name: Text<'a>,
     /// Its value.
     pub value: Value<'a>,
 }
@@ -53,7 +53,7 @@ pub enum Value<'a> {
     /// A float, exact on bits.
     Real(f64),
     /// A text.
-    Text(&'a str),
+    Text(Text<'a>),
     /// A truth value.
     Bool(bool),
     /// A vector of floats.
@@ -74,6 +74,12 @@ impl From<f64> for Value<'_> {
 
 impl<'a> From<&'a str> for Value<'a> {
     fn from(value: &'a str) -> Self {
+        Value::Text(value.into())
+    }
+}
+
+impl<'a> From<Text<'a>> for Value<'a> {
+    fn from(value: Text<'a>) -> Self {
         Value::Text(value)
     }
 }
@@ -108,8 +114,8 @@ impl<'a> Vector<'a> {
     }
 }
 
-fn text_at(body: &[u8], place: sys::TextPlace) -> &str {
-    std::str::from_utf8(&body[place.start..][..place.len]).expect("a decoded text is UTF-8")
+fn text_at(body: &[u8], place: sys::TextPlace) -> Text<'_> {
+    Text::checked(&body[place.start..][..place.len], place.chars)
 }
 
 fn value_at(body: &[u8], value: sys::Value) -> Value<'_> {

@@ -53,6 +53,7 @@ mod salts;
 mod settle;
 mod snapshot;
 mod store;
+mod text;
 
 pub use batch::{Batch, BatchBuilder, Column, Columns, Record, Value, Vector};
 pub use disk::{Comparison, Disk};
@@ -70,6 +71,7 @@ pub use refusal::Refusal;
 pub use salts::{Salts, salts_of_the_clock};
 pub use snapshot::{Page, Snapshot, SnapshotError};
 pub use store::Store;
+pub use text::Text;
 
 /// The crate's version.
 pub const VERSION: &str = env!("CARGO_PKG_VERSION");

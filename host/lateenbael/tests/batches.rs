@@ -14,10 +14,10 @@ fn there_and_back(columns: &[(&str, Value)]) {
     let walked = Batch::decode(batch.body()).unwrap();
     assert_eq!((walked.commit_ts(), walked.record_count()), (u64::MAX, 2));
     let records: Vec<Record> = walked.records().collect();
-    assert_eq!((records[0].table, records[0].rowid), ("cabins", i64::MIN));
+    assert_eq!((records[0].table.as_str(), records[0].rowid), ("cabins", i64::MIN));
     assert!(records[0].columns.is_none());
-    assert_eq!((records[1].table, records[1].rowid), ("Kabinen, grün", -7));
-    let found: Vec<(&str, Value)> = records[1].columns.unwrap().map(|c| (c.name, c.value)).collect();
+    assert_eq!((records[1].table.as_str(), records[1].rowid), ("Kabinen, grün", -7));
+    let found: Vec<(&str, Value)> = records[1].columns.unwrap().map(|c| (c.name.as_str(), c.value)).collect();
     assert_eq!(found, columns);
 }
 
@@ -28,8 +28,8 @@ fn every_kind_of_value_comes_back() {
         ("nothing", Value::Null),
         ("least", Value::Integer(i64::MIN)),
         ("real", Value::Real(-0.1)),
-        ("", Value::Text("")),
-        ("text", Value::Text("Änne \u{10FFFF}")),
+        ("", "".into()),
+        ("text", "Änne \u{10FFFF}".into()),
         ("yes", Value::Bool(true)),
         ("no", Value::Bool(false)),
         ("vector", Value::Vector(Vector(&elements))),
@@ -59,7 +59,7 @@ fn refused_additions_leave_the_batch() {
     batch.begin_present("t", 1).unwrap();
     let before = *batch.body();
     assert_eq!(batch.add_column("torn", Value::Vector(Vector(&[1, 2, 3]))), Err(Refusal::Truncated));
-    assert_eq!(batch.add_column("long", Value::Text(&"x".repeat(4096))), Err(Refusal::Fit));
+    assert_eq!(batch.add_column("long", "x".repeat(4096).as_str().into()), Err(Refusal::Fit));
     assert_eq!(batch.body(), &before);
     batch.add_column("fits", Value::Null).unwrap();
     batch.add_tombstone("t", 2).unwrap();

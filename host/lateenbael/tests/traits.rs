@@ -1,6 +1,6 @@
 //! What a Rust user expects of the crate's types.
 use lateenbael::{
-    Area, Batch, BatchBuilder, DbHeader, Engine, Error, Files, Mode, OpenOptions, PowerCut, Refusal, Snapshot, Store, Value, Vector,
+    Area, Batch, BatchBuilder, DbHeader, Engine, Error, Files, Mode, OpenOptions, PowerCut, Refusal, Snapshot, Store, Text, Value, Vector,
 };
 use std::collections::HashSet;
 use std::fmt::Debug;
@@ -15,6 +15,7 @@ fn types_go_between_threads_and_show_themselves() {
     is_shared::<Error>();
     is_shared::<BatchBuilder>();
     is_shared::<Batch<'static>>();
+    is_shared::<Text<'static>>();
     is_shared::<OpenOptions>();
 }
 
@@ -27,6 +28,7 @@ fn values_come_from_plain_ones() {
         5.into(),
         0.5.into(),
         "x".into(),
+        Text::from("ü").into(),
         true.into(),
         Vector(&elements).into(),
         Value::default(),

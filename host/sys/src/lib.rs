@@ -17,7 +17,7 @@
 #![warn(missing_docs)]
 
 /// The version of these declarations, major * 1,000,000 + minor * 1,000 + patch; [`lateenbael_version`] is the archive's.
-pub const VERSION: u32 = 2000;
+pub const VERSION: u32 = 3000;
 /// A page's bytes.
 pub const PAGE_SIZE: usize = 4096;
 /// A page's frame in the log: 16 bytes of heading, and the page.
@@ -304,7 +304,7 @@ pub struct ListAnswer {
     pub len: usize,
 }
 
-/// Bytes of the body.
+/// Bytes of the body; of a text also how many characters, Unicode scalar values, they are.
 #[repr(C)]
 #[derive(Clone, Copy, Debug, PartialEq, Eq)]
 pub struct TextPlace {
@@ -312,6 +312,18 @@ pub struct TextPlace {
     pub start: usize,
     /// How many bytes; of a vector how many elements.
     pub len: usize,
+    /// How many characters; of a vector, and where there is no place, 0.
+    pub chars: usize,
+}
+
+/// A text by itself.
+#[repr(C)]
+#[derive(Clone, Copy, Debug, PartialEq, Eq)]
+pub struct TextAnswer {
+    /// A refusal, or 0.
+    pub refusal: u32,
+    /// How many characters; beside a refusal 0.
+    pub chars: usize,
 }
 
 /// A whole batch; the first record stands at 18.
@@ -663,6 +675,8 @@ unsafe extern "C" {
     pub fn lateenbael_mvcc_decode_column(body: *const u8, body_len: usize, at: usize) -> Column;
     /// The value at a place of the body. Refusals 17 to 19.
     pub fn lateenbael_mvcc_decode_value(body: *const u8, body_len: usize, at: usize) -> ValueAnswer;
+    /// Whether bytes are UTF-8, and how many characters they are. Refusal 19.
+    pub fn lateenbael_from_utf8(text: *const u8, text_len: usize) -> TextAnswer;
     /// Element `i` of the vector whose place is `start` and `count`.
     pub fn lateenbael_mvcc_vector_bits(body: *const u8, body_len: usize, start: usize, count: usize, i: usize) -> Element;
     /// Writes the body that encoding the batch gives, of 4,096 bytes. Refusals 1, 2, 3, 17 to 19.

@@ -22,7 +22,7 @@ fn functions(text: &str) -> BTreeSet<&str> {
 #[test]
 fn the_functions_are_the_same() {
     assert_eq!(functions(HEADER), functions(DECLARATIONS));
-    assert_eq!(functions(HEADER).len(), 51);
+    assert_eq!(functions(HEADER).len(), 52);
 }
 
 #[test]
@@ -105,6 +105,7 @@ fn the_structs_have_the_sizes_that_c_checks() {
         ("frame_answer", size_of::<sys::FrameAnswer>()),
         ("list_answer", size_of::<sys::ListAnswer>()),
         ("text_place", size_of::<sys::TextPlace>()),
+        ("text_answer", size_of::<sys::TextAnswer>()),
         ("batch", size_of::<sys::Batch>()),
         ("record", size_of::<sys::Record>()),
         ("value", size_of::<sys::Value>()),

@@ -1,7 +1,6 @@
 //! Document 01's text about batches, reckoned without the Rust's help.
 
 use crate::hex;
-use crate::utf8::table::is_well_formed;
 
 /// The answer to a body.
 pub fn listed(body: &[u8]) -> String {
@@ -85,7 +84,7 @@ impl<'a> Reader<'a> {
     fn text(&mut self, width: u64) -> Read<String> {
         let length = self.number(width)?;
         let bytes = self.bytes(length)?;
-        if !is_well_formed(bytes) {
+        if characters::count(bytes).is_none() {
             return Err(19);
         }
         Ok(if bytes.is_empty() {

@@ -170,6 +170,67 @@ pub fn scripts(cases: &mut Cases) {
     }
 }
 
+pub fn unlike_signs(cases: &mut Cases) {
+    for text in UNLIKE_SIGNS {
+        cases.add(*text);
+    }
+    for count in [1, 7, 8, 9, 17] {
+        cases.add(vec![0; count]);
+    }
+}
+
+/// Texts of which a panel shows other signs than they have characters, and
+/// names of cabins.
+const UNLIKE_SIGNS: &[&str] = &[
+    // byte order marks
+    "\u{feff}",
+    "\u{feff}\u{feff}a",
+    // noncharacters
+    "\u{fdd0}",
+    "\u{fdef}",
+    "\u{fffe}",
+    "\u{ffff}",
+    "\u{1fffe}",
+    "\u{1ffff}",
+    "\u{10fffe}",
+    "\u{10ffff}",
+    // combining marks: alone, behind a letter, many behind one
+    "\u{301}",
+    "e\u{301}",
+    "é",
+    "a\u{300}\u{301}\u{302}\u{303}\u{304}\u{305}\u{306}\u{307}\u{308}\u{309}",
+    "क्षि",
+    // emoji joined, and with a skin's colour
+    "👩\u{200d}👩\u{200d}👧\u{200d}👦",
+    "🧑🏽\u{200d}🚒",
+    "👍🏽",
+    // flags: by letters and by tags
+    "🇨🇭",
+    "🇨🇭🇦🇹🇮🇹",
+    "🏴\u{e0067}\u{e0062}\u{e0073}\u{e0063}\u{e0074}\u{e007f}",
+    // Hangul: three jamo, and their syllable
+    "\u{1112}\u{1161}\u{11ab}",
+    "한",
+    // variation selectors
+    "☎\u{fe0e}",
+    "☎\u{fe0f}",
+    "葛\u{e0100}",
+    // what takes no place, or a line's end
+    "\r\n",
+    "\u{ad}",
+    "\u{200b}\u{200d}\u{2060}",
+    // cabins
+    "Süd",
+    "Gondel 7 – Süd",
+    "Télécabine",
+    "Łomnica 12",
+    "Kabína č. 3",
+    "Καμπίνα 4",
+    "кабина",
+    "缆车 8",
+    "🚡 1",
+];
+
 pub const SCRIPTS: &[&str] = &[
     "The quick brown fox jumps over the lazy dog.",
     "Façade, naïveté, œuvre, señor, Straße, Łódź, Ærøskøbing",

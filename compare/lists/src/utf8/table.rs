@@ -1,40 +1,9 @@
 //! Cases around the Unicode Standard's table 3-7, well-formed UTF-8 byte
 //! sequences.
 
+use characters::TABLE_3_7;
+
 use crate::cases::Cases;
-
-/// A row for each kind of sequence, in it each byte's lowest and highest.
-pub const TABLE_3_7: [&[(u8, u8)]; 9] = [
-    &[(0x00, 0x7f)],
-    &[(0xc2, 0xdf), (0x80, 0xbf)],
-    &[(0xe0, 0xe0), (0xa0, 0xbf), (0x80, 0xbf)],
-    &[(0xe1, 0xec), (0x80, 0xbf), (0x80, 0xbf)],
-    &[(0xed, 0xed), (0x80, 0x9f), (0x80, 0xbf)],
-    &[(0xee, 0xef), (0x80, 0xbf), (0x80, 0xbf)],
-    &[(0xf0, 0xf0), (0x90, 0xbf), (0x80, 0xbf), (0x80, 0xbf)],
-    &[(0xf1, 0xf3), (0x80, 0xbf), (0x80, 0xbf), (0x80, 0xbf)],
-    &[(0xf4, 0xf4), (0x80, 0x8f), (0x80, 0xbf), (0x80, 0xbf)],
-];
-
-/// Whether bytes are sequences of the table, row by row, without the Rust's
-/// help.
-#[cfg(test)]
-pub fn is_well_formed(mut bytes: &[u8]) -> bool {
-    let fits = |row: &[(u8, u8)], bytes: &[u8]| {
-        row.len() <= bytes.len()
-            && row
-                .iter()
-                .zip(bytes)
-                .all(|((low, high), byte)| (low..=high).contains(&byte))
-    };
-    while !bytes.is_empty() {
-        let Some(row) = TABLE_3_7.iter().find(|row| fits(row, bytes)) else {
-            return false;
-        };
-        bytes = &bytes[row.len()..];
-    }
-    true
-}
 
 fn lowest(row: &[(u8, u8)]) -> Vec<u8> {
     row.iter().map(|(low, _)| *low).collect()
@@ -61,6 +30,18 @@ pub fn borders(cases: &mut Cases) {
                     cases.add(sequence);
                 }
             }
+        }
+    }
+}
+
+/// Each row's first and last character: alone, behind a letter and before
+/// one.
+pub fn whole(cases: &mut Cases) {
+    for row in TABLE_3_7 {
+        for good in [lowest(row), highest(row)] {
+            cases.add([b"a", &good[..]].concat());
+            cases.add([&good[..], b"a"].concat());
+            cases.add(good);
         }
     }
 }

@@ -1,4 +1,5 @@
-//! A batch printed by the port's own decoders, through the C interface.
+//! A batch printed by the port's own decoders, through the C interface. What
+//! is printed has no number of characters, so each is looked at here.
 
 use lateenbael::sys;
 use lists::hex;
@@ -74,6 +75,9 @@ fn record(body: &[u8], index: usize, at: usize, lines: &mut Vec<String>) -> usiz
 }
 
 fn value(body: &[u8], value: &sys::Value) -> String {
+    if value.tag != 3 {
+        assert_eq!(value.place.chars, 0, "characters of a value that is none");
+    }
     match value.tag {
         0 => "null".to_string(),
         1 => format!("integer {}", value.integer),
@@ -100,9 +104,71 @@ fn element(body: &[u8], vector: sys::TextPlace, index: usize) -> String {
     }
 }
 
+/// A text, whose place carries the number that the Standard's rule gives.
 fn text(body: &[u8], place: sys::TextPlace) -> String {
-    match &body[place.start..place.start + place.len] {
+    let bytes = &body[place.start..place.start + place.len];
+    let digits = hex::digits(bytes);
+    let rule = characters::count(bytes);
+    assert_eq!(Some(place.chars), rule, "characters of the text {digits}");
+    match bytes {
         [] => "-".to_string(),
-        bytes => hex::digits(bytes),
+        _ => digits,
+    }
+}
+
+#[cfg(test)]
+mod tests {
+    use super::*;
+    use lists::batch::body::{Body, Value};
+
+    /// A row with wide characters in all three places, as the Rust prints it.
+    #[test]
+    fn a_batch_with_wide_characters_is_printed() {
+        let row = Body::new(9, 1).present("Süd", -1, 2);
+        let row = row.column("–", Value::Text("🚡 7".as_bytes()));
+        let row = row.column("", Value::Vector(&[0]));
+        let lines = printed(row.as_ref()).lines;
+        let wanted = [
+            "batch 9 1",
+            "record 0 present 53c3bc64 -1 2",
+            "column 0 e28093 text f09f9aa12037",
+            "column 1 - vector 1 00000000",
+        ];
+        assert_eq!(lines[..4], wanted);
+    }
+
+    /// The front of a body as a value of that tag, with so many characters.
+    fn with_number(tag: u32, len: usize, chars: usize) -> String {
+        let place = sys::TextPlace {
+            start: 0,
+            len,
+            chars,
+        };
+        let of = sys::Value {
+            tag,
+            flag: 0,
+            integer: 0,
+            bits: 0,
+            place,
+        };
+        value("Süd".as_bytes(), &of)
+    }
+
+    #[test]
+    fn the_right_number_passes() {
+        assert_eq!(with_number(3, 4, 3), "text 53c3bc64");
+        assert_eq!(with_number(5, 1, 0), "vector 1 64bcc353");
+    }
+
+    #[test]
+    #[should_panic(expected = "characters of the text 53c3bc64")]
+    fn the_number_of_bytes_is_a_difference() {
+        with_number(3, 4, 4);
+    }
+
+    #[test]
+    #[should_panic(expected = "characters of a value that is none")]
+    fn a_vector_has_no_characters() {
+        with_number(5, 1, 1);
     }
 }

@@ -2,10 +2,25 @@
 
 use engine::sql::pager::header::DbHeader;
 use lists::batch::at_random;
+use lists::batch::body::{Body, Value};
 
 use super::Draw;
 use crate::call::Call;
 use crate::spec::Spec;
+
+/// Characters of one to four bytes.
+const NAMES: [&str; 10] = [
+    "Gondel 7 – Süd",
+    "Télécabine",
+    "Łomnica",
+    "кабина",
+    "缆车",
+    "🚡",
+    "e\u{301}",
+    "\0",
+    "plain letters",
+    "\u{feff}",
+];
 
 impl Draw {
     /// A page to stage or read, mostly below the count.
@@ -70,8 +85,23 @@ impl Draw {
             3 => vec![0; self.random.pick(&[0, 18, 4_096])],
             4 => self.random.bytes(4_097),
             5 => tombstones(self.random.pick(&[369, 370, 371])),
+            6 | 7 => self.named_row(),
             way => at_random::bytes(&mut self.random, way % 6),
         }
+    }
+
+    /// A row whose names and text have characters of every length.
+    fn named_row(&mut self) -> Vec<u8> {
+        let [table, column, text] = [(); 3].map(|()| self.name());
+        let row = Body::new(self.random.u64(), 1).present(table, 7, 1);
+        let row = row.column(column, Value::Text(text.as_bytes()));
+        row.as_ref().to_vec()
+    }
+
+    /// Names in a row, some for a long text; three of these fit a body.
+    fn name(&mut self) -> String {
+        let count = self.random.pick(&[0, 1, 1, 2, 5, 60]);
+        (0..count).map(|_| self.random.pick(&NAMES)).collect()
     }
 
     pub(super) fn batch(&mut self) -> Call {
@@ -91,4 +121,48 @@ fn tombstones(count: u16) -> Vec<u8> {
     body.resize(18 + 11 * usize::from(count), 0);
     body.truncate(4_096);
     body
+}
+
+#[cfg(test)]
+mod tests {
+    use super::*;
+    use std::collections::BTreeSet;
+
+    use engine::mvcc::{MvccCommitBatch, VersionPayload};
+    use engine::sql::db::table;
+
+    /// Where a batch has a text with characters of so many bytes.
+    fn widths(batch: &MvccCommitBatch) -> BTreeSet<(&'static str, usize)> {
+        let mut texts = Vec::new();
+        for record in &batch.records {
+            texts.push(("table", &record.row.table));
+            let VersionPayload::Present(columns) = &record.payload else {
+                continue;
+            };
+            for (name, value) in columns {
+                texts.push(("column", name));
+                if let table::Value::Text(text) = value {
+                    texts.push(("text", text));
+                }
+            }
+        }
+        let width = |(place, text): (_, &String)| {
+            let widths: Vec<_> = text.chars().map(|c| (place, c.len_utf8())).collect();
+            widths
+        };
+        texts.into_iter().flat_map(width).collect()
+    }
+
+    /// Each length of a character in each place that a text has.
+    #[test]
+    fn texts_have_characters_of_every_length() {
+        let mut draw = Draw::new(1);
+        let mut found = BTreeSet::new();
+        for _ in 0..500 {
+            if let Ok(batch) = MvccCommitBatch::decode(&draw.body()) {
+                found.extend(widths(&batch));
+            }
+        }
+        assert_eq!(found.len(), 3 * 4, "{found:?}");
+    }
 }

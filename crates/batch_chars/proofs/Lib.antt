@@ -1,0 +1,2 @@
+-- The root of the laws of `batch_chars`.
+pub mod BatchChars

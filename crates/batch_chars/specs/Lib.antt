@@ -1,0 +1,2 @@
+-- The root of the statement on the numbers of characters that batches carry.
+pub mod BatchChars

@@ -1,0 +1,1 @@
+// The numbers of characters that batches carry, over histories: see specs/BatchChars.antt.
