@@ -385,17 +385,19 @@ pub fn decode_record(body: &[u8], at: usize) -> RecordField
         table,
         rowid: signed_of(n),
     };
-    match op {
-        0 => RecordField::Taken(
+    if op == 0 {
+        return RecordField::Taken(
             MvccLogRecord {
                 row,
                 payload: VersionPayload::Tombstone,
             },
             rest,
-        ),
-        1 => present_at(body, row, rest),
-        _ => RecordField::Refused(Refusal::Tag),
+        );
     }
+    if op == 1 {
+        return present_at(body, row, rest);
+    }
+    RecordField::Refused(Refusal::Tag)
 }
 
 fn why_record(r: RecordField) -> Refusal

@@ -165,11 +165,11 @@ split s e = rest s 0 e
 
 -- ---- the bytes that begin a sequence
 
-begins : (b : ℕ) → (b < 0x80) ⊎ (0xbf < b) → continues b ≡ false
+pub begins : (b : ℕ) → (b < 0x80) ⊎ (0xbf < b) → continues b ≡ false
 begins b (inl h) = rw (lt-leb 0x80 b h)
 begins b (inr h) = rw (le-leb 0x80 b (omega arith), lt-leb b 0xbf h)
 
-goes-on : (b : ℕ) → In 0x80 0xbf b → continues b ≡ true
+pub goes-on : (b : ℕ) → In 0x80 0xbf b → continues b ≡ true
 goes-on b i = rw (le-leb 0x80 b (i .low), le-leb b 0xbf (i .high))
 
 counted : {n : ℕ} {s : List ℕ} → Sequences n s → outside s ≡ n

@@ -4,6 +4,8 @@ use mathlib.Core.Bool.{Bool, true, false}
 use mathlib.Core.List.{List, [], _∷_}
 use Prim.Native.Nat.{ℕ, _<_}
 use native.Mathlib.Omega.{arith}
+use borrow.Author.Tests.{lt-ltb, le-ltb}
+use lib.Dec.{ltb}
 use lib.ListN.{length}
 use Rattle.le.specs.Choice.{pick}
 use Rattle.text.specs.Utf8.{formedBehind, wellFormed, charsBehind, chars}
@@ -31,3 +33,15 @@ empty-well = refl
 pub empty-chars : chars [] ≡ 0
 unfolding chars charsBehind
 empty-chars = refl
+
+pub empty-text : (s : List ℕ) → length s ≡ 0 → (wellFormed s ≡ true) × (chars s ≡ 0)
+empty-text [] e = (empty-well, empty-chars)
+empty-text (a ∷ s) e = absurd (omega arith)
+
+-- so it tells whether the text is well-formed
+tells : (b : Bool) {m n : ℕ} → 0 < n → m ≡ pick b n 0 → ltb 0 m ≡ b
+tells true {m} h e = lt-ltb 0 m (omega (arith, e))
+tells false {m} h e = le-ltb 0 m (omega (arith, e))
+
+pub counted-tells : (s : List ℕ) {m : ℕ} → 0 < length s → m ≡ pick (wellFormed s) (chars s) 0 → ltb 0 m ≡ wellFormed s
+counted-tells s h e = tells (wellFormed s) (some-chars s h) e

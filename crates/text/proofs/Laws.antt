@@ -7,14 +7,12 @@ use mathlib.Core.Logic.{⊎-elim}
 use native.Mathlib.Nat.{add-zero, zero-add, eq-or-lt-of-le}
 use native.Mathlib.Numerals.{sub-one}
 use native.Mathlib.Omega.{arith}
-use borrow.Author.Tests.{lt-ltb, le-ltb, le-leb, lt-leb, leb-true, ne-eqb}
-use lib.Dec.{leb, ltb, eqb}
+use borrow.Author.Tests.{lt-ltb, le-ltb, le-leb, lt-leb, leb-true}
+use lib.Dec.{leb, ltb}
 use lib.ListN.{length, drop, getD, length-drop, drop-of-length-le}
 use lib.Seq.{drop-cons, drop-drop, getD-drop}
 use Rattle.le.specs.Choice.{pick}
-use Rattle.text.specs.Utf8.{two, three, four, size, sequenceSize, formedBehind, wellFormed, charsBehind, chars, utf8Of}
-use Rattle.text.specs.declared.Utf8.{Utf8}
-use Rattle.text.specs.declared.Utf8.the-variants.{WellFormed, IllFormed}
+use Rattle.text.specs.Utf8.{two, three, four, size, sequenceSize, formedBehind, wellFormed, charsBehind, chars}
 use Rattle.text.specs.Walk.{Ascii, Passes, numberBehind}
 
 -- ---- the size of the sequence at an index
@@ -69,6 +67,17 @@ size-le s =
     pick-le (ltb (getD s 0 0) 0x80) (whole-le s 1 true)
     (pick-le (ltb (getD s 0 0) 0xe0) (whole-le s 2 _)
     (pick-le (ltb (getD s 0 0) 0xf0) (whole-le s 3 _) (whole-le s 4 _)))
+
+-- and has four bytes at most
+whole-few : (s : List ℕ) (n : ℕ) (ok : Bool) → n ≤ 4 → sequenceSize s n ok ≤ 4
+whole-few s n ok h = pick-le (leb n (length s) && ok) h (omega arith)
+
+pub size-few : (s : List ℕ) → size s ≤ 4
+unfolding size
+size-few s =
+    pick-le (ltb (getD s 0 0) 0x80) (whole-few s 1 true (omega arith))
+    (pick-le (ltb (getD s 0 0) 0xe0) (whole-few s 2 _ (omega arith))
+    (pick-le (ltb (getD s 0 0) 0xf0) (whole-few s 3 _ (omega arith)) (whole-few s 4 _ (omega arith))))
 
 -- ---- what is behind a sequence decides
 
@@ -138,49 +147,15 @@ module _ {s : List ℕ} where
   pub left : {b n : ℕ} → Passes s 0 b n → numberBehind n (drop b s) ≡ numberBehind 0 s
   left p = rw (p .same, ← p .count, zero-add)
 
--- ---- the answer by the number: a text that is not empty has one, and it is not 0
-
+-- a text that is not empty has one
 pub some-chars : (s : List ℕ) → 0 < length s → 0 < chars s
 unfolding chars charsBehind
 some-chars [] h = absurd (omega arith)
 some-chars (a ∷ s) h = omega arith
 
-by-number : (s : List ℕ) (b : Bool) → wellFormed s ≡ b → 0 < length s → pick (eqb (pick b (0 + chars s) 0) 0) IllFormed (WellFormed (pick b (0 + chars s) 0)) ≡ pick b (WellFormed (chars s)) IllFormed
-by-number s true e h = rw (zero-add, ne-eqb (chars s) 0 (λ z. absurd (omega (arith, some-chars s h))))
-by-number s false e h = refl
-
-pub answered : (s : List ℕ) {n : ℕ} {u : Utf8} → 0 < length s → n ≡ numberBehind 0 s → u ≡ pick (eqb n 0) IllFormed (WellFormed n) → u ≡ utf8Of s
-answered s h e f = f ∙ rw e (by-number s (wellFormed s) refl h)
-
--- a number that is not 0 is a text's
-above : (s : List ℕ) {n : ℕ} (b : Bool) → wellFormed s ≡ b → 0 < n → n ≡ pick b (0 + chars s) 0 → WellFormed n ≡ pick b (WellFormed (chars s)) IllFormed
-above s true e h f = ap WellFormed (omega (arith, f))
-above s false e h f = absurd (omega arith)
-
-pub numbered : (s : List ℕ) {n : ℕ} → 0 < n → n ≡ numberBehind 0 s → WellFormed n ≡ utf8Of s
-numbered s h f = above s (wellFormed s) refl h f
-
--- so it tells whether the text is well-formed
-tells : (s : List ℕ) {n : ℕ} (b : Bool) → wellFormed s ≡ b → 0 < length s → n ≡ pick b (chars s) 0 → ltb 0 n ≡ b
-tells s {n} true e h f = lt-ltb 0 n (omega (arith, f, some-chars s h))
-tells s {n} false e h f = le-ltb 0 n (omega (arith, f))
-
 -- the number of a text from its start on
 pub from-start : (s : List ℕ) {n : ℕ} → n ≡ numberBehind 0 s → n ≡ pick (wellFormed s) (chars s) 0
 from-start s e = e ∙ rw zero-add
-
-pub told-by : (s : List ℕ) {n : ℕ} → 0 < length s → n ≡ pick (wellFormed s) (chars s) 0 → ltb 0 n ≡ wellFormed s
-told-by s h f = tells s (wellFormed s) refl h f
-
-pub empty-text : (s : List ℕ) → length s ≡ 0 → true ≡ wellFormed s
-empty-text s e = sym (at-end s 0 (omega arith))
-
--- a text of one-byte sequences alone
-pub plain : (s : List ℕ) {n : ℕ} → Passes s 0 n n → n ≡ length s → WellFormed n ≡ utf8Of s
-plain s {n} p e =
-    let f : wellFormed s ≡ true = sym (p .same) ∙ at-end s n (omega arith) in
-    let g : n ≡ chars s = omega (arith, p .count, none-left s n (omega arith)) in
-    rw (f, ← g)
 
 by-size : (s : List ℕ) (a n : ℕ) → suc n ≡ size (drop a s) → Behind (drop a s) (drop (a + suc n) s)
 by-size s a n e = rw (← drop-drop (suc n) a s) (behind (drop a s) n (sym e))
@@ -203,6 +178,10 @@ run s a (suc n) h f =
 pub over-ascii : (s : List ℕ) {a b : ℕ} (i j : ℕ) → Ascii s a b → a ≤ i → i ≤ j → j ≤ b → j ≤ length s → Passes s i j (j - i)
 over-ascii s i j f l m n h =
     told (run s i (j - i) (omega arith) (λ k p q. f k (omega arith) (omega arith))) (omega arith) refl
+
+-- a text of ASCII alone
+pub ascii-number : (s : List ℕ) → Ascii s 0 (length s) → length s ≡ pick (wellFormed s) (chars s) 0
+ascii-number s f = from-start s (well 0 (over-ascii s 0 (length s) f (omega arith) (omega arith) (omega arith) (omega arith)) (omega arith) (omega arith))
 
 -- one byte more of a run
 pub ascii-more : (s : List ℕ) (a n : ℕ) → Ascii s a (a + n) → getD s (a + n) 0 < 0x80 → Ascii s a (a + (n + 1))

@@ -1,7 +1,8 @@
 -- The root of the laws of `text`.
 pub mod Laws
 pub mod Sequences
-pub mod Blocks
 pub mod Tops
+mod Fitting
+mod Judging
 pub mod Agrees
 pub mod Answers

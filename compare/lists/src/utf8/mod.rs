@@ -81,6 +81,7 @@ fn cases() -> Vec<Vec<u8>> {
     let mut cases = Cases::default();
     cases.add("");
     table::borders(&mut cases);
+    table::borders_in_texts(&mut cases);
     table::whole(&mut cases);
     table::truncations(&mut cases);
     table::grids(&mut cases);

@@ -14,8 +14,9 @@ fn highest(row: &[(u8, u8)]) -> Vec<u8> {
 }
 
 /// In each row each byte at its borders and one beyond them, the others all
-/// at their lowest or all at their highest; alone and between letters.
-pub fn borders(cases: &mut Cases) {
+/// at their lowest or all at their highest.
+fn border_sequences() -> Vec<Vec<u8>> {
+    let mut sequences = Vec::new();
     for row in TABLE_3_7 {
         for good in [lowest(row), highest(row)] {
             for (at, (low, high)) in row.iter().enumerate() {
@@ -26,11 +27,30 @@ pub fn borders(cases: &mut Cases) {
                 {
                     let mut sequence = good.clone();
                     sequence[at] = byte;
-                    cases.add([b"a", &sequence[..], b"z"].concat());
-                    cases.add(sequence);
+                    sequences.push(sequence);
                 }
             }
         }
+    }
+    sequences
+}
+
+/// They stand alone and between letters.
+pub fn borders(cases: &mut Cases) {
+    for sequence in border_sequences() {
+        cases.add([b"a", &sequence[..], b"z"].concat());
+        cases.add(sequence);
+    }
+}
+
+/// They stand in texts that a check may look at by 16 bytes or more: behind
+/// 17 bytes, of which the first three are looked at before, and at the end.
+pub fn borders_in_texts(cases: &mut Cases) {
+    let before = "Süd, cabin no. 7".as_bytes();
+    assert_eq!(before.len(), 17);
+    for sequence in border_sequences() {
+        cases.add([before, &sequence, b" at rest"].concat());
+        cases.add([before, b" at rest", &sequence].concat());
     }
 }
 

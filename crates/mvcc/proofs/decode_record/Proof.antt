@@ -1,6 +1,6 @@
 use Rattle.mvcc.proofs.Laws.{told, passed, table-first, row-first, judged-last}
 use mathlib.Core.Path.{_≡_, refl}
-use borrow.Author.Tests.{ne-eqb}
+use borrow.Author.Tests.{eq-eqb, ne-eqb}
 use mir.ValLaws.{toZ-ofZ}
 use mir.Syntax.{w64}
 use Rattle.mvcc.specs.Fields.{numAnswer, textAnswer}
@@ -43,22 +43,20 @@ returns-4 : tie.Need-returns-4
 unfolding judgedAt
 returns-4 c =
     let f = c .before .signed-of in
-    rw (← judged (c .before .before), c .match4 .keys1, toZ-ofZ w64 (f .result) (record { sfits = f .ok }), f .ensures)
+    rw (← judged (c .before .before), eq-eqb _ _ (c .if1 .taken), toZ-ofZ w64 (f .result) (record { sfits = f .ok }), f .ensures)
 
 returns-5 : tie.Need-returns-5
 unfolding judgedAt
 returns-5 c =
-    let f = c .before .before .signed-of in
-    rw (← judged (c .before .before .before), c .before .match4 .keys2, ← f .ensures)
+    let f = c .before .before .before .signed-of in
+    rw (← judged (c .before .before .before .before), ne-eqb _ _ (c .before .before .if1 .left), eq-eqb _ _ (c .before .if2 .taken), ← f .ensures)
     (rw (toZ-ofZ w64 (f .result) (record { sfits = f .ok })) at (c .present-at .ensures))
 
 returns-6 : tie.Need-returns-6
 unfolding judgedAt
-returns-6 c =
-    let r = c .match4 .rest in
-    rw (← judged (c .before .before)) (simp (ne-eqb _ _ (r .0 .1), ne-eqb _ _ (r .1)))
+returns-6 c = rw (← judged (c .before .before .before), ne-eqb _ _ (c .before .if1 .left), ne-eqb _ _ (c .if2 .left))
 
 pub decode-record-spec : {M : Type 1} → statement M
 decode-record-spec =
     tie.close
-    (tie.spec (search needs) (search needs) (search needs) returns (search needs) (search needs) (search needs) (search needs) returns-2 (search needs) (search needs) (search needs) returns-3 (search needs) (search needs) returns-4 returns-5 returns-6)
+    (tie.spec (search needs) (search needs) (search needs) returns (search needs) (search needs) (search needs) (search needs) returns-2 (search needs) (search needs) (search needs) returns-3 (search needs) returns-4 (search needs) returns-5 returns-6)

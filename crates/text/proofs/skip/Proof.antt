@@ -1,30 +1,28 @@
 use native.Mathlib.Omega.{arith}
-use denote.Ref.{now}
+use mathlib.Core.Logic.{⊎-elim}
 use borrow.Author.Needs.{needs}
 use borrow.Author.Tests.{not-false}
-use Prim.Native.Nat.{_+_, _-_}
-use mathlib.Core.Path.{refl}
+use Prim.Native.Nat.{_-_, _≤_}
 use lib.ListN.{length}
-use Rattle.text.specs.Walk.{Passes}
-use Rattle.text.proofs.Laws.{stay, then, told, over-ascii}
+use Rattle.le.proofs.Tests.{le-or-lt}
+use Rattle.text.specs.Walk.{Ascii}
 use Rattle.text.proofs.skip.Statement.{statement}
 use Rattle.text.proofs.skip.Tie as tie
 
 abbrev Inv-loop : tie.InvT-loop
-Inv-loop s start n at₀ at = Passes s start at (at - start)
+Inv-loop s start n at₀ at = (start ≤ at) × ((at ≤ length s) × Ascii s start at)
 
 abbrev μ-loop : tie.MeasureT-loop
 μ-loop s start n at₀ at = length s - at
 
 loop-holds : tie.Need-loop-holds Inv-loop μ-loop
-loop-holds c = told (stay (search needs)) refl (omega arith)
+loop-holds c = (search needs, (search needs, λ k l m. absurd (omega arith)))
 
 loop-again : tie.Need-loop-again Inv-loop μ-loop
 loop-again c =
     let l = c .before .before .before .loop in
-    let a = c .before .before .before .before .before .args in
     let f = c .before .is-ascii .ensures (not-false _ (c .if1 .left)) in
-    told (then (l .inv) (over-ascii (now (a .s)) (l .at) (l .at + a .n) f (search needs) (search needs) (search needs) (search needs))) refl (omega (arith, l .inv .few))
+    (omega (arith, l .inv .0), (search needs, λ k p q. ⊎-elim (λ x. f k x q) (λ x. l .inv .1 .1 k p x) (le-or-lt (l .at) k)))
 
 returns : tie.Need-returns Inv-loop μ-loop
 returns c = c .before .before .before .loop .inv
