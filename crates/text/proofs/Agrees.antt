@@ -15,7 +15,7 @@ use Rattle.text.specs.Utf8.{continues, pair, two, three, four, size, the
 use Rattle.text.specs.Table.{In, Sequence, row1, row2, row3, row4, row5, row6, row7, row8, row9, Sequences, none, more}
 use Rattle.text.specs.Agrees.{outside, Agrees}
 use Rattle.text.proofs.Sequences.{Scalar, is-two, is-three, is-four}
-use Rattle.text.proofs.Laws.{behind, full, size-one, size-two, size-three, size-four}
+use Rattle.text.proofs.Laws.{behind, found, full, size-one, size-two, size-three, size-four}
 
 -- ---- a text of the table is well-formed: a sequence of each length, and what is behind it
 
@@ -68,13 +68,8 @@ either : (x y : Bool) → (x || y) ≡ true → (x ≡ true) ⊎ (y ≡ true)
 either true y e = inl e
 either false y e = inr e
 
--- a size that is not 0
-found : (t : Bool) {m n : ℕ} → pick t m 0 ≡ suc n → (t ≡ true) × (m ≡ suc n)
-found true e = (refl, e)
-found false e = absurd (omega arith)
-
 whole-found : (m k : ℕ) (ok : Bool) {n : ℕ} → pick (leb m k && ok) m 0 ≡ suc n → (ok ≡ true) × (m ≡ suc n)
-whole-found m k ok e = let f = found (leb m k && ok) e in (and-eq-true-iff (leb m k) ok .0 (f .0) .1, f .1)
+whole-found m k ok e = let f = found (leb m k && ok) (omega arith) e in (and-eq-true-iff (leb m k) ok .0 (f .0) .1, f .1)
 
 module _ {m a : ℕ} {s : List ℕ} (t : Sequences m s) where
   two-row : {b : ℕ} → a < 0xe0 → two a b ≡ true → Sequences (suc m) (a ∷ b ∷ s)

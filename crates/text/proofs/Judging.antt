@@ -17,7 +17,7 @@ use Rattle.text.specs.Agrees.{outside}
 use Rattle.text.specs.Walk.{Ascii, Passes, numberBehind}
 use Rattle.text.specs.Windows.{isOpen, fits, allFit, opensAt, fitsFrom, Fit, AllFit, Begun, Judges}
 use Rattle.text.proofs.Agrees.{agrees, begins}
-use Rattle.text.proofs.Laws.{size-one, size-two, size-three, size-four, size-le, told, over-ascii}
+use Rattle.text.proofs.Laws.{size-one, size-two, size-three, size-four, size-le, found, told, over-ascii}
 use Rattle.text.proofs.Fitting.{Over, over, is-over, leads, judged}
 
 -- ---- the first byte of a list
@@ -53,6 +53,7 @@ counts-up a zero j h = absurd (omega arith)
 counts-up a (suc n) zero h = omega arith
 counts-up a (suc n) (suc j) h = counts-up (suc a) n j (omega arith) ∙ omega arith
 
+-- what `judge_window` looks places up in
 pub place-at : (j : ℕ) → j < 16 → getD (0 ∷ 1 ∷ 2 ∷ 3 ∷ 4 ∷ 5 ∷ 6 ∷ 7 ∷ 8 ∷ 9 ∷ 10 ∷ 11 ∷ 12 ∷ 13 ∷ 14 ∷ 15 ∷ []) j 0 ≡ j
 unfolding countUp
 place-at j h = counts-up 0 16 j h ∙ omega arith
@@ -166,10 +167,6 @@ module _ (s : List ℕ) where
   at-end i e = ap (allFit (byte s i) (byte s (i + 1)) (byte s (i + 2))) (drop-of-length-le s {i = i + 3} (omega arith)) ∙ fits-nil _ _ _
 
   -- ---- behind a sequence none is open
-
-  found : (t : Bool) {m n : ℕ} → 0 < n → pick t m 0 ≡ n → (t ≡ true) × (m ≡ n)
-  found true h e = (refl, e)
-  found false h e = absurd (omega arith)
 
   module _ (i n : ℕ) (o : Over (byte s i) (byte s (i + 1)) (byte s (i + 2))) (h : 0 < n) (e : n ≡ size (drop (i + 3) s)) where
     abbrev OverAt : ℕ → Type 0

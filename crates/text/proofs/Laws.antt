@@ -68,6 +68,11 @@ size-le s =
     (pick-le (ltb (getD s 0 0) 0xe0) (whole-le s 2 _)
     (pick-le (ltb (getD s 0 0) 0xf0) (whole-le s 3 _) (whole-le s 4 _)))
 
+-- a size that is not 0
+pub found : (t : Bool) {m n : ℕ} → 0 < n → pick t m 0 ≡ n → (t ≡ true) × (m ≡ n)
+found true h e = (refl, e)
+found false h e = absurd (omega arith)
+
 -- and has four bytes at most
 whole-few : (s : List ℕ) (n : ℕ) (ok : Bool) → n ≤ 4 → sequenceSize s n ok ≤ 4
 whole-few s n ok h = pick-le (leb n (length s) && ok) h (omega arith)
