@@ -84,7 +84,7 @@ extern "C" {
 
 /* The version of this header; lateenbael_version() is the archive's. */
 #define LATEENBAEL_VERSION_MAJOR 0
-#define LATEENBAEL_VERSION_MINOR 3
+#define LATEENBAEL_VERSION_MINOR 4
 #define LATEENBAEL_VERSION_PATCH 0
 #define LATEENBAEL_VERSION (LATEENBAEL_VERSION_MAJOR * 1000000 + LATEENBAEL_VERSION_MINOR * 1000 + LATEENBAEL_VERSION_PATCH)
 
@@ -101,6 +101,7 @@ uint32_t lateenbael_version(void);
 #define LATEENBAEL_CHECKPOINT_FRAMES 100 /* a commit that brings the log to so many frames is followed by a checkpoint */
 #define LATEENBAEL_LISTING_SIZE 2048
 #define LATEENBAEL_MVCC_FRAME_MARKER 4294967295u /* the page number of a frame that holds a batch */
+#define LATEENBAEL_MOST_ITEMS 1356 /* records and columns together that are read in a body of up to 4,096 bytes, refused or not */
 
 /* Why a call was refused. Of several reasons the lowest number is told, except that openings judge the main file (2 to 5, 7), the
  * log (2 to 5), then 8, 6 and 10, and that batches are decoded byte by byte. */
@@ -451,12 +452,15 @@ typedef struct {
     size_t chars; /* beside a refusal 0 */
 } lateenbael_text_answer;
 
-/* A whole batch; the first record stands at LATEENBAEL_FIRST_RECORD. */
+/* A whole batch; the first record stands at LATEENBAEL_FIRST_RECORD. Beside a refusal the other numbers are 0, except the items.
+ * A record is an item, and so is each of its columns: a row that is gone counts when its row id is read, one that is there when its column
+ * count is, a column when its value is. In a body of up to 4,096 bytes there are at most LATEENBAEL_MOST_ITEMS. */
 typedef struct {
     uint32_t refusal;
     uint64_t commit_ts;
     size_t records; /* how many */
     size_t end;     /* behind the last one */
+    size_t items;   /* how many items were read, of a refused body those before the refusal */
 } lateenbael_batch;
 
 #define LATEENBAEL_FIRST_RECORD 18

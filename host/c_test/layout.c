@@ -101,10 +101,11 @@ PLACE(text_place, chars, 16);
 SIZE(text_answer, 16);
 PLACE(text_answer, chars, 8);
 
-SIZE(batch, 32);
+SIZE(batch, 40);
 PLACE(batch, commit_ts, 8);
 PLACE(batch, records, 16);
 PLACE(batch, end, 24);
+PLACE(batch, items, 32);
 
 SIZE(record, 64);
 PLACE(record, op, 4);
@@ -138,7 +139,7 @@ PLACE(building, counted, 8);
 PLACE(building, records, 12);
 PLACE(building, columns, 14);
 
-_Static_assert(LATEENBAEL_VERSION == 3000, "0.3.0 as one number");
+_Static_assert(LATEENBAEL_VERSION == 4000, "0.4.0 as one number");
 
 /* Header and archive belong together, and every refusal has its name. */
 static void names(void) {

@@ -31,12 +31,24 @@ fn main() {
     }
 }
 
+/// The body with a record more claimed: one that is full is refused at its
+/// end, when all of it is read.
+fn claiming_more(body: &[u8; PAGE_SIZE]) -> [u8; PAGE_SIZE] {
+    let mut more = *body;
+    let count = u16::from_le_bytes([body[16], body[17]]) + 1;
+    more[16..18].copy_from_slice(&count.to_le_bytes());
+    more
+}
+
 /// What is as fast as you like must also be right.
 fn assert_agreed(batch: &MvccCommitBatch, body: &[u8; PAGE_SIZE]) {
     for side in sides() {
         let mut out = [0xee; PAGE_SIZE];
         (side.canonical)(body, &mut out);
         assert!(out == *body, "{} writes another body", side.name);
+        let more = claiming_more(body);
+        let refused = (rust::SIDE.refuse)(&more);
+        assert_eq!((side.refuse)(&more), refused, "{}, refused", side.name);
     }
     for side in sides().iter().skip(1) {
         let mut out = [0xee; PAGE_SIZE];
@@ -46,6 +58,7 @@ fn assert_agreed(batch: &MvccCommitBatch, body: &[u8; PAGE_SIZE]) {
 }
 
 const DECODE: &str = "decode";
+const REFUSE: &str = "decode, refused";
 const ENCODE: &str = "encode";
 const CHECKED: &str = "check and encode";
 const BOTH: &str = "decode and encode";
@@ -61,6 +74,11 @@ fn bench(batch: &MvccCommitBatch, body: &[u8; PAGE_SIZE]) -> Vec<Row> {
     let mut calls: Vec<(&str, &str, Timed)> = Vec::new();
     for Side { name, decode, .. } in sides() {
         calls.push((DECODE, name, timed(move || decode(body))));
+    }
+    let more = claiming_more(body);
+    let refusing = sides().into_iter().filter(|side| (side.refuse)(&more));
+    for Side { name, refuse, .. } in refusing {
+        calls.push((REFUSE, name, timed(move || refuse(&more).into())));
     }
     for Side { name, encode, .. } in sides() {
         let mut out = [0; PAGE_SIZE];

@@ -10,6 +10,7 @@ use crate::side::Side;
 pub const SIDE: Side = Side {
     name: "Rust",
     decode: |body| black_box(decoded(body)).records.len() as u64,
+    refuse: |body| black_box(MvccCommitBatch::decode(body)).is_err(),
     encode: |batch, _| {
         let body = batch.encode().expect("a batch that fits");
         black_box(body).len() as u64

@@ -9,6 +9,8 @@ pub struct Side {
     pub name: &'static str,
     /// Decodes a body.
     pub decode: fn(&[u8]) -> u64,
+    /// Decodes a body that may be refused, and tells whether it is.
+    pub refuse: fn(&[u8]) -> bool,
     /// Writes a batch's body. The Rust's `encode` has a body of its own, and
     /// only the others write to the one that is lent.
     pub encode: fn(&MvccCommitBatch, &mut [u8]) -> u64,

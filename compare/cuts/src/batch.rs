@@ -31,6 +31,12 @@ pub enum Value {
 }
 
 impl Batch {
+    /// Document 02, P14: a record is an item, and each of its columns.
+    pub fn items(&self) -> usize {
+        let columns = self.records.iter().flat_map(|record| &record.columns);
+        self.records.len() + columns.map(Vec::len).sum::<usize>()
+    }
+
     /// All its texts: each record's table, then its columns' names and texts.
     pub fn texts(&self) -> Vec<&str> {
         let mut texts: Vec<&str> = Vec::new();

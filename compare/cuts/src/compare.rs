@@ -104,23 +104,43 @@ pub fn compare_batches(engine: &Engine, expected: &Expected) -> Check {
     }
 }
 
-/// What the port reads in a batch's bytes: the same batch, and with each text the number of its
-/// characters that the Standard's rule gives.
+/// What the port reads in a batch's bytes: the same batch, and the number of its items and of the
+/// characters of each of its texts.
 fn compare_reading(body: &[u8], batch: &batch::Batch, wrong: Wrong) -> Check {
+    let time = batch.commit_time;
+    let read = port::read_batch(body)
+        .map_err(|(number, _)| format!("the port refuses the batch of time {time}: {number}"))?;
+    ensure(read.batch == *batch, || {
+        format!(
+            "the port reads the batch of time {time} as {:?}",
+            read.batch
+        )
+    })?;
+    compare_items(read.items, batch, wrong)?;
+    compare_chars(&read.chars, batch, wrong)
+}
+
+/// By the records and columns of the model's batch.
+fn compare_items(found: usize, batch: &batch::Batch, wrong: Wrong) -> Check {
+    let items = match wrong {
+        Wrong::RecordsCounted => batch.records.len(),
+        _ => batch.items(),
+    };
+    ensure(found == items, || {
+        let time = batch.commit_time;
+        format!("the batch of time {time} has {items} items, with the port {found}")
+    })
+}
+
+/// By the Standard's rule.
+fn compare_chars(found: &[usize], batch: &batch::Batch, wrong: Wrong) -> Check {
     let count = |text: &str| match wrong {
         Wrong::BytesCounted => Some(text.len()),
         _ => characters::count(text.as_bytes()),
     };
-    let texts = batch.texts().into_iter();
-    let counts: Vec<_> = texts.clone().filter_map(count).collect();
-    let time = batch.commit_time;
-    let (read, carried) = port::read_batch(body)
-        .map_err(|(number, _)| format!("the port refuses the batch of time {time}: {number}"))?;
-    ensure(read == *batch, || {
-        format!("the port reads the batch of time {time} as {read:?}")
-    })?;
-    ensure(carried == counts, || {
-        let texts: Vec<_> = texts.collect();
-        format!("{texts:?} have {counts:?} characters, with the port {carried:?}")
+    let texts = batch.texts();
+    let counts: Vec<_> = texts.iter().filter_map(|text| count(text)).collect();
+    ensure(found == counts, || {
+        format!("{texts:?} have {counts:?} characters, with the port {found:?}")
     })
 }

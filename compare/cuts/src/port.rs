@@ -185,12 +185,20 @@ fn area_bytes(engine: &mut Engine, area: AreaName) -> &mut Box<[u8]> {
     }
 }
 
-/// A batch, and the number of characters that comes with each of its texts.
-pub fn read_batch(body: &[u8]) -> Result<(batch::Batch, Vec<usize>), Refused> {
+/// A batch, and the numbers that come with it.
+#[derive(Debug, PartialEq, Eq)]
+pub struct Reading {
+    pub batch: batch::Batch,
+    /// Of characters, one with each of its texts.
+    pub chars: Vec<usize>,
+    pub items: usize,
+}
+
+pub fn read_batch(body: &[u8]) -> Result<Reading, Refused> {
     let read = lateenbael::Batch::decode(body).map_err(refused)?;
-    let mut counts = Vec::new();
+    let mut chars = Vec::new();
     let mut text = |text: Text| {
-        counts.push(text.char_count());
+        chars.push(text.char_count());
         text.to_string()
     };
     let mut records = Vec::new();
@@ -210,13 +218,14 @@ pub fn read_batch(body: &[u8]) -> Result<(batch::Batch, Vec<usize>), Refused> {
         });
     }
     let commit_time = read.commit_ts();
-    Ok((
-        batch::Batch {
+    Ok(Reading {
+        batch: batch::Batch {
             commit_time,
             records,
         },
-        counts,
-    ))
+        chars,
+        items: read.item_count(),
+    })
 }
 
 fn value(value: Value, text: impl FnOnce(Text) -> String) -> batch::Value {
@@ -237,7 +246,7 @@ mod tests {
     use super::*;
 
     #[test]
-    fn a_batch_is_read_with_its_counts() {
+    fn a_batch_is_read_with_its_numbers() {
         let columns = [
             ("–", batch::Value::Text("🚡 7, pylône".to_string())),
             ("", batch::Value::Vector(vec![0x7f80_0001, 3])),
@@ -256,7 +265,13 @@ mod tests {
                 record("e\u{301}", Some(columns.into())),
             ],
         };
+        assert_eq!(batch.items(), 5);
         let read = read_batch(&batch::encode(&batch));
-        assert_eq!(read, Ok((batch, vec![3, 2, 1, 11, 0, 1])));
+        let wanted = Reading {
+            batch,
+            chars: vec![3, 2, 1, 11, 0, 1],
+            items: 5,
+        };
+        assert_eq!(read, Ok(wanted));
     }
 }

@@ -1,4 +1,4 @@
-//! Wrong models, wrong orders of writes, a wrong opening and a wrong counting, each of which the
+//! Wrong models, wrong orders of writes, a wrong opening and wrong countings, each of which the
 //! comparison must find: `cuts SEED COUNT --wrong NAME`.
 use crate::call::Call;
 use crate::model::{Entry, Model};
@@ -36,9 +36,11 @@ pub enum Wrong {
     PagesStay,
     /// A text's bytes are taken for its characters.
     BytesCounted,
+    /// A batch's records are taken for its items, without their columns.
+    RecordsCounted,
 }
 
-pub const ALL: [(&str, Wrong); 14] = [
+pub const ALL: [(&str, Wrong); 15] = [
     ("plain-opening", Wrong::PlainOpening),
     ("header-late", Wrong::HeaderLate),
     ("log-first", Wrong::LogFirst),
@@ -53,6 +55,7 @@ pub const ALL: [(&str, Wrong); 14] = [
     ("batches-never", Wrong::BatchesNever),
     ("pages-stay", Wrong::PagesStay),
     ("bytes-counted", Wrong::BytesCounted),
+    ("records-counted", Wrong::RecordsCounted),
 ];
 
 impl Wrong {

@@ -1,4 +1,4 @@
-//! A short run of cuts, and that each wrong model, order of writes and opening is found.
+//! A short run of cuts, and that each wrong model, order of writes, opening and counting is found.
 use cuts::run::run;
 use cuts::wrong::{ALL, Wrong};
 

@@ -28,12 +28,13 @@ pub const CALLS: [Call; 16] = [
     ("mvcc_add_vector", add_vector),
 ];
 
-/// A body: the one being built, cut or lengthened, or a row; spoiled, or any
-/// bytes.
+/// A body: the one being built, cut or lengthened, a row, or a full one;
+/// spoiled, or any bytes.
 pub fn any_body(world: &mut World) -> Area<u8> {
     world.row = None;
-    let mut bytes = match world.random.below(4) {
-        0 => row(world),
+    let mut bytes = match world.random.below(8) {
+        0 | 1 => row(world),
+        2 => full(world),
         _ => built(world),
     };
     let len = bytes.len();
@@ -83,6 +84,19 @@ fn row(world: &mut World) -> Vec<u8> {
     bytes.extend((value.len() as u32).to_le_bytes());
     bytes.extend(value);
     world.row = Some([record, column, tag]);
+    bytes
+}
+
+/// A row with about as many columns as fit a page, or more claimed: the zeros
+/// are null columns with empty names, then tombstones.
+fn full(world: &mut World) -> Vec<u8> {
+    let records = world.random.pick(&[1, 2, u16::MAX]);
+    let columns = world.random.pick(&[1_000, 1_355, 1_356, u16::MAX]);
+    let mut bytes = b"MVCC0001\0\0\0\0\0\0\0\0".to_vec();
+    bytes.extend(records.to_le_bytes());
+    bytes.extend([1, 0, 0, 0, 0, 0, 0, 0, 0, 0, 0]); // op, table, row id
+    bytes.extend(columns.to_le_bytes());
+    bytes.resize(world.random.between(PAGE_SIZE - 3, PAGE_SIZE + 3), 0);
     bytes
 }
 
@@ -176,12 +190,30 @@ fn decode(world: &mut World, export: &'static str) {
     let arg = body.lend_own();
     let answer = unsafe { sys::lateenbael_mvcc_decode(arg.at, arg.len) };
     world.end(export, answer.refusal, true, &Writes::default());
-    let refusal = answer.refusal;
+    let (refusal, items) = (answer.refusal, answer.items);
     match refusal {
         0 => world.inside(export, answer.end, 0, arg.len),
-        _ => refused(world, export, answer == no_batch(refusal)),
+        _ => refused(world, export, answer == no_batch(refusal, items)),
     }
+    items_by_the_rule(world, export, &answer, body.bytes());
     world.unaltered(export, &body);
+}
+
+/// A body is read as far as document 01 says, and has as many items as
+/// document 02 says.
+fn items_by_the_rule(world: &mut World, export: &str, answer: &sys::Batch, body: &[u8]) {
+    let rule = items::read(body);
+    let (refusal, end) = match rule.outcome {
+        Ok(end) => (0, end),
+        Err(number) => (number.into(), 0),
+    };
+    if (answer.refusal, answer.end, answer.items) != (refusal, end, rule.items) {
+        let what = format!("{answer:?}, by the rule {rule:?}");
+        world.tally.fault(export, &what);
+    }
+    if body.len() <= items::LONGEST && answer.items > items::MOST {
+        world.tally.fault(export, "more items than such a body has");
+    }
 }
 
 fn decode_record(world: &mut World, export: &'static str) {
@@ -400,4 +432,26 @@ fn add_vector(world: &mut World, export: &'static str) {
         },
     );
     world.unaltered(export, &value);
+}
+
+#[cfg(test)]
+mod tests {
+    use super::*;
+
+    /// What is found wrong with an answer for two tombstones, cut short.
+    fn faults(answer: sys::Batch) -> usize {
+        let mut world = World::new(1, 0);
+        let body = b"MVCC0001\0\0\0\0\0\0\0\0\x02\0\0\0\0\0\0\0\0\0\0\0\0";
+        items_by_the_rule(&mut world, "mvcc_decode", &answer, body);
+        world.tally.faults
+    }
+
+    #[test]
+    fn another_number_of_items_is_a_fault() {
+        assert_eq!(faults(no_batch(17, 1)), 0);
+        assert_eq!(faults(no_batch(17, 0)), 1);
+        assert_eq!(faults(no_batch(17, 2)), 1);
+        assert_eq!(faults(no_batch(18, 1)), 1);
+        assert_eq!(faults(no_batch(17, items::MOST + 1)), 2);
+    }
 }

@@ -88,13 +88,15 @@ const NO_VALUE: Value = Value {
     place: NO_PLACE,
 };
 
-/// A refused reading of a batch; below of a record, a column and a value.
-pub fn no_batch(refusal: u32) -> Batch {
+/// A refused reading of a batch, which tells the items that were read; below
+/// of a record, a column and a value.
+pub fn no_batch(refusal: u32, items: usize) -> Batch {
     Batch {
         refusal,
         commit_ts: 0,
         records: 0,
         end: 0,
+        items,
     }
 }
 

@@ -8,6 +8,7 @@ mod checksum;
 mod frame;
 mod header;
 pub mod hex;
+pub mod items;
 pub mod list;
 pub mod log;
 #[cfg(feature = "port")]
@@ -25,6 +26,7 @@ pub fn lists() -> Vec<List> {
         sum::list(),
         utf8::list(),
         batch::list(),
+        items::list(),
         log::list(),
     ]
 }

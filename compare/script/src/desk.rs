@@ -2,11 +2,13 @@
 
 use lateenbael::sys;
 
+use crate::port::batch;
+
 /// What is printed of a file's bytes.
 pub type Kind = fn(&[u8]) -> Vec<u8>;
 
 /// All kinds, by the words that name them.
-const KINDS: [(&str, Kind); 1] = [("chars", chars)];
+const KINDS: [(&str, Kind); 2] = [("chars", chars), ("items", items)];
 
 pub fn kind(name: &str) -> Option<Kind> {
     let mut kinds = KINDS.into_iter();
@@ -21,4 +23,11 @@ fn chars(text: &[u8]) -> Vec<u8> {
         0 => format!("chars {}\n", answer.chars).into_bytes(),
         number => format!("refused {number}\n").into_bytes(),
     }
+}
+
+/// Where a batch's body ends, or why it is refused, and how many items were
+/// read.
+fn items(body: &[u8]) -> Vec<u8> {
+    let batch = batch::decode(body);
+    format!("{}\n", batch::reading_of(&batch)).into_bytes()
 }

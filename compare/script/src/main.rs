@@ -35,7 +35,7 @@ fn main() -> ExitCode {
 
 const USAGE: &str = "usage: script (port | rust) FILE DIR [--stores]
        script random SEED COUNT
-       script desk chars FILE";
+       script desk (chars | items) FILE";
 
 fn one_side(side: &str, file: &str, folder: &str, stores: bool) -> Result<(), String> {
     match side {

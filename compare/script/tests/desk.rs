@@ -5,6 +5,8 @@ use std::path::PathBuf;
 use std::process::{Command, Output};
 use std::sync::atomic::{AtomicUsize, Ordering};
 
+use lists::batch::body::{Body, Value};
+
 /// A file of these bytes that goes when it is dropped.
 struct File(PathBuf);
 
@@ -78,6 +80,51 @@ fn a_long_text() {
     assert_eq!(printed("chars", text.as_bytes()), "chars 4200000\n");
     let broken = &text.as_bytes()[..text.len() - 2];
     assert_eq!(printed("chars", broken), "refused 19\n");
+}
+
+/// A row that is gone, one with two columns, and a third record that isn't.
+#[test]
+fn items_of_a_batch() {
+    let rows = Body::new(9, 2).tombstone("t", 1).present("Süd", 2, 2);
+    let rows = rows.column("a", Value::Null).column("", Value::Bool(1));
+    let rows = rows.as_ref();
+    assert_eq!(printed("items", rows), "end 55 items 4\n");
+    let whole = [rows, &[0xff; 4_096]].concat();
+    assert_eq!(printed("items", &whole), "end 55 items 4\n");
+    assert_eq!(printed("items", &rows[..54]), "refused 17 items 3\n");
+    let mut three = rows.to_vec();
+    three[16] = 3;
+    assert_eq!(printed("items", &three), "refused 17 items 4\n");
+    three.resize(200, 2);
+    assert_eq!(printed("items", &three), "refused 17 items 4\n");
+    three.resize(4_096, 2);
+    assert_eq!(printed("items", &three), "refused 18 items 4\n");
+}
+
+#[test]
+fn what_is_no_batch() {
+    assert_eq!(printed("items", b""), "refused 2 items 0\n");
+    assert_eq!(printed("items", b"MVCC0001"), "refused 2 items 0\n");
+    assert_eq!(printed("items", &[0; 4_096]), "refused 3 items 0\n");
+    let empty = Body::new(9, 0);
+    assert_eq!(printed("items", empty.as_ref()), "end 18 items 0\n");
+}
+
+/// A row's null columns fill a body; whatever it claims, it has no more.
+#[test]
+fn the_most_items() {
+    for (records, columns, length, wanted) in [
+        (1, 1_355, 4_096, "end 4096 items 1356\n"),
+        (1, u16::MAX, 4_096, "refused 17 items 1356\n"),
+        (u16::MAX, 1_355, 4_096, "refused 17 items 1356\n"),
+        (1, 1_356, 4_098, "refused 17 items 1356\n"),
+        (1, 1_356, 4_099, "end 4099 items 1357\n"),
+    ] {
+        let row = Body::new(9, records).present("", 0, columns);
+        let mut body = row.as_ref().to_vec();
+        body.resize(length, 0);
+        assert_eq!(printed("items", &body), wanted);
+    }
 }
 
 #[test]

@@ -8,7 +8,7 @@ use std::path::Path;
 use std::process::{Command, Output, Stdio};
 
 /// Each program, with the words that it is called with.
-const PROGRAMS: [&[&str]; 8] = [
+const PROGRAMS: [&[&str]; 9] = [
     &["loglist"],
     &["batchlist"],
     &["batchlist", "replay"],
@@ -16,6 +16,7 @@ const PROGRAMS: [&[&str]; 8] = [
     &["checksum_replay"],
     &["sum_replay"],
     &["utf8_replay"],
+    &["items_replay"],
     &["log_replay"],
 ];
 

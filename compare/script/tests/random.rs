@@ -2,7 +2,7 @@
 
 use script::random;
 
-const REACHED: [&str; 38] = [
+const REACHED: [&str; 41] = [
     "call: batch, refused 15",
     "call: batch, refused 17",
     "call: batch, refused 18",
@@ -22,6 +22,9 @@ const REACHED: [&str; 38] = [
     "call: stage, refused 11",
     "call: stage, refused 12",
     "case: as many pages staged as can be",
+    "case: batch of as many items as can be",
+    "case: batch refused, as many items read before as can be",
+    "case: batch refused, items read before",
     "case: busy store asked",
     "case: commit behind a torn or bad tail",
     "case: commit or fold in one call, too",

@@ -231,7 +231,8 @@ fn print_decoded(body: &[u8], batch: mvcc::MvccCommitBatch) {
 pub fn print_batch(body: &[u8]) -> bool
     ensures { λ r. ⌜ r ≡ decodes (now (body .entry)) ⌝ }
 {
-    match mvcc::MvccCommitBatch::decode(body) {
+    let answer = mvcc::MvccCommitBatch::decode(body).answer;
+    match answer {
         mvcc::BatchDecoded::Batch(batch) => {
             print_decoded(body, batch);
             true

@@ -17,6 +17,7 @@ use Rattle.mvcc.specs.declared.VersionPayload.the-variants as payload
 use Rattle.mvcc.specs.declared.MvccLogRecord.{MvccLogRecord}
 use Rattle.mvcc.specs.declared.BatchDecoded.{BatchDecoded}
 use Rattle.mvcc.specs.declared.BatchDecoded.the-variants as batch
+use Rattle.mvcc.specs.declared.DecodeReport.{DecodeReport}
 use Rattle.mvcc.specs.declared.ElementBits.{ElementBits}
 use Rattle.mvcc.specs.declared.ElementBits.the-variants as bits
 use Rattle.mvcc_build.specs.declared.Last.{Last}
@@ -36,13 +37,16 @@ use Rattle.capi.specs.declared.batch.Building.{Building}
 
 -- ---- a batch and its records
 
-abbrev pub noBatch : Refusal → BatchNumbers
-noBatch r = record { refusal = number r; «commit_ts» = 0; records = 0; end = 0 }
+abbrev pub noBatch : Refusal → ℕ → BatchNumbers
+noBatch r n = record { refusal = number r; «commit_ts» = 0; records = 0; end = 0; items = n }
 
--- what decoding a body answers
-abbrev pub batchNumbers : BatchDecoded → BatchNumbers
-batchNumbers (batch.Batch b) = record { refusal = 0; «commit_ts» = b .«commit_ts»; records = b .records; end = b .end }
-batchNumbers (batch.Refused r) = noBatch r
+abbrev pub answerNumbers : BatchDecoded → ℕ → BatchNumbers
+answerNumbers (batch.Batch b) n = record { refusal = 0; «commit_ts» = b .«commit_ts»; records = b .records; end = b .end; items = n }
+answerNumbers (batch.Refused r) n = noBatch r n
+
+-- what decoding a body reports, "refused bodies included up to the refusal"
+abbrev pub batchNumbers : DecodeReport → BatchNumbers
+batchNumbers d = answerNumbers (d .answer) (d .items)
 
 -- "op (1: 0 tombstone, 1 present)"
 abbrev pub opNumber : VersionPayload → ℕ

@@ -4,7 +4,8 @@ ghost use mathlib.Core.Bool.{not};
 ghost use mathlib.Core.List.{[]};
 ghost use lib.Dec.{eqb};
 ghost use Rattle.mvcc.specs.Batch.{null, integer, real, text, bool, tombstone, present};
-ghost use Rattle.mvcc.specs.Decode.{valueAt, columnAt, recordAt, batchOf};
+ghost use Rattle.mvcc.specs.Decode.{valueAt, columnAt, recordAt};
+ghost use Rattle.mvcc.specs.Items.{reportOf};
 ghost use Rattle.mvcc.specs.Vector.{bitsAt};
 ghost use Rattle.mvcc_build.specs.Build.{started, startedBytes, recordAdded, recordBytes, column, columnAdded, columnBytes, vectorAdded, vectorBytes};
 ghost use Rattle.mvcc_canonical.specs.Canonical.{canonicalized, canonicalBytes};
@@ -24,13 +25,14 @@ use mvcc_build::Last;
 use mvcc_canonical::Canonical;
 use refusal::Refusal;
 
-// A batch: its records start at 18, and decoding ended at `end`.
+// A batch: its records start at 18, and decoding ended at `end`. How many items were read is told of a refused body too.
 #[repr(C)]
 pub struct BatchNumbers {
     pub refusal: u32,
     pub commit_ts: u64,
     pub records: usize,
     pub end: usize,
+    pub items: usize,
 }
 
 // A record: the next cursor, its row, and its columns if it is present, the first at the cursor `first`.
@@ -81,29 +83,34 @@ pub struct ElementNumbers {
     pub bits: u32,
 }
 
-fn no_batch(row: Refusal) -> BatchNumbers
-    ensures { λ r. ⌜ r ≡ noBatch row ⌝ }
+fn no_batch(row: Refusal, items: usize) -> BatchNumbers
+    ensures { λ r. ⌜ r ≡ noBatch row items ⌝ }
 {
     BatchNumbers {
         refusal: refusal::number(row),
         commit_ts: 0,
         records: 0,
         end: 0,
+        items,
     }
 }
 
 #[no_mangle]
 pub extern "C" fn lateenbael_mvcc_decode(body: &[u8]) -> BatchNumbers
-    ensures { λ r. ⌜ r ≡ batchNumbers (batchOf (now (body .entry))) ⌝ }
+    ensures { λ r. ⌜ r ≡ batchNumbers (reportOf (now (body .entry))) ⌝ }
 {
-    match MvccCommitBatch::decode(body) {
+    let report = MvccCommitBatch::decode(body);
+    let items = report.items;
+    let answer = report.answer;
+    match answer {
         BatchDecoded::Batch(b) => BatchNumbers {
             refusal: 0,
             commit_ts: b.commit_ts,
             records: b.records,
             end: b.end,
+            items,
         },
-        BatchDecoded::Refused(row) => no_batch(row),
+        BatchDecoded::Refused(row) => no_batch(row, items),
     }
 }
 

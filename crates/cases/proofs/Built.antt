@@ -1,4 +1,4 @@
--- Document 01's cases of batches being built: how many records and columns fit. Assumes nothing.
+-- Document 01's cases of batches being built: how many records and columns fit, and how many items the fullest one has. Assumes nothing.
 use mathlib.Core.Path.{_≡_, refl, ap, _∙_}
 use mathlib.Core.Bool.{true}
 use mathlib.Core.List.{List, [], _∷_, _++_, append-nil, append-assoc}
@@ -6,7 +6,7 @@ use Prim.Native.Nat.{ℕ, zero, suc, _+_, _*_, _^_, _≤_, _<_}
 use native.Mathlib.Nat.{add-zero}
 use native.Mathlib.Omega.{arith}
 use borrow.Author.Tests.{le-leb, lt-leb}
-use lib.ListN.{length, replicate, length-append}
+use lib.ListN.{length, replicate, length-append, length-replicate}
 use lib.IntN.{ℤ}
 use mir.Val.{SFits}
 use mir.Syntax.{w64}
@@ -15,13 +15,15 @@ use Rattle.le.proofs.Fields.{length-leBytes}
 use Rattle.refusal.specs.declared.Refusal.the-variants as refusal
 use Rattle.text.specs.Utf8.{wellFormed, formedBehind}
 use Rattle.mvcc.specs.Batch.{null, Col, Rec, tombstone, present, all, encodeText, encodeValue, encodeColumn, encodeRecord, encodeBatch, Each}
-use Rattle.mvcc_build.specs.Build.{recordAdded, columnAdded, column}
+use Rattle.mvcc.specs.Items.{batchItems, rowsItems}
+use Rattle.mvcc.proofs.Counted.{decoded-items, encoded-items}
+use Rattle.mvcc_build.specs.Build.{startedBytes, recordAdded, columnAdded, column}
 use Rattle.mvcc_build.specs.Built.{Built, builderOf, endsPresent, withIn, withColumn, Held, HeldValue}
-use Rattle.mvcc_build.specs.Run.{record-call, column-call, HeldCall, columnRecords, nextRecords, runRecords}
+use Rattle.mvcc_build.specs.Run.{record-call, column-call, HeldCall, columnRecords, nextRecords, runBody, runRecords}
 use Rattle.mvcc_build.specs.declared.BatchBuilder.{BatchBuilder}
 use Rattle.mvcc_build.specs.declared.Added.the-variants.{Done, Refused}
 use Rattle.mvcc_build.proofs.Grow.{batch-size, record-size}
-use Rattle.mvcc_build.proofs.Built.{start-built, record-answer, column-answer}
+use Rattle.mvcc_build.proofs.Built.{start-built, record-answer, column-answer, built-decodes, built-records}
 use Rattle.mvcc_build.proofs.Run.{run-built}
 use Rattle.cases.specs.Cases.{tombstones, tombstoneCalls, nulls, nullRow, nullCalls, Builds}
 
@@ -173,3 +175,20 @@ nulls-built t row n k f h body l =
     let e : runRecords t (nullCalls row n) [] ≡ nullRow row n =
     ap (runRecords t (replicate n (column-call (column [] null)))) (row-next t row) ∙ nulls-run t row n 0 (omega arith) ∙ ap (nullRow row) z in
     rw (← e) (run-built (nullCalls row n) (start-built t body l k) ((f, refl), nulls-held n))
+
+-- ---- the items of 1,355 null columns and their record
+
+nulls-rows : (row : ℤ) (n : ℕ) → rowsItems (nullRow row n) ≡ n + 1
+unfolding rowsItems
+nulls-rows row n = rw length-replicate (omega arith)
+
+module _ (t : ℕ) (row : ℤ) (k : t < 256 ^ 8) (f : SFits w64 row) where
+  pub items-1356-built : (body : List ℕ) → length body ≡ 4096 → batchItems (runBody (nullCalls row 1355) (builderOf t []) (startedBytes t body)) ≡ 1356
+  items-1356-built body l =
+      let b = nulls-built t row 1355 k f (omega arith) body l in
+      decoded-items _ (built-decodes b) ∙ ap rowsItems (built-records b) ∙ nulls-rows row 1355
+
+  pub items-1356 : batchItems (encodeBatch t (nullRow row 1355)) ≡ 1356
+  items-1356 =
+      let b = nulls-built t row 1355 k f (omega arith) (replicate 4096 0) (length-replicate {A = ℕ} 4096 0) in
+      rw append-nil at (encoded-items t (nullRow row 1355) [] (b .good)) ∙ nulls-rows row 1355

@@ -1,4 +1,5 @@
--- Document 01's starred cases, one row each or more, in its order. `cases` of proofs/Cases.antt proves them all.
+-- Document 01's starred cases, one row each or more, in its order, and the batch that document 02's P14 asks for. `cases` of proofs/Cases.antt
+-- proves them all.
 use mathlib.Core.Bool.{true}
 use mathlib.Core.Path.{_≡_}
 use mathlib.Core.List.{List, [], _∷_, _++_, map}
@@ -13,6 +14,7 @@ use Rattle.text.specs.Utf8.{utf8Of, utf8Refusal as textRefusal}
 use Rattle.frame.specs.Frame.{frameSum}
 use Rattle.mvcc.specs.Batch.{null, bool, Col, Rec, tombstone, present, encodeBatch, Each}
 use Rattle.mvcc.specs.Seen.{decodeRefusal, decodes, records, canonical}
+use Rattle.mvcc.specs.Items.{batchItems}
 use Rattle.mvcc_build.specs.Build.{startedBytes, recordAdded, column, columnAdded}
 use Rattle.mvcc_build.specs.Built.{builderOf, Built}
 use Rattle.mvcc_build.specs.Run.{Addition, record-call, column-call, runBuilder, runBody}
@@ -91,6 +93,10 @@ pub record Cases : Type 0 where
   pub null-1355th-end : (t : ℕ) (row : ℤ) → builderOf t (nullRow row 1355) .at ≡ 4096
   pub null-1356th : (t : ℕ) (row : ℤ) (b : BatchBuilder) (body : List ℕ) → Built t (nullRow row 1355) b body
       → columnAdded b body (column [] null) ≡ Refused refusal.Fit
+  -- document 02, P14, "write one that gives exactly that": those 4,096 bytes give 1,356 items; the builder writes such a body
+  pub items-1356 : (t : ℕ) (row : ℤ) → t < 256 ^ 8 → SFits w64 row → batchItems (encodeBatch t (nullRow row 1355)) ≡ 1356
+  pub items-1356-built : (t : ℕ) (row : ℤ) (body : List ℕ) → t < 256 ^ 8 → SFits w64 row → length body ≡ 4096
+      → batchItems (runBody (nullCalls row 1355) (builderOf t []) (startedBytes t body)) ≡ 1356
   -- "Text C3 A9 and F4 8F BF BF good; C0 80, ED A0 80 and F4 90 80 80 bad (hexadecimal)": no refusal, and refusal 19
   pub text-c3-a9 : textRefusal (utf8Of (0xc3 ∷ 0xa9 ∷ [])) ≡ 0
   pub text-f4-8f-bf-bf : textRefusal (utf8Of (0xf4 ∷ 0x8f ∷ 0xbf ∷ 0xbf ∷ [])) ≡ 0

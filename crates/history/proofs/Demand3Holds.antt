@@ -136,7 +136,7 @@ module _ (c : Call) (r : Run) (t : Typed c) (i : InvRun r) where
   cut-by j k true e = rw e (taken-when e .cut j k)
   cut-by j k false e = rw e (inv-disk (r .world .pager .job) (r .world) (r .staging) (r .model) (r .kept) i)
 
-  cut-ok : (j k : ℕ) → LeftOk (cutCall c j k r)
+  pub cut-ok : (j k : ℕ) → LeftOk (cutCall c j k r)
   cut-ok j k = cut-by j k takes refl
 
   intact : Intact c r
@@ -148,7 +148,7 @@ module _ (c : Call) (r : Run) (t : Typed c) (i : InvRun r) where
 
 -- ---- any list of events
 
-cut-openings : (attempts : List Attempt) → AllSized attempts → (x : Left) → LeftOk x → LeftOk (cutOpenings attempts x)
+pub cut-openings : (attempts : List Attempt) → AllSized attempts → (x : Left) → LeftOk x → LeftOk (cutOpenings attempts x)
 unfolding cutOpenings
 cut-openings [] s x k = k
 cut-openings (a ∷ rest) s x k = cut-openings rest (s .1) (cutOpening a x) (cut-opening a (s .0) x k)

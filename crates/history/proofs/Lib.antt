@@ -36,6 +36,7 @@ pub mod GuardTable
 pub mod GuardHistories
 pub mod GuardModel
 pub mod GuardReached
+pub mod GuardFound
 pub mod GuardPages
 pub mod GuardFirst
 pub mod GuardBatches

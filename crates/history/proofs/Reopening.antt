@@ -27,6 +27,8 @@ use Rattle.pager_state.specs.Opening.{tableOf, opensAs, openRefusal}
 use Rattle.pager_state.specs.Batches.{recoveredBatch, recoveredRefusal, nextRecovered}
 use Rattle.pager_state.specs.Stores.{Disk, content}
 use Rattle.pager_state.specs.declared.AccessMode.the-variants as mode
+use Rattle.pager_state.specs.declared.RecoveredFound.{RecoveredFound}
+use Rattle.pager_state.specs.declared.RecoveredFound.the-variants as found
 use Rattle.history.specs.Model.{Model, Batch, batchIn, modelOpen, modelStores}
 use Rattle.history.specs.Calls.{Lent, readInto, openedWorld}
 use Rattle.history.specs.Run.{Run, Left, Attempt, keptAfter, cutOpening, reopening, reopened}
@@ -40,6 +42,26 @@ abbrev pub InvRun : Run → Type 0
 InvRun r = Inv (r .world) (r .staging) (r .model) (r .kept)
 
 -- ---- walking the batches
+
+-- what is told of each batch that an open store gives, from a frame's index on
+abbrev pub toldAt : {A : Type 0} → (List ℕ → A) → RecoveredFound → List ℕ → (ℕ → List A) → List A
+toldAt tell (found.Batch i at) l rest = tell (pageFrom (at + 16) l) ∷ rest (i + 1)
+toldAt tell found.Nothing l rest = []
+toldAt tell (found.Refused r) l rest = []
+
+pub record Walk {A : Type 0} (tell : List ℕ → A) (w : World) (by : ℕ → ℕ → List A) : Type 0 where
+  pub none : (i : ℕ) → by 0 i ≡ []
+  pub more : (k i : ℕ) → by (suc k) i ≡ toldAt tell (nextRecovered (w .pager) (w .log) i) (w .log) (by k)
+
+-- demand 3's is one
+told-walked : (f : RecoveredFound) (l : List ℕ) (rest : ℕ → List Batch) → walkedAt f l rest ≡ toldAt batchIn f l rest
+told-walked (found.Batch i at) l rest = refl
+told-walked found.Nothing l rest = refl
+told-walked (found.Refused r) l rest = refl
+
+pub walked-walk : (w : World) → Walk batchIn w (λ k i. walked k w i)
+unfolding walked
+walked-walk w = record { none = λ i. refl; more = λ k i. told-walked (nextRecovered (w .pager) (w .log) i) (w .log) (walked k w) }
 
 -- a batch that is found is one of the frames
 Within : ℕ → BatchFound → Type 0
@@ -80,27 +102,30 @@ module _ (w : World) (S : List (List ℕ)) (fine : logFine (w .pager .wal .len) 
       let e : getD S j [] ≡ frameAt (chunkAt j) (w .log) = rw front at (g ∙ f) in
       sym (rw e (body-there (chunkAt j) (w .log)))
 
-  abbrev told : List (List ℕ) → List Batch
-  told fs = map (λ (f : List ℕ). batchIn (bodyOf f)) fs
-
-  walk-step : (k i : ℕ) → ((m : ℕ) → length S ≤ k + m → walked k w m ≡ told (batchesIn (drop m S))) → length S ≤ suc k + i → (r : BatchFound)
-      → Walked S i r → Within (length S) r → walkedAt (recoveredBatch r) (w .log) (walked k w) ≡ told (batchesIn (drop i S))
-  unfolding Within
-  walk-step k i later h batch.Nothing f b = sym (ap told f)
-  walk-step k i later h (batch.Batch j at) f b =
-      let n : length S ≤ k + (j + 1) = omega (arith, f .behind) in
-      let p : pageFrom (at + 16) (w .log) ≡ bodyOf (getD S j []) = rw (f .place) (body-is j b) in
-      rw (p, later (j + 1) n) (sym (ap told (f .batches)))
-
   inside : (i m : ℕ) → length S - i ≡ m → Within (length S) (batchFrom i (drop i S))
   unfolding batchFrom Within
   inside i zero e = rw (drop-of-length-le S {i = i} (omega arith)) tt
   inside i (suc m) e = within-more (i + length (drop i S)) (length S) (batchFrom i (drop i S)) (omega (arith, length-drop i S)) (batch-within i (drop i S))
 
-  walked-is : (k i : ℕ) → length S ≤ k + i → walked k w i ≡ told (batchesIn (drop i S))
-  unfolding walked batchesIn
-  walked-is zero i h = rw (drop-of-length-le S {i = i} (omega arith))
-  walked-is (suc k) i h = rw (next-is i) (walk-step k i (walked-is k) h (batchFrom i (drop i S)) (batches-walked S i) (inside i (length S - i) refl))
+  -- any walk tells the bodies of the batches among the frames, in order
+  module _ {A : Type 0} (tell : List ℕ → A) (by : ℕ → ℕ → List A) (walk : Walk tell w by) where
+    abbrev told : List (List ℕ) → List A
+    told fs = map (λ (f : List ℕ). tell (bodyOf f)) fs
+
+    walk-step : (k i : ℕ) → ((m : ℕ) → length S ≤ k + m → by k m ≡ told (batchesIn (drop m S))) → length S ≤ suc k + i → (r : BatchFound)
+        → Walked S i r → Within (length S) r → toldAt tell (recoveredBatch r) (w .log) (by k) ≡ told (batchesIn (drop i S))
+    unfolding Within
+    walk-step k i later h batch.Nothing f b = sym (ap told f)
+    walk-step k i later h (batch.Batch j at) f b =
+        let n : length S ≤ k + (j + 1) = omega (arith, f .behind) in
+        let p : pageFrom (at + 16) (w .log) ≡ bodyOf (getD S j []) = rw (f .place) (body-is j b) in
+        rw (p, later (j + 1) n) (sym (ap told (f .batches)))
+
+    walk-is : (k i : ℕ) → length S ≤ k + i → by k i ≡ told (batchesIn (drop i S))
+    unfolding batchesIn
+    walk-is zero i h = rw (walk .none i, drop-of-length-le S {i = i} (omega arith))
+    walk-is (suc k) i h =
+        rw (walk .more k i, next-is i) (walk-step k i (walk-is k) h (batchFrom i (drop i S)) (batches-walked S i) (inside i (length S - i) refl))
 
 -- ---- after the opening
 
@@ -130,9 +155,10 @@ module _ {d : Disk} {b : Model} {z : List ℕ} (k : DiskOk d b z) (lent : Lent) 
         kept = k .kept;
       })
 
-  returned : walked 1025 opensTo 0 ≡ b .committed
+  -- a walk tells the bodies of the committed frames' batches
+  walked-on : {A : Type 0} (tell : List ℕ → A) (by : ℕ → ℕ → List A) → Walk tell opensTo by → by 1025 0 ≡ map (λ (f : List ℕ). tell (bodyOf f)) (batchesIn (k .S))
   unfolding opensAs
-  returned =
+  walked-on tell by walk =
       let len : openLog on .len ≤ walArea = rw (open-len on) (omega (arith, committed-len on, on .log .fits)) in
       let fine : logFine (openLog on .len) (readInto lent d .log .area) ≡ true =
       rw (eq-eqb (length (readInto lent d .log .area)) walArea (on .log .area), le-leb (openLog on .len) walArea len) in
@@ -140,10 +166,15 @@ module _ {d : Disk} {b : Model} {z : List ℕ} (k : DiskOk d b z) (lent : Lent) 
       let front : chunks (take (chunkAt (length (k .S))) (readInto lent d .log .area)) ≡ k .S =
       ap chunks (sym (take-take (chunkAt (length (k .S))) (d .log .len) (readInto lent d .log .area) (committed-len on)) ∙ ap (λ (m : ℕ). take m (content (readInto lent d .log))) (sym (point-is on)))
       ∙ committed-committed (content (readInto lent d .log)) ∙ committed-is on in
-      walked-is opensTo (k .S) fine refl refl front (rw (on .log .area) few) 1025 0 (omega arith) ∙ k .on .model .batches
+      walk-is opensTo (k .S) fine refl refl front (rw (on .log .area) few) tell by walk 1025 0 (omega arith)
+
+  pub opened-told : {A : Type 0} (tell : List ℕ → A) (by : ℕ → ℕ → List A) → Walk tell (openedWorld mode.ReadWrite lent d w) by
+      → by 1025 0 ≡ map (λ (f : List ℕ). tell (bodyOf f)) (batchesIn (k .S))
+  opened-told tell by walk = walked-on tell by (rw world-is at walk)
 
   pub opened-returns : walked 1025 (openedWorld mode.ReadWrite lent d w) 0 ≡ b .committed
-  opened-returns = rw world-is returned
+  opened-returns =
+      opened-told batchIn (λ k i. walked k (openedWorld mode.ReadWrite lent d w) i) (walked-walk (openedWorld mode.ReadWrite lent d w)) ∙ k .on .model .batches
 
 -- ---- the openings that follow a cut
 

@@ -22,9 +22,7 @@ use Rattle.text.proofs.Answers.{counted-well, counted-ill, empty-well, empty-ch
 use Rattle.refusal.specs.declared.Refusal.{Refusal}
 use Rattle.refusal.specs.declared.Refusal.the-variants.{Short, Magic, Truncated, Text}
 use Rattle.mvcc.specs.Answer.{Answer, taken, refused, then, many, why}
-use Rattle.mvcc.specs.Decode.{fitsIn, numAt, textOf, textAt, signed, columnAt, presentAt, judgedAt, recordAt, batchMagic, recordsAt, batchEnd, headingRefusal, batchOf}
-use Rattle.mvcc.specs.declared.TextPlace.{TextPlace}
-use Rattle.mvcc.specs.declared.RowID.{RowID}
+use Rattle.mvcc.specs.Decode.{fitsIn, numAt, textOf, signed, recordAt, batchMagic, recordsAt, batchEnd, headingRefusal, batchOf}
 use Rattle.mvcc.specs.declared.VersionPayload.the-variants as payload
 use Rattle.mvcc.specs.declared.MvccLogRecord.{MvccLogRecord}
 use Rattle.mvcc.specs.declared.BatchDecoded.the-variants as batch
@@ -56,7 +54,7 @@ ends-then : {A : Type 0} (x : Answer A) (m : ℕ → Answer (List A))
 ends-then (taken a next) m = ends-cons a (m next)
 ends-then (refused k) m = refl
 
-then-ends : {A B : Type 0} (x : Answer A) (g : ℕ → Answer B) → then x (λ a end. g end) ≡ then (ends x) (λ u end. g end)
+pub then-ends : {A B : Type 0} (x : Answer A) (g : ℕ → Answer B) → then x (λ a end. g end) ≡ then (ends x) (λ u end. g end)
 then-ends (taken a next) g = refl
 then-ends (refused k) g = refl
 
@@ -164,38 +162,6 @@ module _ (s : List ℕ) (at n : ℕ) where
   pub text-short : fitsIn s at n ≡ false → refused Truncated ≡ textOf s at n
   unfolding textOf
   text-short t = rw t
-
--- ---- present records
-
-module _ (s : List ℕ) (r : RowID) (at : ℕ) {n first : ℕ} (e : numAt 2 s at ≡ taken n first) where
-  past : presentAt s r at ≡ then (ends (many (columnAt s) n first)) (λ u end. taken (record { row = r; payload = payload.Present n first }) end)
-  unfolding presentAt
-  past = rw e (then-ends (many (columnAt s) n first) (λ end. taken (record { row = r; payload = payload.Present n first }) end))
-
-  pub present-good : {next : ℕ} → ends (many (columnAt s) n first) ≡ taken tt next
-      → taken (record { row = r; payload = payload.Present n first }) next ≡ presentAt s r at
-  present-good f = rw (past, f)
-
-  pub present-bad : {k : Refusal} → ends (many (columnAt s) n first) ≡ refused k → refused k ≡ presentAt s r at
-  present-bad f = rw (past, f)
-
--- ---- "An op is judged after table and row id are read"
-
-module _ (s : List ℕ) (at : ℕ) {op named : ℕ} (o : numAt 1 s at ≡ taken op named) where
-  -- what refuses the table refuses the record, whatever the op
-  pub table-first : {k : Refusal} → textAt 2 s named ≡ refused k → refused k ≡ recordAt s at
-  unfolding recordAt
-  table-first e = rw (o, e)
-
-  module _ {t : TextPlace} {next : ℕ} (e : textAt 2 s named ≡ taken t next) where
-    -- and so does what refuses the row id
-    pub row-first : {k : Refusal} → numAt 8 s next ≡ refused k → refused k ≡ recordAt s at
-    unfolding recordAt
-    row-first f = rw (o, e, f)
-
-    pub judged-last : {n rest : ℕ} → numAt 8 s next ≡ taken n rest → judgedAt s op (record { table = t; rowid = signed n }) rest ≡ recordAt s at
-    unfolding recordAt
-    judged-last f = rw (o, e, f)
 
 -- ---- the heading of a batch
 

@@ -9,3 +9,6 @@ pub mod Whole
 pub mod Encode
 pub mod Canonical
 pub mod Heading
+pub mod Items
+pub mod Parts
+pub mod Counted

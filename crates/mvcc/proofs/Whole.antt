@@ -97,17 +97,17 @@ module _ (t : ℕ) (rs : List Rec) (pad : List ℕ) (g : GoodBatch t rs) where
   count-here : Has body 16 count-on
   count-here = has-after 8 (leBytes 8 t) count-on (length-leBytes 8 t) time-here
 
-  records-here : Has body 18 (all encodeRecord rs)
+  pub records-here : Has (encodeBatch t rs ++ pad) 18 (all encodeRecord rs)
   records-here = has-after 2 (leBytes 2 (length rs)) (all encodeRecord rs) (length-leBytes 2 (length rs)) count-here
 
-  marked-here : field 8 0 body ≡ batchMagic
+  pub marked-here : field 8 0 (encodeBatch t rs ++ pad) ≡ batchMagic
   unfolding encodeBatch leOf batchMagic
   marked-here = refl
 
   pub time-read : field 8 8 body ≡ t
   time-read = has-field 8 t (g .time) (has-left (leBytes 8 t) count-on time-here)
 
-  count-read : field 2 16 body ≡ length rs
+  pub count-read : field 2 16 (encodeBatch t rs ++ pad) ≡ length rs
   count-read = has-field 2 (length rs) (g .few) (has-left (leBytes 2 (length rs)) (all encodeRecord rs) count-here)
 
   given : Gives (map (seenRecord body)) (recordsAt body) rs (18 + length (all encodeRecord rs))

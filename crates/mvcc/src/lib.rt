@@ -2,10 +2,14 @@
 // Nothing is copied: texts and vectors are told by their places in the body, and a batch is walked
 // record by record and column by column with a cursor. Every public function is total.
 ghost use mathlib.Core.Path.{_≡_};
-ghost use lib.ListN.{drop, take};
+ghost use Prim.Native.Nat.{_^_, _≤_, _<_};
+ghost use lib.ListN.{length, drop, take};
 ghost use Rattle.mvcc.specs.Answer.{why};
-ghost use Rattle.mvcc.specs.Fields.{numAnswer, textAnswer, valueAnswer, columnAnswer, recordAnswer};
-ghost use Rattle.mvcc.specs.Decode.{numAt, textOf, textAt, signed, realOf, integerAt, realAt, boolAt, textValueAt, vectorAt, valueAt, columnAt, presentAt, recordAt, batchOf};
+ghost use Rattle.mvcc.specs.Batch.{bodySize};
+ghost use Rattle.mvcc.specs.Fields.{numAnswer, textAnswer, valueAnswer, columnAnswer, rowAnswer, payloadAnswer, recordAnswer, itemsOf, itemsIn, refusedBatch};
+ghost use Rattle.mvcc.specs.Decode.{numAt, textOf, textAt, signed, realOf, integerAt, realAt, boolAt, textValueAt, vectorAt, valueAt, columnAt, recordAt};
+ghost use Rattle.mvcc.specs.Parts.{rowAt, columnsAt, payloadAt};
+ghost use Rattle.mvcc.specs.Items.{presentItems, judgedItems, reportOf, bodyItems};
 ghost use Rattle.mvcc.specs.Seen.{headingJudged, decodes};
 ghost use Rattle.mvcc.specs.Vector.{bitsAt, elementAt};
 use refusal::Refusal;
@@ -92,6 +96,18 @@ pub enum ColumnField {
     Refused(Refusal),
 }
 
+// A record's op and row.
+enum RowField {
+    Taken(u64, RowID, usize),
+    Refused(Refusal),
+}
+
+// What a record says of its row; or why it does not, and how many of its items were read before.
+enum PayloadField {
+    Taken(VersionPayload, usize),
+    Refused(Refusal, usize),
+}
+
 pub enum RecordField {
     Taken(MvccLogRecord, usize),
     Refused(Refusal),
@@ -100,6 +116,12 @@ pub enum RecordField {
 pub enum BatchDecoded {
     Batch(MvccCommitBatch),
     Refused(Refusal),
+}
+
+// What decoding a body came to, and how many items, records and columns, it read; those before a refusal count too.
+pub struct DecodeReport {
+    pub answer: BatchDecoded,
+    pub items: usize,
 }
 
 // What a body's heading alone says.
@@ -340,12 +362,46 @@ fn why_column(c: ColumnField) -> Refusal
     }
 }
 
-// The rest of a present record: its column count and its columns.
-fn present_at(body: &[u8], row: RowID, at: usize) -> RecordField
-    ensures { λ r. ⌜ recordAnswer r ≡ presentAt (now (body .entry)) row at ⌝ }
+// A record's op, table and row id, with the cursor behind them.
+fn row_at(body: &[u8], at: usize) -> RowField
+    ensures { λ r. ⌜ rowAnswer r ≡ rowAt (now (body .entry)) at ⌝ }
+{
+    let NumField::Taken(op, named) = take_u8(body, at) else {
+        return RowField::Refused(Refusal::Truncated);
+    };
+    let t = read_str(body, named);
+    let TextField::Taken(table, next) = t else {
+        return RowField::Refused(why_text(t));
+    };
+    let NumField::Taken(n, rest) = take_u64(body, next) else {
+        return RowField::Refused(Refusal::Truncated);
+    };
+    RowField::Taken(
+        op,
+        RowID {
+            table,
+            rowid: signed_of(n),
+        },
+        rest,
+    )
+}
+
+fn why_row(r: RowField) -> Refusal
+    ensures { λ k. ⌜ k ≡ why (rowAnswer r) ⌝ }
+{
+    match r {
+        RowField::Taken(_, _, _) => Refusal::Truncated,
+        RowField::Refused(k) => k,
+    }
+}
+
+// The rest of a present record: its column count, with which the record counts, and its columns.
+fn present_at(body: &[u8], at: usize) -> PayloadField
+    ensures { λ r. ⌜ payloadAnswer r ≡ columnsAt (now (body .entry)) at ⌝ }
+    ensures { λ r. ⌜ itemsIn r ≡ presentItems (now (body .entry)) at ⌝ }
 {
     let NumField::Taken(n, first) = take_u16(body, at) else {
-        return RecordField::Refused(Refusal::Truncated);
+        return PayloadField::Refused(Refusal::Truncated, 0);
     };
     let count = n as usize;
     let mut end = first;
@@ -353,90 +409,124 @@ fn present_at(body: &[u8], row: RowID, at: usize) -> RecordField
     while 0 < left {
         let c = decode_column(body, end);
         let ColumnField::Taken(_, next) = c else {
-            return RecordField::Refused(why_column(c));
+            return PayloadField::Refused(why_column(c), count - left + 1);
         };
         end = next;
         left -= 1;
     }
-    RecordField::Taken(
-        MvccLogRecord {
-            row,
-            payload: VersionPayload::Present { count, first },
-        },
-        end,
-    )
+    PayloadField::Taken(VersionPayload::Present { count, first }, end)
 }
 
-// The record at a cursor, with the next cursor. Its op is judged after its table and its row id are read.
+// What follows a row id. The op is judged here: after table and row id are read.
+fn payload_at(body: &[u8], op: u64, at: usize) -> PayloadField
+    ensures { λ r. ⌜ payloadAnswer r ≡ payloadAt (now (body .entry)) op at ⌝ }
+    ensures { λ r. ⌜ itemsIn r ≡ judgedItems (now (body .entry)) op at ⌝ }
+{
+    if op == 0 {
+        return PayloadField::Taken(VersionPayload::Tombstone, at);
+    }
+    if op == 1 {
+        return present_at(body, at);
+    }
+    PayloadField::Refused(Refusal::Tag, 0)
+}
+
+fn why_payload(p: PayloadField) -> Refusal
+    ensures { λ k. ⌜ k ≡ why (payloadAnswer p) ⌝ }
+{
+    match p {
+        PayloadField::Taken(_, _) => Refusal::Truncated,
+        PayloadField::Refused(k, _) => k,
+    }
+}
+
+// The items of a record: itself and its columns.
+fn items_of(p: VersionPayload) -> usize
+    requires { ⌜ itemsOf p < 2 ^ 64 ⌝ }
+    ensures { λ r. ⌜ r ≡ itemsOf p ⌝ }
+{
+    match p {
+        VersionPayload::Tombstone => 1,
+        VersionPayload::Present { count, first: _ } => count + 1,
+    }
+}
+
+// How many items of a record were read.
+fn items_in(p: PayloadField) -> usize
+    requires { ⌜ itemsIn p < 2 ^ 64 ⌝ }
+    ensures { λ r. ⌜ r ≡ itemsIn p ⌝ }
+{
+    match p {
+        PayloadField::Taken(payload, _) => items_of(payload),
+        PayloadField::Refused(_, items) => items,
+    }
+}
+
+// The record at a cursor, with the next cursor.
 pub fn decode_record(body: &[u8], at: usize) -> RecordField
     ensures { λ r. ⌜ recordAnswer r ≡ recordAt (now (body .entry)) at ⌝ }
 {
-    let NumField::Taken(op, named) = take_u8(body, at) else {
-        return RecordField::Refused(Refusal::Truncated);
+    let r = row_at(body, at);
+    let RowField::Taken(op, row, rest) = r else {
+        return RecordField::Refused(why_row(r));
     };
-    let t = read_str(body, named);
-    let TextField::Taken(table, next) = t else {
-        return RecordField::Refused(why_text(t));
+    let p = payload_at(body, op, rest);
+    let PayloadField::Taken(payload, end) = p else {
+        return RecordField::Refused(why_payload(p));
     };
-    let NumField::Taken(n, rest) = take_u64(body, next) else {
-        return RecordField::Refused(Refusal::Truncated);
-    };
-    let row = RowID {
-        table,
-        rowid: signed_of(n),
-    };
-    if op == 0 {
-        return RecordField::Taken(
-            MvccLogRecord {
-                row,
-                payload: VersionPayload::Tombstone,
-            },
-            rest,
-        );
-    }
-    if op == 1 {
-        return present_at(body, row, rest);
-    }
-    RecordField::Refused(Refusal::Tag)
+    RecordField::Taken(MvccLogRecord { row, payload }, end)
 }
 
-fn why_record(r: RecordField) -> Refusal
-    ensures { λ k. ⌜ k ≡ why (recordAnswer r) ⌝ }
+// ---- a whole body
+
+// A body that is refused when so many items are read.
+fn refused_batch(row: Refusal, items: usize) -> DecodeReport
+    ensures { λ r. ⌜ r ≡ refusedBatch row items ⌝ }
 {
-    match r {
-        RecordField::Taken(_, _) => Refusal::Truncated,
-        RecordField::Refused(k) => k,
+    DecodeReport {
+        answer: BatchDecoded::Refused(row),
+        items,
     }
 }
 
 impl MvccCommitBatch {
     // A batch's body: its heading and its records. Bytes after the last record are ignored.
-    pub fn decode(body: &[u8]) -> BatchDecoded
-        ensures { λ r. ⌜ r ≡ batchOf (now (body .entry)) ⌝ }
+    pub fn decode(body: &[u8]) -> DecodeReport
+        ensures { λ r. ⌜ r ≡ reportOf (now (body .entry)) ⌝ }
+        ensures { λ r. ⌜ (length (now (body .entry)) ≤ bodySize → r .items ≤ bodyItems) ⌝ }
     {
         if body.len() < BATCH_HEADING_SIZE {
-            return BatchDecoded::Refused(Refusal::Short);
+            return refused_batch(Refusal::Short, 0);
         }
         if le::read_u64(body, 0) != MVCC_BODY_MAGIC {
-            return BatchDecoded::Refused(Refusal::Magic);
+            return refused_batch(Refusal::Magic, 0);
         }
         let commit_ts = le::read_u64(body, 8);
         let records = le::read_u16(body, 16) as usize;
         let mut end: usize = BATCH_HEADING_SIZE;
         let mut left = records;
+        let mut items: usize = 0;
         while 0 < left {
-            let r = decode_record(body, end);
-            let RecordField::Taken(_, next) = r else {
-                return BatchDecoded::Refused(why_record(r));
+            let r = row_at(body, end);
+            let RowField::Taken(op, _, rest) = r else {
+                return refused_batch(why_row(r), items);
+            };
+            let p = payload_at(body, op, rest);
+            items += items_in(p);
+            let PayloadField::Taken(_, next) = p else {
+                return refused_batch(why_payload(p), items);
             };
             end = next;
             left -= 1;
         }
-        BatchDecoded::Batch(MvccCommitBatch {
-            commit_ts,
-            records,
-            end,
-        })
+        DecodeReport {
+            answer: BatchDecoded::Batch(MvccCommitBatch {
+                commit_ts,
+                records,
+                end,
+            }),
+            items,
+        }
     }
 }
 
@@ -457,7 +547,8 @@ pub fn heading_refusal(body: &[u8]) -> HeadingJudged
 pub fn decodes(body: &[u8]) -> bool
     ensures { λ r. ⌜ r ≡ decodes (now (body .entry)) ⌝ }
 {
-    match MvccCommitBatch::decode(body) {
+    let answer = MvccCommitBatch::decode(body).answer;
+    match answer {
         BatchDecoded::Batch(_) => true,
         BatchDecoded::Refused(_) => false,
     }

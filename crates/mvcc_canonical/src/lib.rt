@@ -132,7 +132,7 @@ pub fn canonicalize(body: &[u8], out: &mut [u8]) -> Canonical
     if BATCH_BODY_SIZE < body.len() {
         return Canonical::Refused(Refusal::Area);
     }
-    let d = mvcc::MvccCommitBatch::decode(body);
+    let d = mvcc::MvccCommitBatch::decode(body).answer;
     let mvcc::BatchDecoded::Batch(b) = d else {
         return canonical_answer(d);
     };

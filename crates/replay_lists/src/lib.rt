@@ -1,4 +1,5 @@
 // Test support: the lists of cases that the test programs replay, each its own (compare/README.md), and their one main.
+mod bodies;
 mod frames;
 mod headers;
 mod logs;
@@ -10,6 +11,8 @@ use input::Input;
 
 // A list of cases, by what its cases are; beside it the program that replays it.
 pub enum List {
+    // items_replay
+    Bodies,
     // checksum_replay
     Frames,
     // header_replay
@@ -37,6 +40,7 @@ pub fn run(list: List) {
 // Says that the list could not be read.
 fn not_read(list: List) {
     match list {
+        List::Bodies => print_error(b"items_replay"),
         List::Frames => print_error(b"checksum_replay"),
         List::Headers => print_error(b"header_replay"),
         List::Logs => print_error(b"log_replay"),
@@ -72,6 +76,7 @@ fn answer_all(list: List, cases: &[u8]) {
 // Answers one case of the list.
 fn answer(list: List, case: &[u8]) {
     match list {
+        List::Bodies => bodies::answer(case),
         List::Frames => frames::answer(case),
         List::Headers => headers::answer(case),
         List::Logs => logs::answer(case),

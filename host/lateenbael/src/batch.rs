@@ -14,6 +14,18 @@ pub struct Batch<'a> {
     numbers: sys::Batch,
 }
 
+/// What decoding a body came to, and how many items were read.
+///
+/// A record is an item, and so is each of its columns: a row that is gone counts when its row id is read, one that is there when its
+/// column count is, a column when its value is. In a body of up to 4,096 bytes there are at most [`sys::MOST_ITEMS`].
+#[derive(Clone, Copy, Debug, PartialEq)]
+pub struct Report<'a> {
+    /// The batch. Refusals 2, 3 and 17 to 19.
+    pub batch: Result<Batch<'a>, Refusal>,
+    /// How many items were read; of a refused body those before the refusal.
+    pub item_count: usize,
+}
+
 /// A record: a row that is gone, or one that is there, with its columns.
 #[derive(Clone, Copy, Debug, PartialEq)]
 pub struct Record<'a> {
@@ -132,10 +144,17 @@ fn value_at(body: &[u8], value: sys::Value) -> Value<'_> {
 impl<'a> Batch<'a> {
     /// Refusals 2, 3 and 17 to 19.
     pub fn decode(body: &'a [u8]) -> Result<Batch<'a>, Refusal> {
+        Batch::report(body).batch
+    }
+
+    /// The same, with the number of items of a refused body too.
+    pub fn report(body: &'a [u8]) -> Report<'a> {
         // SAFETY: a whole slice is lent, which the call reads and does not keep.
         let numbers = unsafe { sys::lateenbael_mvcc_decode(body.as_ptr(), body.len()) };
-        Refusal::check(numbers.refusal)?;
-        Ok(Batch { body, numbers })
+        Report {
+            batch: Refusal::check(numbers.refusal).map(|()| Batch { body, numbers }),
+            item_count: numbers.items,
+        }
     }
 
     /// Its commit's time.
@@ -146,6 +165,11 @@ impl<'a> Batch<'a> {
     /// How many records it has.
     pub fn record_count(&self) -> usize {
         self.numbers.records
+    }
+
+    /// How many items it has: its records and all their columns. The number is there already, nothing is walked for it.
+    pub fn item_count(&self) -> usize {
+        self.numbers.items
     }
 
     /// The bytes it lies in.

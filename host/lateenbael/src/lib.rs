@@ -55,7 +55,7 @@ mod snapshot;
 mod store;
 mod text;
 
-pub use batch::{Batch, BatchBuilder, Column, Columns, Record, Value, Vector};
+pub use batch::{Batch, BatchBuilder, Column, Columns, Record, Report, Value, Vector};
 pub use disk::{Comparison, Disk};
 pub use dry_run::DryRun;
 pub use engine::{Area, Engine, RecoveredBatch, Step, Write};

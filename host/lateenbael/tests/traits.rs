@@ -1,6 +1,7 @@
 //! What a Rust user expects of the crate's types.
 use lateenbael::{
-    Area, Batch, BatchBuilder, DbHeader, Engine, Error, Files, Mode, OpenOptions, PowerCut, Refusal, Snapshot, Store, Text, Value, Vector,
+    Area, Batch, BatchBuilder, DbHeader, Engine, Error, Files, Mode, OpenOptions, PowerCut, Refusal, Report, Snapshot, Store, Text, Value,
+    Vector,
 };
 use std::collections::HashSet;
 use std::fmt::Debug;
@@ -15,6 +16,7 @@ fn types_go_between_threads_and_show_themselves() {
     is_shared::<Error>();
     is_shared::<BatchBuilder>();
     is_shared::<Batch<'static>>();
+    is_shared::<Report<'static>>();
     is_shared::<Text<'static>>();
     is_shared::<OpenOptions>();
 }

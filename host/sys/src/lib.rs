@@ -17,7 +17,7 @@
 #![warn(missing_docs)]
 
 /// The version of these declarations, major * 1,000,000 + minor * 1,000 + patch; [`lateenbael_version`] is the archive's.
-pub const VERSION: u32 = 3000;
+pub const VERSION: u32 = 4000;
 /// A page's bytes.
 pub const PAGE_SIZE: usize = 4096;
 /// A page's frame in the log: 16 bytes of heading, and the page.
@@ -38,6 +38,8 @@ pub const CHECKPOINT_FRAMES: usize = 100;
 pub const LISTING_SIZE: usize = 2048;
 /// The page number of a frame that holds a batch.
 pub const MVCC_FRAME_MARKER: u32 = 4294967295;
+/// The most records and columns together that are read in a body of up to 4,096 bytes, refused or not.
+pub const MOST_ITEMS: usize = 1356;
 
 /// A main header.
 #[repr(C)]
@@ -326,7 +328,10 @@ pub struct TextAnswer {
     pub chars: usize,
 }
 
-/// A whole batch; the first record stands at 18.
+/// A whole batch; the first record stands at 18. Beside a refusal the other numbers are 0, except the items.
+///
+/// A record is an item, and so is each of its columns: a row that is gone counts when its row id is read, one that is there when its
+/// column count is, a column when its value is. In a body of up to 4,096 bytes there are at most [`MOST_ITEMS`].
 #[repr(C)]
 #[derive(Clone, Copy, Debug, PartialEq, Eq)]
 pub struct Batch {
@@ -338,6 +343,8 @@ pub struct Batch {
     pub records: usize,
     /// The place behind the last one.
     pub end: usize,
+    /// How many items were read; of a refused body those before the refusal.
+    pub items: usize,
 }
 
 /// A record.

@@ -37,6 +37,7 @@ fn the_constants_are_the_same() {
         ("CHECKPOINT_FRAMES", sys::CHECKPOINT_FRAMES),
         ("LISTING_SIZE", sys::LISTING_SIZE),
         ("MVCC_FRAME_MARKER", sys::MVCC_FRAME_MARKER as usize),
+        ("MOST_ITEMS", sys::MOST_ITEMS),
     ];
     for (name, value) in table {
         let line = format!("#define LATEENBAEL_{name} {value}");

@@ -4,9 +4,12 @@ use super::body::{Body, Value};
 use super::{case, whole};
 use crate::cases::Cases;
 
+/// How a byte is changed: these bits of it are turned.
+pub const CHANGES: [u8; 3] = [0x01, 0x80, 0xff];
+
 /// Nothing, a tombstone, a value of each kind, and two records with all of
 /// them.
-fn small_batches() -> Vec<Body> {
+pub fn small_batches() -> Vec<Body> {
     let single = |value| Body::new(0x0807, 1).present("t", -3, 1).column("c", value);
     vec![
         Body::new(0x0807_0605_0403_0201, 0),
@@ -21,7 +24,7 @@ fn small_batches() -> Vec<Body> {
     ]
 }
 
-fn mixed() -> Body {
+pub fn mixed() -> Body {
     Body::new(0x0807, 2)
         .present("ß", 1, 6)
         .column("", Value::Null)
@@ -58,7 +61,7 @@ fn truncated(cases: &mut Cases) {
 fn bytes(cases: &mut Cases) {
     for body in small_batches() {
         for at in 0..body.as_ref().len() {
-            for change in [0x01, 0x80, 0xff] {
+            for change in CHANGES {
                 cases.add(case(changed(body.as_ref(), at, change)));
             }
         }
@@ -69,7 +72,7 @@ fn bytes(cases: &mut Cases) {
     }
 }
 
-fn changed(bytes: &[u8], at: usize, change: u8) -> Vec<u8> {
+pub fn changed(bytes: &[u8], at: usize, change: u8) -> Vec<u8> {
     let mut changed = bytes.to_vec();
     changed[at] ^= change;
     changed

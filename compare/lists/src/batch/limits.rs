@@ -8,7 +8,7 @@ use super::case;
 use crate::cases::Cases;
 
 /// The body cut or filled up with zeros.
-fn of_length(body: &Body, length: usize) -> Vec<u8> {
+pub fn of_length(body: &Body, length: usize) -> Vec<u8> {
     let mut bytes = body.as_ref().to_vec();
     bytes.resize(length, 0);
     bytes

@@ -7,12 +7,12 @@ pub mod at_random;
 pub mod body;
 #[cfg(test)]
 pub mod by_document;
-mod damaged;
+pub(crate) mod damaged;
 mod faults;
 mod good;
-mod limits;
+pub(crate) mod limits;
 pub mod print;
-mod samples;
+pub(crate) mod samples;
 
 use engine::mvcc::MvccCommitBatch;
 use engine::sql::pager::page::PAGE_SIZE;
@@ -56,15 +56,15 @@ pub const REFUSALS: [(&str, u32); 6] = [
     ("invalid UTF-8", 19),
 ];
 
-fn body(case: &[u8]) -> Vec<u8> {
+pub(crate) fn body(case: &[u8]) -> Vec<u8> {
     let length = u16::from_le_bytes([case[0], case[1]]).into();
     let mut body = case[2..].to_vec();
-    assert!(body.len() <= length && length <= PAGE_SIZE);
+    assert!(body.len() <= length);
     body.resize(length, 0);
     body
 }
 
-fn case(body: impl AsRef<[u8]>) -> Vec<u8> {
+pub(crate) fn case(body: impl AsRef<[u8]>) -> Vec<u8> {
     let body = body.as_ref();
     let mut case = (body.len() as u16).to_le_bytes().to_vec();
     case.extend(shortened(body));
@@ -78,7 +78,7 @@ fn shortened(bytes: &[u8]) -> &[u8] {
 }
 
 /// As it stands in a frame, zeros behind.
-fn whole(body: impl AsRef<[u8]>) -> Vec<u8> {
+pub(crate) fn whole(body: impl AsRef<[u8]>) -> Vec<u8> {
     let mut whole = body.as_ref().to_vec();
     whole.resize(PAGE_SIZE, 0);
     whole
@@ -109,7 +109,9 @@ mod tests {
     #[test]
     fn a_case_is_its_bodys_only_one() {
         for made in cases() {
-            assert_eq!(case(body(&made)), made);
+            let body = body(&made);
+            assert!(body.len() <= PAGE_SIZE);
+            assert_eq!(case(body), made);
         }
     }
 

@@ -1,6 +1,7 @@
 //! A batch printed by the port's own decoders, through the C interface. What
-//! is printed has no number of characters, so each is looked at here.
+//! is printed has no number of characters or items, so each is looked at here.
 
+use items::Reading;
 use lateenbael::sys;
 use lists::hex;
 
@@ -15,9 +16,33 @@ pub fn records(body: &[u8]) -> Result<usize, u32> {
     }
 }
 
-fn decoded(body: &[u8]) -> sys::Batch {
+pub fn decode(body: &[u8]) -> sys::Batch {
     // Safety: the body is lent whole, and only read.
     unsafe { sys::lateenbael_mvcc_decode(body.as_ptr(), body.len()) }
+}
+
+/// How far a body was read, and how many items.
+pub fn reading_of(batch: &sys::Batch) -> Reading {
+    let refusal = u8::try_from(batch.refusal).expect("a refusal's number");
+    Reading {
+        outcome: match refusal {
+            0 => Ok(batch.end),
+            number => Err(number),
+        },
+        items: batch.items,
+    }
+}
+
+/// The answer for a body, which is read as far as the rule says.
+fn decoded(body: &[u8]) -> sys::Batch {
+    by_the_rule(decode(body), body)
+}
+
+fn by_the_rule(batch: sys::Batch, body: &[u8]) -> sys::Batch {
+    let rule = items::read(body);
+    let digits = || hex::digits(body);
+    assert_eq!(reading_of(&batch), rule, "items of the body {}", digits());
+    batch
 }
 
 /// A body that decodes, printed.
@@ -135,6 +160,43 @@ mod tests {
             "column 1 - vector 1 00000000",
         ];
         assert_eq!(lines[..4], wanted);
+    }
+
+    /// A row with one column, with another number of items, refusal or end.
+    fn with_items(refusal: u32, end: usize, items: usize) {
+        let row = Body::new(9, 1).present("t", 1, 1);
+        let row = row.column("c", Value::Null);
+        let batch = sys::Batch {
+            refusal,
+            commit_ts: 9,
+            records: 1,
+            end,
+            items,
+        };
+        by_the_rule(batch, row.as_ref());
+    }
+
+    #[test]
+    fn the_right_items_pass() {
+        with_items(0, 36, 2);
+    }
+
+    #[test]
+    #[should_panic(expected = "items of the body 4d56434330303031")]
+    fn a_record_without_its_column_is_a_difference() {
+        with_items(0, 36, 1);
+    }
+
+    #[test]
+    #[should_panic(expected = "items of the body 4d56434330303031")]
+    fn another_end_is_a_difference() {
+        with_items(0, 35, 2);
+    }
+
+    #[test]
+    #[should_panic(expected = "items of the body 4d56434330303031")]
+    fn a_refusal_is_a_difference() {
+        with_items(17, 0, 2);
     }
 
     /// The front of a body as a value of that tag, with so many characters.

@@ -1,7 +1,7 @@
 //! The port through the C interface: the proved store in memory, and two
 //! files on which every write that it names is done.
 
-mod batch;
+pub(crate) mod batch;
 mod listing;
 mod probe;
 mod writer;
@@ -107,10 +107,12 @@ impl Port {
         Ok(0)
     }
 
+    /// The body is decoded by itself too, also where it is refused.
     fn batch(&mut self, body: &[u8], writer: &mut Writer) -> Answer<usize> {
+        let records = batch::records(body);
         let write = self.engine.append_mvcc_batch(body).map_err(refused)?;
         self.write(writer, write_from(write));
-        batch::records(body).map_err(Refused::by)
+        records.map_err(Refused::by)
     }
 
     fn commit(&mut self, header: DbHeader, writer: &mut Writer) -> Answer<usize> {

@@ -3,6 +3,8 @@
 use std::collections::BTreeMap;
 use std::fmt::{self, Display, Formatter};
 
+use items::Reading;
+
 use super::draw::Theme;
 use super::view::View;
 use crate::call::{Call, Edit, Opening};
@@ -76,6 +78,8 @@ impl Tally {
                     "fold of no page, main length 0",
                 );
             }
+            Call::Batch(body) => self.batch(&body.padded(), outcome),
+            Call::BatchRaw(body) => self.batch(&body.bytes(), outcome),
             Call::Batches => self.case_if(!outcome.below.is_empty(), "batches, some recovered"),
             Call::Create => self.uncommitted = false,
             Call::Edit(edit) => self.edited(edit),
@@ -154,6 +158,23 @@ impl Tally {
         self.case_if(behind, "commit, pages at or above the count in the log");
         let length = after.log.unwrap_or(0);
         self.case_if(length > 4_210_720 - 4_112, "commit, the log's area full");
+    }
+
+    /// By the items that its body has or is refused behind.
+    fn batch(&mut self, body: &[u8], outcome: &Outcome) {
+        let Reading {
+            outcome: read,
+            items,
+        } = items::read(body);
+        let taken = outcome.result.starts_with("ok");
+        let refused = read.is_err_and(|number| outcome.result == format!("refused {number}"));
+        let most = items == items::MOST;
+        self.case_if(taken && most, "batch of as many items as can be");
+        self.case_if(refused && items > 0, "batch refused, items read before");
+        self.case_if(
+            refused && most,
+            "batch refused, as many items read before as can be",
+        );
     }
 
     fn edited(&mut self, edit: &Edit) {

@@ -2,6 +2,7 @@
 use native.Mathlib.Omega.{arith}
 use mathlib.Core.Path.{_≡_, sym, _∙_}
 use denote.Ref.{now}
+use Rattle.mvcc.proofs.Parts.{report-answer}
 use Rattle.mvcc_canonical.proofs.Whole.{Decoded, Copy, count-is, end-is, fits, walk, copied, whole, copy-is, way-out, way-long, way-refused, way-done}
 use borrow.Author.Needs.{needs}
 use Rattle.mvcc_canonical.proofs.canonicalize.Statement.{statement}
@@ -12,7 +13,7 @@ known : (c : tie.After-d) → Decoded (c .before .before .before .before .before
 known c = record {
   bytes = λ i. c .before .before .before .before .before .before .shared-slice-known .given i .fits;
   small = c .before .before .before .if2 .left;
-  is = sym (c .before .before .decode .ensures) ∙ c .d .given .1;
+  is = sym (report-answer _ (c .before .before .decode .ensures .0)) ∙ c .d .given .1;
 }
 
 -- what both stores leave
@@ -37,7 +38,7 @@ returns-3 c =
     let k = c .before .before .before in
     let l = k .before in
     let a = l .before .before .before .before .args in
-    way-refused (a .body .now) (a .out .now) (l .before .if1 .left) (l .if2 .left) (k .decode .ensures) (c .before .enum-told .given .1) (c .canonical-answer .ensures)
+    way-refused (a .body .now) (a .out .now) (l .before .if1 .left) (l .if2 .left) (report-answer (a .body .now) (k .decode .ensures .0)) (c .before .enum-told .given .1) (c .canonical-answer .ensures)
 
 sub-write-zeros : tie.Need-sub-write-zeros
 sub-write-zeros c =

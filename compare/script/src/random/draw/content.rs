@@ -3,6 +3,7 @@
 use engine::sql::pager::header::DbHeader;
 use lists::batch::at_random;
 use lists::batch::body::{Body, Value};
+use lists::items::at_random::heavy;
 
 use super::Draw;
 use crate::call::Call;
@@ -86,6 +87,7 @@ impl Draw {
             4 => self.random.bytes(4_097),
             5 => tombstones(self.random.pick(&[369, 370, 371])),
             6 | 7 => self.named_row(),
+            8 | 9 => heavy(&mut self.random),
             way => at_random::bytes(&mut self.random, way % 6),
         }
     }
@@ -151,6 +153,21 @@ mod tests {
             widths
         };
         texts.into_iter().flat_map(width).collect()
+    }
+
+    /// Refused by each of the numbers that come behind a heading, with items
+    /// read before.
+    #[test]
+    fn bodies_are_refused_behind_items() {
+        let mut draw = Draw::new(1);
+        let mut found = BTreeSet::new();
+        for _ in 0..500 {
+            let reading = items::read(&draw.body());
+            if reading.items > 0 {
+                found.extend(reading.outcome.err());
+            }
+        }
+        assert_eq!(found, BTreeSet::from([17, 18, 19]));
     }
 
     /// Each length of a character in each place that a text has.

@@ -1,0 +1,2 @@
+-- The root of the statement on how many items batches have.
+pub mod BatchItems

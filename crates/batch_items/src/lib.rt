@@ -1,0 +1,1 @@
+// How many items batches have, over histories: see specs/BatchItems.antt.
