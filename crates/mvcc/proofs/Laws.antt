@@ -22,8 +22,9 @@ use Rattle.text.proofs.Answers.{counted-well, counted-ill, empty-well, empty-ch
 use Rattle.refusal.specs.declared.Refusal.{Refusal}
 use Rattle.refusal.specs.declared.Refusal.the-variants.{Short, Magic, Truncated, Text}
 use Rattle.mvcc.specs.Answer.{Answer, taken, refused, then, many, why}
-use Rattle.mvcc.specs.Decode.{fitsIn, numAt, textOf, signed, recordAt, batchMagic, recordsAt, batchEnd, headingRefusal, batchOf}
+use Rattle.mvcc.specs.Decode.{fitsIn, numAt, textOf, textAt, signed, recordAt, batchMagic, recordsAt, batchEnd, headingRefusal, batchOf}
 use Rattle.mvcc.specs.declared.VersionPayload.the-variants as payload
+use Rattle.mvcc.specs.declared.TextPlace.{TextPlace}
 use Rattle.mvcc.specs.declared.MvccLogRecord.{MvccLogRecord}
 use Rattle.mvcc.specs.declared.BatchDecoded.the-variants as batch
 
@@ -162,6 +163,19 @@ module _ (s : List ℕ) (at n : ℕ) where
   pub text-short : fitsIn s at n ≡ false → refused Truncated ≡ textOf s at n
   unfolding textOf
   text-short t = rw t
+
+-- ---- "An op is judged after table and row id are read"
+
+module _ (s : List ℕ) (at : ℕ) {op named : ℕ} (o : numAt 1 s at ≡ taken op named) where
+  -- what refuses the table refuses the record, whatever the op
+  pub table-first : {k : Refusal} → textAt 2 s named ≡ refused k → refused k ≡ recordAt s at
+  unfolding recordAt
+  table-first e = rw (o, e)
+
+  -- and so does what refuses the row id
+  pub row-first : {t : TextPlace} {next : ℕ} → textAt 2 s named ≡ taken t next → {k : Refusal} → numAt 8 s next ≡ refused k → refused k ≡ recordAt s at
+  unfolding recordAt
+  row-first e f = rw (o, e, f)
 
 -- ---- the heading of a batch
 

@@ -51,18 +51,18 @@ taken-same (refused k) h = refl
 -- ---- op, table and row id
 
 module _ (s : List ℕ) (at : ℕ) {op named : ℕ} (o : numAt 1 s at ≡ taken op named) where
-  pub table-first : {k : Refusal} → textAt 2 s named ≡ refused k → refused k ≡ rowAt s at
+  pub table-refused : {k : Refusal} → textAt 2 s named ≡ refused k → refused k ≡ rowAt s at
   unfolding rowAt
-  table-first e = rw (o, e)
+  table-refused e = rw (o, e)
 
   module _ {t : TextPlace} {next : ℕ} (e : textAt 2 s named ≡ taken t next) where
-    pub row-first : {k : Refusal} → numAt 8 s next ≡ refused k → refused k ≡ rowAt s at
+    pub id-refused : {k : Refusal} → numAt 8 s next ≡ refused k → refused k ≡ rowAt s at
     unfolding rowAt
-    row-first f = rw (o, e, f)
+    id-refused f = rw (o, e, f)
 
-    pub row-last : {n rest : ℕ} → numAt 8 s next ≡ taken n rest → taken (op, record { table = t; rowid = signed n }) rest ≡ rowAt s at
+    pub row-taken : {n rest : ℕ} → numAt 8 s next ≡ taken n rest → taken (op, record { table = t; rowid = signed n }) rest ≡ rowAt s at
     unfolding rowAt
-    row-last f = rw (o, e, f)
+    row-taken f = rw (o, e, f)
 
 -- ---- what follows
 

@@ -5,7 +5,7 @@ use borrow.Author.Needs.{needs}
 use Rattle.mvcc.specs.Fields.{numAnswer, textAnswer}
 use Rattle.mvcc.specs.Parts.{rowAt}
 use Rattle.mvcc.proofs.Laws.{told, passed}
-use Rattle.mvcc.proofs.Parts.{table-first, row-first, row-last}
+use Rattle.mvcc.proofs.Parts.{table-refused, id-refused, row-taken}
 use Rattle.mvcc.proofs.row_at.Statement.{statement}
 use Rattle.mvcc.proofs.row_at.Tie as tie
 
@@ -16,14 +16,14 @@ returns c = rw (told numAnswer (c .before .before .take-u8 .ensures) (c .enum-to
 returns-2 : tie.Need-returns-2
 returns-2 c =
     let o = c .before .before .before .before in
-    table-first _ _ (told numAnswer (o .before .before .before .take-u8 .ensures) (o .before .op .given .1))
+    table-refused _ _ (told numAnswer (o .before .before .before .take-u8 .ensures) (o .before .op .given .1))
     (passed textAnswer (c .before .before .before .read-str .ensures) (c .before .enum-told2 .given .1) (c .why-text .ensures) refl)
 
 returns-3 : tie.Need-returns-3
 returns-3 c =
     let t = c .before .before .before in
     let o = t .before .before .before .before in
-    row-first _ _ (told numAnswer (o .before .before .before .take-u8 .ensures) (o .before .op .given .1))
+    id-refused _ _ (told numAnswer (o .before .before .before .take-u8 .ensures) (o .before .op .given .1))
     (told textAnswer (t .before .before .before .read-str .ensures) (t .before .t .given .1)) (told numAnswer (c .before .before .take-u64 .ensures) (c .enum-told3 .given .1))
 
 returns-4 : tie.Need-returns-4
@@ -33,7 +33,7 @@ returns-4 c =
     let t = n .before .before .before .before in
     let o = t .before .before .before .before in
     rw (toZ-ofZ w64 (f .result) (record { sfits = f .ok }), f .ensures)
-    (row-last _ _ (told numAnswer (o .before .before .before .take-u8 .ensures) (o .before .op .given .1))
+    (row-taken _ _ (told numAnswer (o .before .before .before .take-u8 .ensures) (o .before .op .given .1))
     (told textAnswer (t .before .before .before .read-str .ensures) (t .before .t .given .1)) (told numAnswer (n .before .before .before .take-u64 .ensures) (n .before .n .given .1)))
 
 pub row-at-spec : {M : Type 1} → statement M
