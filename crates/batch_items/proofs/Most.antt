@@ -2,6 +2,7 @@
 use mathlib.Core.Path.{_≡_, refl, _∙_}
 use mathlib.Core.List.{List, [], _∷_, _++_, append-nil}
 use Prim.Native.Nat.{ℕ, zero, suc, _+_, _-_, _*_, _/_, _^_, _≤_, _<_}
+use native.Mathlib.Nat.{add-comm}
 use native.Mathlib.Omega.{arith}
 use borrow.Author.Tests.{le-leb, lt-leb, lt-ltb}
 use lib.Dec.{lit<}
@@ -19,7 +20,7 @@ use Rattle.mvcc.proofs.Items.{most-by, items-most}
 use Rattle.mvcc.proofs.Counted.{encoded-items}
 use Rattle.mvcc_build.specs.Build.{column}
 use Rattle.cases.specs.Cases.{tombstones, nulls, nullRow}
-use Rattle.cases.proofs.Built.{tombstones-size, nulls-size}
+use Rattle.cases.proofs.Built.{tombstones-size, null-size, nulls-size, nulls-rows}
 use Rattle.batch_items.specs.BatchItems.{columnPlaces, recordPlaces, placesFrom, placesIn, Giving}
 use Rattle.batch_items.proofs.Places.{places-append, columns-late, batch-cut}
 
@@ -103,23 +104,15 @@ rows-gone : rowsItems (tombstones (pos 0 ∷ [])) ≡ 1
 unfolding rowsItems
 rows-gone = refl
 
-rows-there : (n : ℕ) → rowsItems (nullRow (pos 0) n) ≡ 1 + n
-unfolding rowsItems
-rows-there n = rw length-replicate (omega arith)
-
 pub most-reached : (len : ℕ) → len ≤ 18 + 13 + 3 * 65535 → Giving len (mostItems (len - 18))
 most-reached len h =
     most-by (Giving len) (len - 18) (bare len)
     (λ g k. rw rows-gone at (fill (tombstones (pos 0 ∷ [])) len gone-good gone-bytes (rw tombstones-size (omega (arith, k)))))
     (λ g.
     let n = (len - 18 - 13) / 3 in
-    rw (rows-there n) at (fill (nullRow (pos 0) n) len (there-good n (omega (arith, h))) (there-bytes n) (rw nulls-size (omega (arith, g)))))
+    rw (nulls-rows (pos 0) n, add-comm n 1) at (fill (nullRow (pos 0) n) len (there-good n (omega (arith, h))) (there-bytes n) (rw nulls-size (omega (arith, g)))))
 
 -- ---- more columns than fit, cut
-
-null-size : length (encodeColumn (column [] null)) ≡ 3
-unfolding encodeColumn encodeText encodeValue leBytes
-null-size = refl
 
 -- of n null columns from `at` on, k lie before the cut
 nulls-in : (m k n at : ℕ) → k ≤ n → at + 3 * k ≤ m → m < at + 3 * (k + 1) → placesIn m (columnPlaces at (nulls n)) ≡ k

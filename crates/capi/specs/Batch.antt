@@ -40,6 +40,7 @@ use Rattle.capi.specs.declared.batch.Building.{Building}
 abbrev pub noBatch : Refusal → ℕ → BatchNumbers
 noBatch r n = record { refusal = number r; «commit_ts» = 0; records = 0; end = 0; items = n }
 
+-- an answer, when so many items are read
 abbrev pub answerNumbers : BatchDecoded → ℕ → BatchNumbers
 answerNumbers (batch.Batch b) n = record { refusal = 0; «commit_ts» = b .«commit_ts»; records = b .records; end = b .end; items = n }
 answerNumbers (batch.Refused r) n = noBatch r n

@@ -98,7 +98,7 @@ tombstones-built t rows k g h body n =
 
 -- ---- one present record with an empty table name and null columns with empty names
 
-null-size : length (encodeColumn (column [] null)) ≡ 3
+pub null-size : length (encodeColumn (column [] null)) ≡ 3
 unfolding encodeColumn encodeText encodeValue leBytes
 null-size = refl
 
@@ -178,7 +178,7 @@ nulls-built t row n k f h body l =
 
 -- ---- the items of 1,355 null columns and their record
 
-nulls-rows : (row : ℤ) (n : ℕ) → rowsItems (nullRow row n) ≡ n + 1
+pub nulls-rows : (row : ℤ) (n : ℕ) → rowsItems (nullRow row n) ≡ n + 1
 unfolding rowsItems
 nulls-rows row n = rw length-replicate (omega arith)
 
