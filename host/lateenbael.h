@@ -153,7 +153,7 @@ typedef struct {
     uint32_t version; /* 1, 2 or 3 */
     uint32_t salt;    /* tells the log's frames from those that lay there before */
     uint32_t checkpoint_seq;
-    uint64_t clock_high_water;
+    uint64_t clock_high_water; /* in an open store it may be above the file's, until a checkpoint stores it */
 } lateenbael_wal_header;
 
 /* An open log. */
@@ -273,13 +273,14 @@ lateenbael_answered lateenbael_create(uint32_t *table, size_t table_entries, uin
 /* Plain opening of the files in the first main_len and log_len bytes of their areas. access_mode 0 is read-write, any other
  * read-only. log_exists 0: there is no log file; read-write makes one, with the salt. Frames behind the commit point stay, and a
  * later commit takes them in. But behind a tail that ends in bytes that are no good frame (store.wal.good_end < store.wal.len) a commit
- * is written where no later opening finds it: open cleanly. Refusals 1 to 8. */
+ * is written where no later opening finds it: open cleanly. The clock is the log header's, and 0 without a log. Refusals 1 to 8. */
 lateenbael_answered lateenbael_open_with_mode(uint32_t *table, size_t table_entries, uint8_t *log, size_t log_size, const uint8_t *main,
                                               size_t main_size, const uint8_t *staging, size_t staging_size, size_t main_len,
                                               size_t log_len, uint32_t access_mode, uint32_t log_exists, uint32_t salt);
 
 /* Clean opening, read-write only: the log is cut at the commit point, which becomes store.wal.len, so that nothing that no
- * commit frame follows is ever taken in. Refusals 1 to 8 and 10. */
+ * commit frame follows is ever taken in. The clock is the larger of the log header's and the greatest commit_ts among the recovered
+ * batches, so that no time among them is issued again; it is in the store alone, until a checkpoint. Refusals 1 to 8 and 10. */
 lateenbael_answered lateenbael_open_clean(uint32_t *table, size_t table_entries, uint8_t *log, size_t log_size, const uint8_t *main,
                                           size_t main_size, const uint8_t *staging, size_t staging_size, size_t main_len, size_t log_len,
                                           uint32_t access_mode, uint32_t log_exists, uint32_t salt);
@@ -289,7 +290,8 @@ lateenbael_header_answer lateenbael_header(lateenbael_store store);
 lateenbael_number_answer lateenbael_access_mode(lateenbael_store store);
 lateenbael_number_answer lateenbael_clock_high_water(lateenbael_store store);
 
-/* Raises the clock; a lower value is ignored. It reaches the log's header with the next checkpoint. Refusal 9. */
+/* Raises the clock; a lower value is ignored. It reaches the log's header with the next checkpoint. A batch's time does not raise it:
+ * observe every time that is issued, for a checkpoint drops the batches and stores the clock as the store has it. Refusal 9. */
 lateenbael_answered lateenbael_observe_clock_high_water(lateenbael_store store, uint64_t value);
 
 /* Where a page stands: staged, in the log, in the main file, or nowhere. Refusals 1 and 9. */

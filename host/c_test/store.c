@@ -169,17 +169,22 @@ static void small_batch(uint8_t *body, uint64_t time) {
     CHECK(b.refusal == LATEENBAEL_OK && b.records == 1);
 }
 
+/* Appends a batch of one row, on the files too. */
+static void append_batch(host *h, disk *d, uint64_t time) {
+    uint8_t body[PAGE];
+    size_t at = h->store.wal.len;
+    small_batch(body, time);
+    CHECK(keep_store(h, lateenbael_append_mvcc_batch(h->store, h->log, LATEENBAEL_LOG_AREA, body, PAGE)) == LATEENBAEL_OK);
+    memcpy(d->log + at, h->log + at, FRAME);
+    d->log_len = h->store.wal.len;
+}
+
 static void batches(void) {
     disk d = new_disk();
     host h = seven_pages(&d), again = new_host();
-    uint8_t body[PAGE];
     unsigned writes;
     for (uint64_t time = 1; time <= 3; time++) {
-        size_t at = h.store.wal.len;
-        small_batch(body, time);
-        CHECK(keep_store(&h, lateenbael_append_mvcc_batch(h.store, h.log, LATEENBAEL_LOG_AREA, body, PAGE)) == LATEENBAEL_OK);
-        memcpy(d.log + at, h.log + at, FRAME);
-        d.log_len = h.store.wal.len;
+        append_batch(&h, &d, time);
         if (time == 2) {
             CHECK(commit_by_steps(&h, &d, header_of(&h), &writes) == 0 && writes == 1);
         }
@@ -199,6 +204,48 @@ static void batches(void) {
     CHECK(lateenbael_recovered_mvcc_commits(again.store, again.log, 0, 0).refusal == LATEENBAEL_REFUSED_AREA);
     free_host(&h);
     free_host(&again);
+    free_disk(&d);
+}
+
+/* The clock that an opening of the files leaves. */
+static uint64_t clock_after(const disk *d, enum open_mode mode) {
+    host h = new_host();
+    CHECK(open_files(&h, d, mode) == LATEENBAEL_OK);
+    lateenbael_number_answer clock = lateenbael_clock_high_water(h.store);
+    CHECK(clock.refusal == LATEENBAEL_OK && clock.number == h.store.wal.header.clock_high_water);
+    free_host(&h);
+    return clock.number;
+}
+
+static bool clocks_are(const disk *d, uint64_t clean, uint64_t header) {
+    return clock_after(d, CLEAN) == clean && clock_after(d, PLAIN) == header && clock_after(d, READ_ONLY) == header;
+}
+
+/* A clean opening takes the greatest time among the committed batches, where the log header's clock is lower; the others keep that clock.
+ * The opening stores the log's length alone, and a checkpoint behind it the clock. */
+static void clocks_of_openings(void) {
+    disk d = new_disk();
+    host h = seven_pages(&d);
+    unsigned writes;
+    append_batch(&h, &d, 9);
+    append_batch(&h, &d, 4);
+    CHECK(clocks_are(&d, 0, 0));
+    CHECK(commit_by_steps(&h, &d, header_of(&h), &writes) == 0);
+    append_batch(&h, &d, 12);
+    CHECK(lateenbael_clock_high_water(h.store).number == 0 && clocks_are(&d, 9, 0));
+    CHECK(open_files(&h, &d, CLEAN) == LATEENBAEL_OK);
+    d.log_len = h.store.wal.len;
+    CHECK(files_match(&h, &d) && clocks_are(&d, 9, 0));
+    CHECK(keep_store(&h, lateenbael_begin_checkpoint(h.store, AREAS(&h), 0xef)) == LATEENBAEL_OK);
+    CHECK(run_steps(&h, &d, &writes) == 0 && clocks_are(&d, 9, 9));
+    append_batch(&h, &d, 8);
+    CHECK(commit_by_steps(&h, &d, header_of(&h), &writes) == 0 && clocks_are(&d, 9, 9));
+    append_batch(&h, &d, UINT64_MAX);
+    CHECK(commit_by_steps(&h, &d, header_of(&h), &writes) == 0 && clocks_are(&d, UINT64_MAX, 9));
+    /* Without a log it is 0. */
+    CHECK(keep_store(&h, lateenbael_open_clean(AREAS(&h), d.main_len, 0, 0, 0, 1)) == LATEENBAEL_OK);
+    CHECK(lateenbael_clock_high_water(h.store).number == 0);
+    free_host(&h);
     free_disk(&d);
 }
 
@@ -359,6 +406,7 @@ void test_store(void) {
     power_cuts();
     uncommitted_frames();
     batches();
+    clocks_of_openings();
     in_one_call();
     clocks_and_staging();
     refusals();

@@ -1,5 +1,6 @@
 //! The files that a row begins with, and the pages that are written.
 
+use bench::bodies;
 use engine::sql::pager::header::{DbHeader, encode_header};
 use engine::sql::pager::page::PAGE_SIZE;
 use engine::sql::pager::wal::Wal;
@@ -45,6 +46,22 @@ pub fn log(pages: u32, frames: u32, commit_each: u32) -> Vec<u8> {
         }
         .expect("the stand-in's files take every store");
     }
+    world::read_file(&path).expect("it was created")
+}
+
+/// A log of batches of a row each, their times rising, and behind them page 0
+/// as the one commit frame.
+pub fn log_of_batches(frames: u32) -> Vec<u8> {
+    let path = Path::from("log");
+    let mut wal = Wal::create(&path).expect("a file in memory");
+    let [.., (_, mut batch)] = bodies::all();
+    for frame in 1..frames {
+        batch.commit_ts = frame.into();
+        let appended = wal.append_mvcc_batch(&batch);
+        appended.expect("the stand-in's files take every store");
+    }
+    wal.append_frame(0, &header_page(), Some(PAGE_COUNT))
+        .expect("the stand-in's files take every store");
     world::read_file(&path).expect("it was created")
 }
 

@@ -240,11 +240,19 @@ fn draw_record(random: &mut Random) -> Record {
     }
 }
 
+/// Of every size, and now and then at a border.
+fn draw_time(random: &mut Random) -> u64 {
+    match random.one_in(40) {
+        true => random.pick(&[0, 1 << 63, u64::MAX - 1, u64::MAX]),
+        false => random.u64() >> random.below(64),
+    }
+}
+
 /// A batch that fits a body.
 pub fn draw(random: &mut Random) -> Batch {
     let most = random.pick(&[0, 1, 1, 2, 5]);
     Batch {
-        commit_time: random.u64() >> random.below(64),
+        commit_time: draw_time(random),
         records: (0..most).map(|_| draw_record(random)).collect(),
     }
 }

@@ -158,6 +158,7 @@ impl World {
             .into_iter()
             .for_each(|stored| self.tally.opening_cut(stored));
         let expected = self.expected.opened_after(place.bytes);
+        self.tally.raised += usize::from(expected.clock_raised());
         self.open_cut(done, &place, &expected)
             .map_err(|what| (place, what))
     }

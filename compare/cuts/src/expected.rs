@@ -191,13 +191,33 @@ impl Expected {
         self.enter(Entry::CommitFrame);
     }
 
-    /// "A clean opening cuts the log at the commit point; its frame count is the frames kept, its
-    /// clock the log header's."
+    /// "A clean opening cuts the log at the commit point; its frame count is the frames kept".
     pub fn open(&mut self) {
         self.todo.clear();
         self.disk.frames = self.disk.committed_frames;
-        self.clock = self.disk.clock;
+        self.clock = self.opening_clock();
+        if self.wrong == Wrong::ClockStored {
+            self.disk.clock = self.clock;
+        }
         self.enter(Entry::CleanOpening);
+    }
+
+    /// Whether the clock is above the log header's.
+    pub fn clock_raised(&self) -> bool {
+        self.clock > self.disk.clock
+    }
+
+    /// Document 02, P4: "A clean opening therefore takes the larger of the log header's clock and
+    /// the greatest commit time among the recovered batches." These are the model's sealed ones.
+    fn opening_clock(&self) -> u64 {
+        let header = self.disk.clock;
+        let times = self.wrong.recovered(&self.model);
+        let greatest = times.iter().map(|batch| batch.commit_time).max();
+        match (self.wrong, greatest) {
+            (Wrong::ClockKept, _) | (_, None) => header,
+            (Wrong::SmallerClock, Some(greatest)) => header.min(greatest),
+            (_, Some(greatest)) => header.max(greatest),
+        }
     }
 
     /// A clean opening after a cut inside the next write: a main header of which more than its

@@ -11,6 +11,8 @@ pub struct Tally {
     pub histories: usize,
     /// Cuts from which a history went on.
     pub continued: usize,
+    /// Cuts behind which the opening's clock is above the log header's.
+    pub raised: usize,
     pub longest_log: usize,
     pub most_pages: u32,
     cut_places: BTreeMap<(&'static str, &'static str), usize>,
@@ -101,20 +103,15 @@ impl fmt::Display for Tally {
         self.frames
             .iter()
             .try_for_each(|(frames, count)| write!(f, " {frames}: {count},"))?;
-        let Tally {
-            histories,
-            continued,
-            longest_log,
-            most_pages,
-            ..
-        } = self;
         write!(
             f,
-            "\n{histories} histories, {continued} times gone on from a cut, "
+            "\n{} histories, {} times gone on from a cut, {} times the clock raised, ",
+            self.histories, self.continued, self.raised
         )?;
         writeln!(
             f,
-            "longest log {longest_log} bytes, most pages {most_pages}"
+            "longest log {} bytes, most pages {}",
+            self.longest_log, self.most_pages
         )
     }
 }

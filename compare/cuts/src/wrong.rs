@@ -1,8 +1,10 @@
-//! Wrong models, wrong orders of writes, a wrong opening and wrong countings, each of which the
-//! comparison must find: `cuts SEED COUNT --wrong NAME`.
+//! Wrong models, wrong orders of writes, a wrong opening, wrong clocks and wrong countings, each of
+//! which the comparison must find: `cuts SEED COUNT --wrong NAME`.
+use crate::batch::Batch;
 use crate::call::Call;
 use crate::model::{Entry, Model};
 use crate::writes::WriteKind;
+use std::rc::Rc;
 
 #[derive(Clone, Copy, Debug, PartialEq, Eq)]
 pub enum Wrong {
@@ -38,9 +40,19 @@ pub enum Wrong {
     BytesCounted,
     /// A batch's records are taken for its items, without their columns.
     RecordsCounted,
+    /// An opening's clock is the log header's, whatever the batches' times.
+    ClockKept,
+    /// The smaller of the two is taken.
+    SmallerClock,
+    /// The time of the last batch is taken for the greatest.
+    LastTime,
+    /// A batch that waited counts for the opening's clock.
+    WaitingCounts,
+    /// The opening stores the clock that it takes.
+    ClockStored,
 }
 
-pub const ALL: [(&str, Wrong); 15] = [
+pub const ALL: [(&str, Wrong); 20] = [
     ("plain-opening", Wrong::PlainOpening),
     ("header-late", Wrong::HeaderLate),
     ("log-first", Wrong::LogFirst),
@@ -56,6 +68,11 @@ pub const ALL: [(&str, Wrong); 15] = [
     ("pages-stay", Wrong::PagesStay),
     ("bytes-counted", Wrong::BytesCounted),
     ("records-counted", Wrong::RecordsCounted),
+    ("clock-kept", Wrong::ClockKept),
+    ("smaller-clock", Wrong::SmallerClock),
+    ("last-time", Wrong::LastTime),
+    ("waiting-counts", Wrong::WaitingCounts),
+    ("clock-stored", Wrong::ClockStored),
 ];
 
 impl Wrong {
@@ -93,6 +110,15 @@ impl Wrong {
                 model.enter(Entry::CommitFrame);
             }
             _ => model.enter(entry),
+        }
+    }
+
+    /// The batches whose times count for an opening's clock: the sealed ones.
+    pub fn recovered(self, model: &Model) -> Vec<Rc<Batch>> {
+        match self {
+            Wrong::LastTime => model.committed.last().into_iter().cloned().collect(),
+            Wrong::WaitingCounts => [&model.committed[..], &model.waiting].concat(),
+            _ => model.committed.clone(),
         }
     }
 

@@ -1,4 +1,5 @@
-//! A short run of cuts, and that each wrong model, order of writes, opening and counting is found.
+//! A short run of cuts, and that each wrong model, order of writes, opening, clock and counting is
+//! found.
 use cuts::run::run;
 use cuts::wrong::{ALL, Wrong};
 

@@ -77,7 +77,17 @@ fn open(world: &mut World, export: &'static str) {
     let answer = unsafe { sys::lateenbael_wal_open(at, len) };
     let right = len <= LOG_AREA;
     world.end(export, answer.refusal, right, &Writes::default());
+    if answer.refusal == 0 {
+        keeps_clock(world, export, answer.wal.header.clock_high_water);
+    }
     take(world, export, &answer);
+}
+
+/// A log that is opened by itself has its header's clock.
+fn keeps_clock(world: &mut World, export: &str, clock: u64) {
+    if world.log.bytes()[24..WAL_HEADER_SIZE] != clock.to_le_bytes() {
+        world.tally.fault(export, "another clock than the header's");
+    }
 }
 
 fn append_frame(world: &mut World, export: &'static str) {

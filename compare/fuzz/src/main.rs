@@ -9,6 +9,7 @@ mod closed;
 mod edges;
 mod forge;
 mod log_calls;
+mod made_log;
 mod store_calls;
 mod tally;
 mod world;
@@ -77,6 +78,7 @@ mod tests {
             let world = run(7, 20_000, guard);
             assert_eq!(world.tally.faults, 0);
             assert_eq!(world.tally.exports(), 51);
+            assert!(world.tally.raised >= 5, "{}", world.tally.raised);
         }
     }
 

@@ -7,6 +7,7 @@ use sys::{FRAME_SIZE, LOG_AREA, MAIN_AREA, PAGE_SIZE, PageAnswer, STAGING_AREA, 
 
 use crate::edges;
 use crate::forge;
+use crate::made_log;
 use crate::world::{Call, World, Writes};
 
 pub const WAL_HEADER_SIZE: usize = 32;
@@ -77,11 +78,11 @@ fn create(world: &mut World, export: &'static str) {
 }
 
 fn open(world: &mut World, export: &'static str) {
-    opening(world, export, sys::lateenbael_open_with_mode);
+    opening(world, export, sys::lateenbael_open_with_mode, false);
 }
 
 fn open_clean(world: &mut World, export: &'static str) {
-    opening(world, export, sys::lateenbael_open_clean);
+    opening(world, export, sys::lateenbael_open_clean, true);
 }
 
 type Opening = unsafe extern "C" fn(
@@ -100,17 +101,19 @@ type Opening = unsafe extern "C" fn(
     u32,
 ) -> sys::Answered;
 
-fn opening(world: &mut World, export: &'static str, call: Opening) {
+fn opening(world: &mut World, export: &'static str, call: Opening, clean: bool) {
+    let made = world.random.percent(30).then(|| made_log::put(world));
     spoil(world);
     let exists = u32::from(!world.random.percent(10));
     let main_len = match world.random.percent(15) {
         true => edges::number(&mut world.random) as usize,
         false => world.store.storage.len,
     };
-    let log_len = match world.random.below(8) {
-        0 => edges::number(&mut world.random) as usize,
-        1..=3 => world.wal.len,
-        _ => world.store.wal.len,
+    let log_len = match (made, world.random.below(8)) {
+        (_, 0) => edges::number(&mut world.random) as usize,
+        (Some(made), _) => made,
+        (None, 1..=3) => world.wal.len,
+        (None, _) => world.store.wal.len,
     };
     let mode = [0, 0, 0, 1, u32::MAX][world.random.below(5)];
     let writes = Writes {
@@ -125,7 +128,26 @@ fn opening(world: &mut World, export: &'static str, call: Opening) {
     let salt = world.random.u32();
     let (answered, right) = over_areas!(world, call, [], [main_len, log_len, mode, exists, salt]);
     world.end(export, answered.refusal, right, &writes);
+    if answered.refusal == 0 {
+        let clock = answered.store.wal.header.clock_high_water;
+        let log_len = (exists != 0).then_some(log_len);
+        clock_as_read(world, export, clock, log_len, clean);
+    }
     world.take_opened(export, &answered);
+}
+
+/// The clock behind an opening is the one that the log's bytes tell; without
+/// a log it is 0.
+fn clock_as_read(world: &mut World, export: &str, clock: u64, log_len: Option<usize>, clean: bool) {
+    let log = log_len.and_then(|len| world.log.bytes().get(..len));
+    let read = log.and_then(opening_clock::read);
+    let (header, taken) = read.map_or((0, 0), |read| (read.plain(), read.clean()));
+    let wanted = if clean { taken } else { header };
+    if clock != wanted {
+        let what = format!("clock {clock}, by the log's bytes {wanted}");
+        world.tally.fault(export, &what);
+    }
+    world.tally.raised += usize::from(clean && taken > header);
 }
 
 /// Now and then a byte of a file is another: of a header, a frame's heading,

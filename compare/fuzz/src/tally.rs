@@ -12,6 +12,8 @@ const PRINTED: usize = 20;
 pub struct Tally {
     pub calls: usize,
     pub faults: usize,
+    /// Clean openings that left a clock above the log header's.
+    pub raised: usize,
     exports: BTreeMap<&'static str, [usize; ANSWERS]>,
 }
 
@@ -49,5 +51,6 @@ impl Tally {
             }
             println!();
         }
+        println!("clean openings that raised the clock: {}", self.raised);
     }
 }

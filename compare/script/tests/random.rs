@@ -2,7 +2,7 @@
 
 use script::random;
 
-const REACHED: [&str; 41] = [
+const REACHED: [&str; 52] = [
     "call: batch, refused 15",
     "call: batch, refused 17",
     "call: batch, refused 18",
@@ -42,7 +42,18 @@ const REACHED: [&str; 41] = [
     "case: cut in commit, frame, part",
     "case: cut in fold, log length, whole",
     "case: fold of no page, main length 0",
+    "case: fold stores a raised clock",
+    "case: open clean, a time above the clock cut off",
+    "case: open clean, clock above every time",
+    "case: open clean, clock as the greatest time",
+    "case: open clean, clock raised",
+    "case: open clean, clock raised from above 0",
+    "case: open clean, clock raised to 2^63 or more",
+    "case: open clean, clock raised to 2^64 - 1",
+    "case: open clean, clock raised, not by the last batch",
     "case: open clean, tail cut off",
+    "case: open ro, a time above the clock",
+    "case: open rw, a time above the clock",
     "case: open, after a commit sealed an old tail",
 ];
 

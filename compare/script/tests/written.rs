@@ -55,6 +55,26 @@ fn every_refusal_has_its_list() {
     }
 }
 
+/// Behind a call of the clock's list stands the clock that its outcome shows.
+#[test]
+fn the_clocks_are_as_told() {
+    let list = concat!(env!("CARGO_MANIFEST_DIR"), "/lists/clock_after_cut");
+    let read = |kind: &str| fs::read_to_string(format!("{list}.{kind}")).expect("a list");
+    let (calls, outcome) = (read("calls"), read("out"));
+    let calls = calls.lines().filter(|line| !line.starts_with('#'));
+    let outcomes = outcome.lines().filter(|line| !line.starts_with(' '));
+    let mut told = 0;
+    for (call, outcome) in calls.zip(outcomes) {
+        let Some((_, clock)) = call.split_once(" # ") else {
+            continue;
+        };
+        let shown = format!("clock {clock} | main ");
+        assert!(outcome.contains(&shown), "{call}: {outcome}");
+        told += 1;
+    }
+    assert!(told >= 40, "{told}");
+}
+
 /// What a list leaves stands in its folder, and what was there before goes.
 #[test]
 fn the_folder_has_the_files() {

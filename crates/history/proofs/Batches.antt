@@ -18,7 +18,10 @@ use Rattle.refusal.proofs.Judged.{met, first-none}
 use Rattle.frame.specs.Frame.{frameSize, encodeFrame, bodyOf}
 use Rattle.frame.proofs.Stores.{length-encodeFrame}
 use Rattle.frame.proofs.RoundTrip.{body-back}
-use Rattle.mvcc.specs.Seen.{decodeRefusal, decodes, canonical, headingRefusal}
+use Rattle.mvcc.specs.Batch.{Each}
+use Rattle.mvcc.specs.Seen.{decodeRefusal, decodes, commitTs, canonical, headingRefusal}
+use Rattle.mvcc.proofs.Bytes.{field-small}
+use Rattle.mvcc.proofs.Encode.{each-append}
 use Rattle.mvcc.proofs.Canonical.{none-decodes, canonical-decodes, canonical-commitTs, canonical-records, canonical-length}
 use Rattle.wal.specs.Recovery.{pageOf, batchPage, good, walArea}
 use Rattle.wal.specs.Recovery as wal
@@ -31,11 +34,11 @@ use Rattle.pager_state.specs.Stores.{diskOf, Act, Put, Batched, stored}
 use Rattle.pager_state.specs.declared.FileKind.the-variants as file
 use Rattle.pager_state.specs.declared.Job.the-variants as job
 use Rattle.pager_state.proofs.Begun.{off, not-busy}
-use Rattle.history.specs.Model.{Model, batchIn, modelWait, modelStores}
+use Rattle.history.specs.Model.{Batch, Model, batchIn, modelWait, modelStores}
 use Rattle.history.specs.Calls.{Append, refusedBy, storesOf, worldAfter}
 use Rattle.history.specs.Run.{keptAfter}
 use Rattle.history.proofs.Frames.{last-other, place-other, batches-append, batches-batch}
-use Rattle.history.proofs.Disk.{OnDisk, DiskOk}
+use Rattle.history.proofs.Disk.{Timed, OnDisk, DiskOk}
 use Rattle.history.proofs.Opening.{re-model}
 use Rattle.history.proofs.Rest.{Resting, Some, Inv, held-disk}
 use Rattle.history.proofs.Append.{longer, whole-store, whole-on, cut-ok}
@@ -131,16 +134,25 @@ module _ (w : World) (g : List ℕ) (b : Model) (z : List ℕ) (i : Inv w g b z)
   other : (n : ℕ) → n < pageLimit → pageOf f ≡ n → ⊥
   other n h e = omega (arith, f-page)
 
+  -- the body is bytes
+  timed : Timed (b .committed ++ (b .waiting ++ (batchIn body ∷ [])))
+  unfolding Each batchIn commitTs
+  timed =
+      rw (← append-assoc (b .committed) (b .waiting) (batchIn body ∷ []))
+      (each-append (λ (x : Batch). x .time < 2 ^ 64) (b .committed ++ b .waiting) (batchIn body ∷ []) (k .it .held .on .model .times)
+      (field-small 8 8 body bs, tt))
+
   resting : Resting v g (modelWait (batchIn body) b) (k .l) (k .S) (k .P ++ (f ∷ [])) (k .mh)
   resting =
       let q = k .it .held in
       record {
         held =
             record {
-              on = re-model on-after (modelWait (batchIn body) b) refl refl refl;
+              on = re-model on-after (modelWait (batchIn body) b) refl refl refl timed;
               tableLong = q .tableLong;
               stagingLong = q .stagingLong;
               salt = ap (λ (x : WalHeader). x .salt) (framed-header (w .pager .wal) 0) ∙ q .salt;
+              older = rw (framed-header (w .pager .wal) 0) (q .older);
               clock = rw (framed-header (w .pager .wal) 0) (q .clock);
               header = q .header;
               clean = q .clean;

@@ -125,6 +125,7 @@ module _ (g : List ℕ) (w : World) (b : Model) (z : List ℕ) (salt answer : �
         tableLong = checkpointed-long (countOf (headerOf (w .pager))) 0 (w .table) ∙ q .tableLong;
         stagingLong = q .stagingLong;
         salt = ap (λ (h : WalHeader). h .salt) (empty-header (nextHeader w salt));
+        older = rw (empty-header (nextHeader w salt)) (omega arith);
         clock = rw (empty-header (nextHeader w salt)) (next-written .clock);
         header = q .header;
         clean = q .clean;

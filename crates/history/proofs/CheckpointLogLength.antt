@@ -9,6 +9,7 @@ use lib.Seq.{take-take, take-at}
 use Rattle.page.specs.Page.{pageSize}
 use Rattle.header.specs.declared.DbHeader.{DbHeader}
 use Rattle.header.specs.declared.HeaderDecoded.the-variants as main
+use Rattle.mvcc.specs.Batch.{Each}
 use Rattle.wal.specs.Header.{headerSize, encodeWalHeader}
 use Rattle.wal.specs.Recovery.{lastCount, batchesIn}
 use Rattle.wal.specs.Write.{emptyWal}
@@ -36,7 +37,7 @@ use Rattle.history.proofs.CheckpointHeader.{has-true}
 -- without frames the model is the main file's, where that has every page
 bare-model : {m : List ℕ} {b : Model} {S : List (List ℕ)} {mh : DbHeader} → ModelIs m b S mh → mh ≡ b .header
     → ((n : ℕ) → 1 ≤ n → n < countOf (b .header) → b .pages n ≡ some (pageFrom (pageSize * n) m)) → ModelIs m (modelEmpty b) [] mh
-unfolding headerOver placeFrom lastCount batchesIn
+unfolding headerOver placeFrom lastCount batchesIn Each
 bare-model {m} {b} {S} {mh} o own flat =
     record {
       top = ap main.Header own;
@@ -47,6 +48,7 @@ bare-model {m} {b} {S} {mh} o own flat =
       there = o .there;
       above = o .above;
       batches = refl;
+      times = tt;
     }
 
 pub empty-len : (h : WalHeader) → emptyWal h .len ≡ headerSize
@@ -100,6 +102,7 @@ module _ (g : List ℕ) (w : World) (b : Model) (z : List ℕ) (salt answer : �
         tableLong = q .tableLong;
         stagingLong = q .stagingLong;
         salt = ap (λ (h : WalHeader). h .salt) (empty-header (w .pager .wal .header)) ∙ q .salt;
+        older = rw (empty-header (w .pager .wal .header)) (q .older);
         clock = rw (empty-header (w .pager .wal .header)) (q .clock);
         header = q .header;
         clean = q .clean;

@@ -52,6 +52,7 @@ module _ (w : World) (g : List ℕ) (b : Model) (z : List ℕ) (i : Inv w g b z)
               tableLong = q .tableLong;
               stagingLong = q .stagingLong;
               salt = q .salt;
+              older = q .older;
               clock = q .clock;
               header = q .header;
               clean = q .clean;

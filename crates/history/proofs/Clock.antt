@@ -3,7 +3,9 @@ use mathlib.Core.Path.{_≡_, refl, sym, ap, _∙_, subst}
 use mathlib.Core.Bool.{Bool, true, false}
 use mathlib.Core.List.{List, []}
 use mathlib.Core.Option.{none}
-use Prim.Native.Nat.{ℕ, _^_, _<_}
+use Prim.Native.Nat.{ℕ, _^_, _≤_, _<_}
+use native.Mathlib.Omega.{arith}
+use borrow.Author.Tests.{leb-false}
 use lib.Dec.{leb}
 use Rattle.le.specs.Choice.{pick}
 use Rattle.refusal.proofs.Rows.{accepted}
@@ -28,12 +30,14 @@ use Rattle.history.proofs.Taken.{Taken, rests-by, at-rest, rest-inv}
 pub record Raised (v u : Wal) : Type 0 where
   pub len : u .len ≡ v .len
   pub salt : u .header .salt ≡ v .header .salt
+  pub older : v .header .«clock_high_water» ≤ u .header .«clock_high_water»
   pub clock : u .header .«clock_high_water» < 2 ^ 64
 
-raised-by : (v : Wal) (c : ℕ) → v .header .«clock_high_water» < 2 ^ 64 → c < 2 ^ 64 → (t : Bool) → Raised v (pick t v (withClock v c))
+raised-by : (v : Wal) (c : ℕ) → v .header .«clock_high_water» < 2 ^ 64 → c < 2 ^ 64 → (t : Bool) → leb c (v .header .«clock_high_water») ≡ t
+    → Raised v (pick t v (withClock v c))
 unfolding withClock
-raised-by v c h k true = record { len = refl; salt = refl; clock = h }
-raised-by v c h k false = record { len = refl; salt = refl; clock = k }
+raised-by v c h k true e = record { len = refl; salt = refl; older = omega arith; clock = h }
+raised-by v c h k false e = record { len = refl; salt = refl; older = omega (arith, leb-false c (v .header .«clock_high_water») e); clock = k }
 
 module _ (w : World) (g : List ℕ) (b : Model) (z : List ℕ) (i : Inv w g b z) (c : ℕ) (small : c < 2 ^ 64) (ok : refusedBy (Observe c) w g ≡ 0) where
   taken : busyRefusal (w .pager) ≡ none
@@ -51,7 +55,7 @@ module _ (w : World) (g : List ℕ) (b : Model) (z : List ℕ) (i : Inv w g b z)
 
   raised-ok : Raised (w .pager .wal) u
   unfolding raised
-  raised-ok = raised-by (w .pager .wal) c (k .it .held .clock) small (leb c (w .pager .wal .header .«clock_high_water»))
+  raised-ok = raised-by (w .pager .wal) c (k .it .held .clock) small (leb c (w .pager .wal .header .«clock_high_water»)) refl
 
   abbrev pub v : World
   v = onStore w (withWal (w .pager) u)
@@ -73,6 +77,7 @@ module _ (w : World) (g : List ℕ) (b : Model) (z : List ℕ) (i : Inv w g b z)
               tableLong = q .tableLong;
               stagingLong = q .stagingLong;
               salt = raised-ok .salt ∙ q .salt;
+              older = omega (arith, q .older, raised-ok .older);
               clock = raised-ok .clock;
               header = q .header;
               clean = q .clean;

@@ -127,6 +127,7 @@ module _ (g : List ℕ) (w : World) (b : Model) (z : List ℕ) (h : DbHeader) (s
         tableLong = length-set (w .table) n _ ∙ q .tableLong;
         stagingLong = q .stagingLong;
         salt = ap (λ (x : WalHeader). x .salt) (framed-header (w .pager .wal) 0) ∙ q .salt;
+        older = rw (framed-header (w .pager .wal) 0) (q .older);
         clock = rw (framed-header (w .pager .wal) 0) (q .clock);
         header = q .header;
         clean = q .clean;

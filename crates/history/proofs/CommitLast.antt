@@ -193,6 +193,7 @@ module _ (g : List ℕ) (w : World) (b : Model) (z : List ℕ) (h : DbHeader) (s
         there = λ n h1 h2. let r = page-there n h1 (omega (arith, given-count)) (isStaged (w .pager .staged) n) refl in (r .0, entered-below b n h1 h2 ∙ r .1);
         above = entered-above b;
         batches = batches-is;
+        times = rw (append-nil (b .committed ++ b .waiting)) (c .held .on .model .times);
       }))
 
   held-after : Held v g (modelCommit b) (k .l) S′ [] (k .mh)
@@ -204,6 +205,7 @@ module _ (g : List ℕ) (w : World) (b : Model) (z : List ℕ) (h : DbHeader) (s
         tableLong = length-set (w .table) 0 _ ∙ q .tableLong;
         stagingLong = q .stagingLong;
         salt = ap (λ (x : WalHeader). x .salt) (framed-header (w .pager .wal) (countOf h)) ∙ q .salt;
+        older = rw (framed-header (w .pager .wal) (countOf h)) (q .older);
         clock = rw (framed-header (w .pager .wal) (countOf h)) (q .clock);
         header = sym (c .given);
         clean = q .clean;

@@ -66,10 +66,11 @@ module _ (w : World) (g : List ℕ) (b : Model) (z : List ℕ) (i : Inv w g b z)
   held-begun =
       let q = k .it .held in
       record {
-        on = re-model (q .on) (modelHeader h b) refl refl refl;
+        on = re-model (q .on) (modelHeader h b) refl refl refl (q .on .model .times);
         tableLong = q .tableLong;
         stagingLong = q .stagingLong;
         salt = q .salt;
+        older = q .older;
         clock = q .clock;
         header = q .header;
         clean = q .clean;

@@ -15,6 +15,7 @@ use Rattle.header.specs.Header.{encodeHeader, decodeHeader}
 use Rattle.header.specs.declared.HeaderDecoded.the-variants as main
 use Rattle.header.proofs.Encoding.{length-encodeHeader}
 use Rattle.header.proofs.RoundTrip.{Plain, decode-encode}
+use Rattle.mvcc.specs.Batch.{Each}
 use Rattle.wal.specs.Header.{headerSize, encodeWalHeader}
 use Rattle.wal.specs.Recovery.{lastCount, batchesIn, walArea}
 use Rattle.wal.specs.Write.{emptyWal, createdHeader}
@@ -132,7 +133,7 @@ module _ (t l m g : List ℕ) (salt : ℕ) (ok : createFine t l m g ≡ true) (s
   top-is = refl
 
   on : OnDisk x firstModel (createdHeader salt) [] [] [] firstHeader
-  unfolding batchesIn firstModel
+  unfolding batchesIn firstModel Each
   on =
       record {
         log = log-alone (x .log) (createdHeader salt) (created-written salt small)
@@ -148,6 +149,7 @@ module _ (t l m g : List ℕ) (salt : ℕ) (ok : createFine t l m g ≡ true) (s
               there = λ n h k. there-is n (only-one n h (omega (arith, count-two)));
               above = λ n h. model-above n (omega (arith, count-two));
               batches = refl;
+              times = tt;
             };
       }
 
@@ -159,6 +161,10 @@ module _ (t l m g : List ℕ) (salt : ℕ) (ok : createFine t l m g ≡ true) (s
   unfolding emptyWal
   wal-salt = refl
 
+  wal-older : createdHeader salt .«clock_high_water» ≤ emptyWal (createdHeader salt) .header .«clock_high_water»
+  unfolding emptyWal createdHeader
+  wal-older = omega arith
+
   wal-clock : emptyWal (createdHeader salt) .header .«clock_high_water» < 2 ^ 64
   unfolding emptyWal createdHeader
   wal-clock = omega arith
@@ -166,7 +172,7 @@ module _ (t l m g : List ℕ) (salt : ℕ) (ok : createFine t l m g ≡ true) (s
   resting : Resting (world (createdPager salt) (tableOf firstHeader []) log-area main-area) g firstModel (createdHeader salt) [] [] firstHeader
   unfolding createdPager firstModel
   resting =
-      rests x firstModel (createdHeader salt) [] firstHeader firstHeader (emptyWal (createdHeader salt)) headerSize g on wal-len wal-salt wal-clock (sizes .staging) (λ n. refl) refl
+      rests x firstModel (createdHeader salt) [] firstHeader firstHeader (emptyWal (createdHeader salt)) headerSize g on wal-len wal-salt wal-older wal-clock (sizes .staging) (λ n. refl) refl
 
   world-is : start t l m g salt .world ≡ world (createdPager salt) (tableOf firstHeader []) log-area main-area
   unfolding start createTable createLog createMain

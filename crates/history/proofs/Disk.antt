@@ -3,7 +3,7 @@ use mathlib.Core.Path.{_≡_, refl, sym, ap, _∙_}
 use mathlib.Core.Bool.{false}
 use mathlib.Core.List.{List, [], _∷_, _++_, append-assoc, append-nil}
 use mathlib.Core.Option.{Option, none, some}
-use Prim.Native.Nat.{ℕ, _+_, _*_, _≤_, _<_}
+use Prim.Native.Nat.{ℕ, _+_, _*_, _^_, _≤_, _<_}
 use native.Mathlib.Omega.{arith}
 use borrow.Author.Tests.{lt-leb}
 use lib.Dec.{eqb}
@@ -17,6 +17,7 @@ use Rattle.header.specs.declared.HeaderDecoded.{HeaderDecoded}
 use Rattle.header.specs.declared.HeaderDecoded.the-variants as main
 use Rattle.header.proofs.RoundTrip.{Plain}
 use Rattle.frame.specs.Frame.{frameSize, bodyOf, intactAt}
+use Rattle.mvcc.specs.Batch.{Each}
 use Rattle.wal.specs.Header.{headerSize, encodeWalHeader, walHeaderIn}
 use Rattle.wal.specs.Recovery.{chunkAt, goodAt, goodFront, committed, lastCount, pageIn, recovered, committedFrames, walArea}
 use Rattle.wal.specs.declared.WalHeader.{WalHeader}
@@ -29,7 +30,7 @@ use Rattle.pager_state.specs.World.{mainArea, pageLimit, countOf}
 use Rattle.pager_state.specs.Overlay.{pageFrom}
 use Rattle.pager_state.specs.Opening.{placeFrom, hasPage, recounted}
 use Rattle.pager_state.specs.Stores.{File, Disk, content}
-use Rattle.history.specs.Model.{Model, orElse}
+use Rattle.history.specs.Model.{Batch, Model, orElse}
 use Rattle.history.specs.Run.{Left}
 use Rattle.history.specs.Demand3.{Kept}
 use Rattle.history.proofs.Files.{length-content}
@@ -69,7 +70,12 @@ pub record MainIs (f : File) (mh : DbHeader) : Type 0 where
   pub has : pageSize * countOf mh ≤ f .len
   pub head : decodeHeader (take pageSize (f .area)) ≡ main.Header mh
 
--- committed frames over a main file are what the model has
+-- commit times of 64 bits
+abbrev pub Timed : List Batch → Type 0
+Timed bs = Each (λ (x : Batch). x .time < 2 ^ 64) bs
+
+-- committed frames over a main file are what the model has. Every committed or waiting time has 64 bits, since the body of an append is bytes;
+-- so the clock that a clean opening takes has, too.
 pub record ModelIs (m : List ℕ) (b : Model) (S : List (List ℕ)) (mh : DbHeader) : Type 0 where
   pub top : headerOver mh S ≡ main.Header (b .header)
   pub plain : Plain (b .header)
@@ -79,6 +85,7 @@ pub record ModelIs (m : List ℕ) (b : Model) (S : List (List ℕ)) (mh : DbHead
   pub there : (n : ℕ) → 1 ≤ n → n < countOf (b .header) → (x : List ℕ) × (b .pages n ≡ some x)
   pub above : (n : ℕ) → countOf (b .header) ≤ n → b .pages n ≡ none
   pub batches : batchesOf S ≡ b .committed
+  pub times : Timed (b .committed ++ b .waiting)
 
 pub record OnDisk (d : Disk) (b : Model) (l : WalHeader) (S P : List (List ℕ)) (t : List ℕ) (mh : DbHeader) : Type 0 where
   pub log : LogIs (d .log) l S P t

@@ -1,7 +1,7 @@
 -- Lists of frames: the last frame of a page, where it stands, and the batches. Assumes nothing.
 use mathlib.Core.Path.{_≡_, refl, sym, ap, _∙_}
 use mathlib.Core.Bool.{Bool, true, false}
-use mathlib.Core.List.{List, [], _∷_, _++_, append-assoc, foldl, map}
+use mathlib.Core.List.{List, [], _∷_, _++_, append-assoc, foldl, map, map-append}
 use mathlib.Core.Option.{Option, none, some}
 use Prim.Native.Nat.{ℕ, suc, _+_, _*_}
 use native.Mathlib.Nat.{add-zero}
@@ -156,10 +156,6 @@ body-last l n i rest (laid.more {f} {fs} h w) e =
 
 abbrev pub batchesOf : List (List ℕ) → List Batch
 batchesOf fs = map (λ (f : List ℕ). batchIn (bodyOf f)) (batchesIn fs)
-
-map-append : {A B : Type 0} (g : A → B) (xs ys : List A) → map g (xs ++ ys) ≡ map g xs ++ map g ys
-map-append g [] ys = refl
-map-append g (x ∷ xs) ys = ap (λ (r : List _). g x ∷ r) (map-append g xs ys)
 
 pub batches-append : (fs gs : List (List ℕ)) → batchesOf (fs ++ gs) ≡ batchesOf fs ++ batchesOf gs
 batches-append fs gs = ap (map (λ (f : List ℕ). batchIn (bodyOf f))) (batchesIn-append fs gs) ∙ map-append _ (batchesIn fs) (batchesIn gs)

@@ -126,7 +126,7 @@ module _ (h : DbHeader) (k : ℕ) (r : Run) (u : Ready h k r) (body : List ℕ) 
         world (withWal (r .world .pager) (withFrame (r .world .pager .wal) 0)) (r .world .table) (put (r .world .log) (r .world .pager .wal .len) (batchFrame (r .world .pager) body))
         (r .world .main)
 
-    append-world : whole (Append body) r .world ≡ appendedWorld
+    pub append-world : whole (Append body) r .world ≡ appendedWorld
     unfolding worldAfter appendBatch appendAfter
     append-world = world-after (Append body) r ∙ rw append-none
 
@@ -136,7 +136,7 @@ module _ (h : DbHeader) (k : ℕ) (r : Run) (u : Ready h k r) (body : List ℕ) 
         let n = length-encodeFrame batchPage 0 (r .world .pager .wal .header .salt) (canonical body) (canonical-length body (b .bytes) (b .decoded) (b .page)) in
         length-put (r .world .log) (r .world .pager .wal .len) (batchFrame (r .world .pager) body) (omega (arith, n, u .logFile, u .unrefused .areas .log)) ∙ u .unrefused .areas .log
 
-    append-ready : Ready h (suc k) (whole (Append body) r)
+    pub append-ready : Ready h (suc k) (whole (Append body) r)
     unfolding longer
     append-ready =
         let x = u .unrefused in
@@ -166,7 +166,7 @@ module _ (h : DbHeader) (k : ℕ) (r : Run) (u : Ready h k r) (body : List ℕ) 
   none-differs : differing (r .staging) (r .world) ≡ 0
   none-differs = none-differ (r .world) (u .unstaged) (r .staging)
 
-  ready-begun : k < 1024 → commitRefusal (r .staging) (r .world) h ≡ none
+  pub ready-begun : k < 1024 → commitRefusal (r .staging) (r .world) h ≡ none
   ready-begun low = unrefused (r .staging) (r .world) h (u .unrefused) (omega (arith, u .logFile, none-differs))
 
   module _ (q : Made (r .world)) (low : k < 1024) (salt : ℕ) where
@@ -174,7 +174,7 @@ module _ (h : DbHeader) (k : ℕ) (r : Run) (u : Ready h k r) (body : List ℕ) 
     ready-ends =
         commit-ends (r .staging) (r .world) h salt (q .slots) (omega (arith, u .frames)) (ready-begun low)
 
-    ready-longer : k < 99 → LongerBy (r .world) (commitWorld (r .staging) (r .world) h salt) 1
+    pub ready-longer : k < 99 → LongerBy (r .world) (commitWorld (r .staging) (r .world) h salt) 1
     ready-longer e = rw none-differs at (ready-ends .below (omega (arith, u .frames, none-differs)))
 
     ready-checkpointed : 99 ≤ k → Empty (commitWorld (r .staging) (r .world) h salt)
@@ -194,7 +194,7 @@ filled h body b (suc n) k r u e =
     rw z at (filled h body b n (suc k) (whole (Append body) r) (append-ready h k r u body b (omega arith)) (omega arith))
 
 module _ (t l m g : List ℕ) (salt : ℕ) (f : createFine t l m g ≡ true) (h : DbHeader) (k : GoodHeader h) (c : countOf h ≤ 2) where
-  new-ready : Ready h 0 (start t l m g salt)
+  pub new-ready : Ready h 0 (start t l m g salt)
   unfolding start
   new-ready =
       let j : Joined (newStore t l m g salt) h = λ n a b d. absurd (omega (arith, new-count t l m g salt f, b, c, d)) in

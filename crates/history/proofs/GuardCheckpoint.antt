@@ -19,7 +19,7 @@ use Rattle.refusal.specs.declared.Refusal.{Refusal}
 use Rattle.refusal.proofs.Judged.{accepts-none}
 use Rattle.header.specs.Header.{encodeHeader}
 use Rattle.header.proofs.Encoding.{length-encodeHeader}
-use Rattle.wal.specs.Write.{emptyWal}
+use Rattle.wal.specs.Write.{emptyWal, truncatedHeader}
 use Rattle.pager_state.specs.World.{World, mainArea, stagedLimit, pageLimit, countOf, headerOf, withJob}
 use Rattle.pager_state.specs.Overlay.{pageFrom, frameOf, inLog, onMain, logBytes}
 use Rattle.pager_state.specs.Stores.{File, diskOf, Act, grown, putFile, lenFile}
@@ -179,6 +179,7 @@ module _ (g : List ℕ) (salt answer : ℕ) where
   pub record Paged (w v : World) : Type 0 where
     pub table : v .table ≡ w .table
     pub log : v .log ≡ w .log
+    pub wal : v .pager .wal ≡ w .pager .wal
     pub staged : v .pager .staged ≡ w .pager .staged
     pub header : headerOf (v .pager) ≡ headerOf (w .pager)
     pub lies : Lies mainArea (mainOf v)
@@ -233,11 +234,11 @@ module _ (g : List ℕ) (salt answer : ℕ) where
   -- they leave table, log and header
   pages-keep : (l : List ℕ) (w : World) (p : ℕ) → pagesFrom (inCheckpoint w) p ≡ l → Wholes w → Lies mainArea (mainOf w) → Paged w (pagesWorld l w)
   unfolding pagesWorld pageStored
-  pages-keep [] w p e k s = record { table = refl; log = refl; staged = refl; header = refl; lies = s }
+  pages-keep [] w p e k s = record { table = refl; log = refl; wal = refl; staged = refl; header = refl; lies = s }
   pages-keep (n ∷ ns) w p e k s =
       let v : World = pageStored salt answer n w in
       let i = pages-keep ns v (suc n) (paged-left w p n ns e) (behind-wholes w p n ns e k s) (behind-lies w p n ns e k s) in
-      record { table = i .table; log = i .log; staged = i .staged; header = i .header; lies = i .lies }
+      record { table = i .table; log = i .log; wal = i .wal; staged = i .staged; header = i .header; lies = i .lies }
 
   -- every page that they are not of stays
   pages-kept : (l : List ℕ) (w : World) (p : ℕ) → pagesFrom (inCheckpoint w) p ≡ l → Wholes w → Lies mainArea (mainOf w)
@@ -391,12 +392,13 @@ module _ (g : List ℕ) (w : World) (salt : ℕ) (slots : length (w .pager .stag
       )
 
   pub checkpoint-leaves : CheckpointedTo w (checkpointWorld g w salt)
-  unfolding checkpointed logLengthStored mainLengthStored mainHeaderStored lenFile
+  unfolding checkpointed logLengthStored mainLengthStored mainHeaderStored lenFile emptyWal truncatedHeader
   checkpoint-leaves =
       let k = paged-all in
       let most = begun-fine .count in
       record {
         empty = rw checkpoint-is (end-empty g salt (checkpointCount w) written);
+        clock = rw (checkpoint-is, k .wal);
         staged = rw checkpoint-is (k .staged);
         mainFile = rw (checkpoint-is, k .header);
         brought = λ n a c e. settled n (logBytes (w .table) (w .log) n) a c (log-entry (w .table) n e)

@@ -92,6 +92,11 @@ module _ (g : List ℕ) (h : DbHeader) (salt answer : ℕ) where
   frames-opening [] w = refl
   frames-opening (n ∷ ns) w = frames-opening ns (pageFrameStored g h salt answer n w)
 
+  frames-header : (ns : List ℕ) (w : World) → framesWorld ns w .pager .wal .header ≡ w .pager .wal .header
+  unfolding framesWorld pageFrameStored longer
+  frames-header [] w = refl
+  frames-header (n ∷ ns) w = frames-header ns (pageFrameStored g h salt answer n w)
+
 -- ---- a commit that is begun
 
 module _ (g : List ℕ) (w : World) (h : DbHeader) (salt : ℕ) (slots : length (w .pager .staged .pages) ≡ stagedLimit)
@@ -155,6 +160,10 @@ module _ (g : List ℕ) (w : World) (h : DbHeader) (salt : ℕ) (slots : length 
     unfolding committedWorld committedPager
     commit-frame-opening = rw e (frames-opening g h salt answer pages begun)
 
+    commit-frame-header : v .pager .wal .header ≡ w .pager .wal .header
+    unfolding committedWorld committedPager longer
+    commit-frame-header = rw e (frames-header g h salt answer pages begun)
+
   commit-frame-job : committed .pager .job ≡ jobAfter (committed .pager .wal) salt answer
   unfolding committedWorld committedPager
   commit-frame-job = refl
@@ -167,7 +176,7 @@ module _ (g : List ℕ) (w : World) (h : DbHeader) (salt : ℕ) (slots : length 
   ends-below k =
       let j = commit-frame-idle k in
       let e = commit-is ∙ idle-stays g (mostSteps - (length pages + 1)) committed j in
-      record { rests = rw e j; unstaged = commit-frame-unstaged _ e; opening = commit-frame-opening _ e; logFile = commit-frame-len _ e; frames = commit-frame-frames _ e }
+      record { rests = rw e j; unstaged = commit-frame-unstaged _ e; opening = commit-frame-opening _ e; header = commit-frame-header _ e; logFile = commit-frame-len _ e; frames = commit-frame-frames _ e }
 
   ends-above : checkpointFrames ≤ w .pager .wal .«frame_count» + (differing g w + 1) → Empty (commitWorld g w h salt)
   ends-above k =

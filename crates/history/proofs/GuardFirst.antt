@@ -5,7 +5,7 @@ use mathlib.Core.List.{List}
 use mathlib.Core.Option.{none, some}
 use Prim.Native.Nat.{ℕ, _+_, _*_, _^_, _<_}
 use native.Mathlib.Omega.{arith}
-use borrow.Author.Tests.{eq-eqb, ne-eqb}
+use borrow.Author.Tests.{eq-eqb}
 use lib.Dec.{leb}
 use lib.ListN.{length, length-set}
 use Rattle.le.specs.Choice.{pick}
@@ -14,27 +14,25 @@ use Rattle.le.proofs.Stores.{length-put}
 use Rattle.page.specs.Page.{pageSize}
 use Rattle.refusal.specs.Refusal.{numberOf}
 use Rattle.header.specs.declared.DbHeader.{DbHeader}
-use Rattle.pager_state.specs.World.{World, stagingArea, stagedLimit, countOf, headerOf, busy, readOnlyBy, readOnly}
+use Rattle.pager_state.specs.World.{World, stagingArea, stagedLimit, countOf, headerOf, busy, readOnly}
 use Rattle.pager_state.specs.Overlay.{pageFrom, slotOf, inLog, onMain, below, placePage, readRefusal, findPage}
 use Rattle.pager_state.specs.Staging.{stageRefusal, withSlot, stagedAfter, stagingBytes}
 use Rattle.pager_state.specs.Opening.{createFine}
-use Rattle.pager_state.specs.Steps.{differing, commitRefusal, nothingToCheckpoint, checkpointRefusal, checkpointStart, checkpointBegins, beginCheckpoint, todo, stepFine, onStore, commitWorld, checkpointWorld}
+use Rattle.pager_state.specs.Steps.{differing, commitRefusal, beginCheckpoint, todo, stepFine, onStore, commitWorld}
 use Rattle.pager_state.specs.declared.Staged.{Staged}
 use Rattle.pager_state.specs.declared.Job.the-variants as job
-use Rattle.pager_state.specs.declared.CheckpointStart.the-variants as checkpoint
 use Rattle.pager_state.specs.declared.PageFound.the-variants as found
 use Rattle.pager_state.proofs.Made.{Made}
-use Rattle.pager_state.proofs.Done.{Rests, commit-done, checkpoint-done}
-use Rattle.pager_state.proofs.Begun.{begins}
+use Rattle.pager_state.proofs.Done.{Rests}
 use Rattle.history.specs.Calls.{Stage, Commit, Checkpoint, Words, refusedBy, worldAfter}
 use Rattle.history.specs.Run.{Run, whole, start}
 use Rattle.history.specs.Demand3.{readingAt, Demand3}
 use Rattle.history.specs.Guards.{GoodHeader, withSlots, LongerBy, CheckpointedTo, Accepted, reading, committedPage, ReadsBack, Keeps}
-use Rattle.history.proofs.GuardNew.{fine-create, few-differ, none-staged, new-begun, new-made, new-idle, new-count, new-none, new-frames, new-writes, made-framed}
+use Rattle.history.proofs.GuardNew.{fine-create, few-differ, none-staged, new-begun, new-made, new-idle, new-count, new-none, new-frames, new-writes}
 use Rattle.history.proofs.GuardHistories.{made-whole}
 use Rattle.history.proofs.GuardCommit.{commit-ends}
-use Rattle.history.proofs.GuardCheckpoint.{checkpoint-leaves}
 use Rattle.history.proofs.GuardModel.{world-after, staging-after}
+use Rattle.history.proofs.GuardBehind.{longer, checkpoint-starts, checkpoint-taken, checkpoint-ends, checkpoint-to}
 use Rattle.history.proofs.GuardReached.{reached-none}
 use Rattle.history.proofs.GuardPages.{some-same, none-some, reads-back}
 
@@ -121,71 +119,36 @@ module _ (t l m g : List ℕ) (salt : ℕ) (f : createFine t l m g ≡ true) (by
     staged-frames : staged .world .pager .wal .«frame_count» ≡ 0
     staged-frames = rw staged-world (new-frames t l m g salt f)
 
-    committed-world : committed .world ≡ commitWorld (staged .staging) (staged .world) h next
-    unfolding worldAfter
-    committed-world = world-after (Commit h next) staged
+    staged-writes : readOnly (staged .world .pager) ≡ false
+    staged-writes = rw staged-world (new-writes t l m g salt f)
 
-    committed-staging : committed .staging ≡ staged .staging
-    committed-staging = staging-after (Commit h next) staged
-
-    first-longer : LongerBy (staged .world) (committed .world) (differing (staged .staging) (staged .world) + 1)
+    first-longer : LongerBy (staged .world) (commitWorld (staged .staging) (staged .world) h next) (differing (staged .staging) (staged .world) + 1)
     first-longer =
         let e = commit-ends (staged .staging) (staged .world) h next (staged-made .slots) (omega (arith, staged-frames)) first-begun in
-        rw committed-world (e .below (omega (arith, staged-frames, few-differ (staged .staging) (staged .world) (staged-made .slots))))
-
-    committed-fine : stepFine (committed .staging) (committed .world) ≡ true
-    committed-fine =
-        rw (committed-world, committed-staging) (commit-done (staged .staging) (staged .world) h next first-begun (staged-made .slots) .ready .right)
-
-    committed-made : Made (committed .world)
-    committed-made = made-whole (Commit h next) staged staged-made
+        e .below (omega (arith, staged-frames, few-differ (staged .staging) (staged .world) (staged-made .slots)))
 
     -- ---- and a checkpoint
 
-    committed-writes : readOnly (committed .world .pager) ≡ false
-    committed-writes = ap readOnlyBy (first-longer .opening) ∙ rw staged-world (new-writes t l m g salt f)
-
-    some-frames : nothingToCheckpoint (committed .world) ≡ false
-    unfolding nothingToCheckpoint
-    some-frames = rw (ne-eqb (committed .world .pager .wal .«frame_count») 0 (λ e. omega (arith, e, first-longer .frames)))
-
-    checkpoint-none : checkpointRefusal (committed .staging) (committed .world) ≡ none
-    unfolding checkpointRefusal
-    checkpoint-none = rw (committed-fine, first-longer .rests, committed-writes)
-
-    checkpoint-begins : checkpointBegins (committed .staging) (committed .world) ≡ true
-    checkpoint-begins = begins (committed .staging) (committed .world) checkpoint-none some-frames
-
-    checkpoint-starts : checkpointStart (committed .staging) (committed .world) ≡ checkpoint.Begun
-    unfolding checkpointStart
-    checkpoint-starts = rw (checkpoint-none, some-frames)
+    abbrev frames : ℕ
+    frames = differing (staged .staging) (staged .world) + 1
 
     module _ (last : ℕ) where
       abbrev checkpointed : Run
       checkpointed = whole (Checkpoint last) committed
 
-      checkpoint-taken : Accepted (Checkpoint last) committed
-      unfolding refusedBy
-      checkpoint-taken = ap numberOf checkpoint-none
+      ends : Rests (λ (n : ℕ). false) (committed .staging) (todo (committed .staging) (onStore (committed .world) (beginCheckpoint (committed .staging) (committed .world) last .pager))) (committed .world) (checkpointed .world)
+      ends = checkpoint-ends staged h next frames staged-made first-begun staged-writes (omega arith) first-longer last
 
-      checkpointed-world : checkpointed .world ≡ checkpointWorld (committed .staging) (committed .world) last
-      unfolding worldAfter
-      checkpointed-world = world-after (Checkpoint last) committed
-
-      checkpoint-ends : Rests (λ (n : ℕ). false) (committed .staging) (todo (committed .staging) (onStore (committed .world) (beginCheckpoint (committed .staging) (committed .world) last .pager))) (committed .world) (checkpointed .world)
-      checkpoint-ends = rw checkpointed-world (checkpoint-done (committed .staging) (committed .world) last checkpoint-begins (committed-made .slots))
-
-      checkpoint-to : CheckpointedTo (committed .world) (checkpointed .world)
-      checkpoint-to =
-          let u = made-framed (committed .world) committed-made in
-          rw checkpointed-world (checkpoint-leaves (committed .staging) (committed .world) last (u .0) (u .1 (first-longer .rests)) checkpoint-begins)
+      to : CheckpointedTo (committed .world) (checkpointed .world)
+      to = checkpoint-to staged h next frames staged-made first-begun staged-writes (omega arith) first-longer last
 
       -- no page is staged or in the log: it is read from the main file
       in-main : reading checkpointed 1 ≡ some bytes → pageFrom pageSize (checkpointed .world .main) ≡ bytes
       in-main e =
-          let fine : stepFine (checkpointed .staging) (checkpointed .world) ≡ true = rw (staging-after (Checkpoint last) committed) (checkpoint-ends .ready .right) in
-          let unstaged : checkpointed .world .pager .staged .count ≡ 0 = rw (checkpoint-to .staged) (first-longer .unstaged) in
-          read-main (checkpointed .world) (checkpointed .staging) 1 fine (checkpoint-ends .idle) unstaged (checkpoint-to .empty .none 1) bytes e
+          let fine : stepFine (checkpointed .staging) (checkpointed .world) ≡ true = rw (staging-after (Checkpoint last) committed) (ends .ready .right) in
+          let l : LongerBy (staged .world) (committed .world) frames = longer staged h next frames staged-made first-begun staged-writes (omega arith) first-longer in
+          let unstaged : checkpointed .world .pager .staged .count ≡ 0 = rw (to .staged) (l .unstaged) in
+          read-main (checkpointed .world) (checkpointed .staging) 1 fine (ends .idle) unstaged (to .empty .none 1) bytes e
 
     pub keeps : Demand3 → salt < 2 ^ 32 → Bytes bytes → Words h → next < 2 ^ 32 → Keeps new bytes h next
     keeps d small b v s =
@@ -195,6 +158,7 @@ module _ (t l m g : List ℕ) (salt : ℕ) (f : createFine t l m g ≡ true) (by
           staged = stage-taken;
           committed = first-taken;
           reads = back;
-          begins = checkpoint-starts;
-          checkpointed = λ last z. in-main last (back .checkpointed last z (checkpoint-taken last));
+          begins = checkpoint-starts staged h next frames staged-made first-begun staged-writes (omega arith) first-longer;
+          checkpointed = λ last z. in-main last
+              (back .checkpointed last z (checkpoint-taken staged h next frames staged-made first-begun staged-writes (omega arith) first-longer last));
         }

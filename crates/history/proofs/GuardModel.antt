@@ -151,6 +151,19 @@ module _ (salt : ℕ) (r : Run) (k : Accepted (Checkpoint salt) r) (e : r .world
   pub checkpoint-shows : Shows (whole (Checkpoint salt) r .model) n bytes
   checkpoint-shows = rw (taken-model (Checkpoint salt) r k) (checkpoint-goes-by (checkpointBegins (r .staging) (r .world)) refl)
 
+-- no batch is committed after it
+pages-empty : (salt answer : ℕ) (ns : List ℕ) (w : World) (b : Model) → modelStores [] (kinds (pagesTodo salt answer ns w)) b .committed ≡ []
+unfolding pagesTodo modelStores
+pages-empty salt answer [] w b = refl
+pages-empty salt answer (n ∷ ns) w b = pages-empty salt answer ns (pageStored salt answer n w) b
+
+pub checkpoint-empty : (salt : ℕ) (r : Run) → Accepted (Checkpoint salt) r → checkpointBegins (r .staging) (r .world) ≡ true
+    → whole (Checkpoint salt) r .model .committed ≡ []
+unfolding storesOf beginCheckpoint todo commitTodo checkpointTodo
+checkpoint-empty salt r k f =
+    rw (taken-model (Checkpoint salt) r k, f)
+    (pages-empty salt (checkpointCount (r .world)) _ (onStore (r .world) (withJob (r .world .pager) (job.Checkpoint salt 0 (checkpointCount (r .world))))) (r .model))
+
 -- ---- openings after a cut that falls in no store
 
 module _ (n : ℕ) (bytes : List ℕ) where

@@ -35,11 +35,12 @@ pub mod GuardNew
 pub mod GuardTable
 pub mod GuardHistories
 pub mod GuardModel
+pub mod GuardBehind
 pub mod GuardReached
+pub mod FilesAfter
 pub mod GuardFound
 pub mod GuardPages
 pub mod GuardFirst
 pub mod GuardBatches
 pub mod GuardBody
 pub mod Guards
-pub mod FilesAfter

@@ -1,9 +1,9 @@
 -- A clean opening of files as they should be: it is not refused, it may be cut, and what it gives. Assumes nothing.
 use mathlib.Core.Path.{_≡_, refl, sym, ap, _∙_}
 use mathlib.Core.Bool.{Bool, true, false}
-use mathlib.Core.List.{List, [], _∷_, _++_, append-nil}
+use mathlib.Core.List.{List, [], _∷_, _++_, map, append-nil}
 use mathlib.Core.Option.{Option, none, some}
-use Prim.Native.Nat.{ℕ, zero, suc, _+_, _-_, _*_, _^_, _≤_, _<_}
+use Prim.Native.Nat.{ℕ, zero, suc, _+_, _-_, _*_, _^_, max, _≤_, _<_}
 use native.Mathlib.Nat.{add-zero, zero-add}
 use native.Mathlib.Omega.{arith}
 use borrow.Author.Tests.{eq-eqb, le-leb, leb-true, eqb-true}
@@ -15,12 +15,16 @@ use Rattle.le.specs.Le.{field}
 use Rattle.le.proofs.Fields.{drop-take, field-part}
 use Rattle.le.proofs.Compare.{both-true}
 use Rattle.page.specs.Page.{pageSize}
+use Rattle.frame.specs.Frame.{bodyOf}
+use Rattle.mvcc.specs.Batch.{Each}
+use Rattle.mvcc.specs.Seen.{commitTs}
 use Rattle.header.specs.Header.{decodeHeader, headerIn}
 use Rattle.header.specs.declared.DbHeader.{DbHeader}
 use Rattle.header.specs.declared.HeaderDecoded.the-variants as main
 use Rattle.header.proofs.RoundTrip.{decoded-as}
 use Rattle.wal.specs.Header.{headerSize, encodeWalHeader, decodeWalHeader}
 use Rattle.wal.specs.Recovery.{chunkAt, goodFront, lastCount, batchesIn, Recovered, recovered, committedFrames, commitPoint, walOf, walArea}
+use Rattle.wal.specs.Write.{withClock}
 use Rattle.wal.specs.declared.WalHeader.{WalHeader}
 use Rattle.wal.specs.declared.WalHeaderDecoded.the-variants as log
 use Rattle.wal.specs.declared.Wal.{Wal}
@@ -31,7 +35,7 @@ use Rattle.wal.proofs.Laid.{joined}
 use Rattle.wal.proofs.Opening.{length-cut}
 use Rattle.pager_state.specs.World.{world, mainArea, stagingArea, pageLimit, countOf, inArea, lengthsFine}
 use Rattle.pager_state.specs.Overlay.{pageFrom, entry, isStaged, slotOf}
-use Rattle.pager_state.specs.Opening.{tabulate, placeFrom, hasPage, tableOf, emptyStaged, opensAs, keptOf, foundIn, foundBy, mainHeader, headerBy, openedStore, judged, openFine, openPager, openRefusal, openStores, openTable, openLogArea}
+use Rattle.pager_state.specs.Opening.{tabulate, placeFrom, hasPage, tableOf, emptyStaged, opensAs, keptOf, commitTimes, greatest, clockTaken, foundIn, foundBy, mainHeader, headerBy, openedStore, judged, openFine, openPager, openRefusal, openStores, openTable, openLogArea}
 use Rattle.pager_state.specs.Stores.{File, Disk, content, SetLen, Other, lenFile, lenCut, cutAll, wholeOf, storedAll}
 use Rattle.pager_state.specs.declared.AccessMode.{AccessMode}
 use Rattle.pager_state.specs.declared.AccessMode.the-variants as mode
@@ -39,13 +43,14 @@ use Rattle.pager_state.specs.declared.FileKind.the-variants as file
 use Rattle.pager_state.specs.declared.Opening.the-variants as opening
 use Rattle.pager_state.specs.declared.Pager.{Pager}
 use Rattle.pager_state.specs.Opened as opened
-use Rattle.history.specs.Model.{Model, modelOpen, modelStores}
+use Rattle.history.specs.Model.{Batch, Model, batchIn, modelOpen, modelStores}
 use Rattle.history.specs.Calls.{Lent, cleanly, fileReadInto, readInto}
 use Rattle.history.specs.Run.{kinds, keptAfter}
 use Rattle.history.specs.Demand3.{Sized}
 use Rattle.history.proofs.Files.{lasting, grown-none, len-file, length-content}
+use Rattle.history.proofs.Frames.{batchesOf}
 use Rattle.history.proofs.Slots.{Slots}
-use Rattle.history.proofs.Disk.{mainPage, viewOf, headerOver, LogIs, ModelIs, OnDisk, DiskOk, short-stop, none-committed, whole-left, log-inside, log-len, committed-len, front-is, recovered-is, committed-is}
+use Rattle.history.proofs.Disk.{mainPage, viewOf, headerOver, Timed, LogIs, ModelIs, OnDisk, DiskOk, short-stop, none-committed, whole-left, log-inside, log-len, committed-len, front-is, recovered-is, committed-is}
 use Rattle.history.proofs.Rest.{Resting}
 
 -- ---- the same files in other areas
@@ -92,6 +97,7 @@ model-over o top pages =
       there = o .there;
       above = o .above;
       batches = o .batches;
+      times = o .times;
     }
 
 pub re-lay : {d : Disk} {b : Model} {l : WalHeader} {S P : List (List ℕ)} {t : List ℕ} {mh : DbHeader} → OnDisk d b l S P t mh → (e : Disk)
@@ -112,10 +118,10 @@ re-lay {d} {b} {l} {S} {P} {t} {mh} o e h₁ h₂ h₃ h₄ h₅ h₆ =
       model = model-over (o .model) (o .model .top) (λ n n1 n2. rw (main-same mh (e .main .area) (d .main .area) (d .main .len) n h₅ (o .main .has)) (o .model .pages n n1 n2));
     }
 
--- the model's other fields play no part
+-- of the model's other fields the waiting batches' times alone play a part
 pub re-model : {d : Disk} {b : Model} {l : WalHeader} {S P : List (List ℕ)} {t : List ℕ} {mh : DbHeader} → OnDisk d b l S P t mh → (c : Model)
-    → c .header ≡ b .header → c .pages ≡ b .pages → c .committed ≡ b .committed → OnDisk d c l S P t mh
-re-model o c e₁ e₂ e₃ =
+    → c .header ≡ b .header → c .pages ≡ b .pages → c .committed ≡ b .committed → Timed (c .committed ++ c .waiting) → OnDisk d c l S P t mh
+re-model o c e₁ e₂ e₃ times =
     record {
       log = o .log;
       main = o .main;
@@ -129,8 +135,33 @@ re-model o c e₁ e₂ e₃ =
             there = rw (e₁, e₂) (o .model .there);
             above = rw (e₁, e₂) (o .model .above);
             batches = o .model .batches ∙ sym e₃;
+            times = times;
           };
     }
+
+-- ---- times of 64 bits
+
+each-left : {A : Type 0} (P : A → Type 0) (xs ys : List A) → Each P (xs ++ ys) → Each P xs
+unfolding Each
+each-left P [] ys h = tt
+each-left P (x ∷ xs) ys h = (h .0, each-left P xs ys (h .1))
+
+-- a clean opening drops what waits
+open-timed : (b : Model) → Timed (b .committed ++ b .waiting) → Timed (modelOpen b .committed ++ modelOpen b .waiting)
+open-timed b h = rw (append-nil (b .committed)) (each-left (λ (x : Batch). x .time < 2 ^ 64) (b .committed) (b .waiting) h)
+
+-- the greatest of some that are below a number
+greatest-below : (n : ℕ) (ts : List ℕ) → 1 ≤ n → Each (λ (t : ℕ). t < n) ts → greatest ts < n
+unfolding greatest Each
+greatest-below n [] k h = k
+greatest-below n (t ∷ ts) k h = omega (arith, h .0, greatest-below n ts k (h .1))
+
+-- the frames' times are those of the batches that they hold
+times-below : (fs : List (List ℕ)) → Timed (map (λ (f : List ℕ). batchIn (bodyOf f)) fs)
+    → Each (λ (t : ℕ). t < 2 ^ 64) (map (λ (f : List ℕ). commitTs (bodyOf f)) fs)
+unfolding Each batchIn
+times-below [] h = tt
+times-below (f ∷ fs) h = (h .0, times-below fs (h .1))
 
 -- ---- the areas lent
 
@@ -217,7 +248,7 @@ module _ {x : Disk} {b : Model} {l : WalHeader} {S P : List (List ℕ)} {t : Lis
 
   -- the log as it is then open
   abbrev pub openLog : Wal
-  openLog = walOf (length keptLog) (recovered keptLog)
+  openLog = withClock (walOf (length keptLog) (recovered keptLog)) (clockTaken true (recovered keptLog))
 
   -- the store as it is then open
   abbrev pub openStore : Pager
@@ -230,12 +261,27 @@ module _ {x : Disk} {b : Model} {l : WalHeader} {S P : List (List ℕ)} {t : Lis
   long-enough = omega (arith, length-content (x .log) (log-inside o), log-len o)
 
   pub open-len : openLog .len ≡ chunkAt (length S)
-  unfolding walOf
+  unfolding walOf withClock
   open-len = length-cut (content (x .log)) long-enough ∙ point-is
 
-  pub open-header : openLog .header ≡ l
-  unfolding walOf
-  open-header = ap (λ (r : Recovered). r .header) (recovered-cut (content (x .log)) ∙ ap (λ (r : Recovered). record { header = r .header; frames = committedFrames (recovered (content (x .log))); stopped = false }) (recovered-is o))
+  header-kept : recovered keptLog .header ≡ l
+  header-kept = ap (λ (r : Recovered). r .header) (recovered-cut (content (x .log)) ∙ ap (λ (r : Recovered). record { header = r .header; frames = committedFrames (recovered (content (x .log))); stopped = false }) (recovered-is o))
+
+  pub open-salt : openLog .header .salt ≡ l .salt
+  unfolding walOf withClock
+  open-salt = ap (λ (h : WalHeader). h .salt) header-kept
+
+  -- "the larger of the log header's clock and the greatest commit time among the recovered batches"
+  pub open-clock : openLog .header .«clock_high_water» ≡ max (l .«clock_high_water») (greatest (commitTimes S))
+  unfolding walOf withClock clockTaken
+  open-clock = rw (header-kept, cut-committed (content (x .log)), committed-is o)
+
+  pub open-below : openLog .header .«clock_high_water» < 2 ^ 64
+  open-below =
+      let committed = each-left (λ (x : Batch). x .time < 2 ^ 64) (b .committed) (b .waiting) (o .model .times) in
+      let times : Timed (batchesOf S) = rw (o .model .batches) committed in
+      let late = greatest-below (2 ^ 64) (commitTimes S) (omega arith) (times-below (batchesIn S) times) in
+      rw open-clock (omega (arith, o .log .written .clock, late))
 
   main-is : mainHeader (x .main) ≡ main.Header mh
   unfolding mainHeader
@@ -323,7 +369,7 @@ module _ {x : Disk} {b : Model} {l : WalHeader} {S P : List (List ℕ)} {t : Lis
               fits = omega (arith, committed-len o, o .log .fits);
             };
         main = o .main;
-        model = re-model o (modelOpen b) refl refl refl .model;
+        model = re-model o (modelOpen b) refl refl refl (open-timed b (o .model .times)) .model;
       }
     where
       cut-content : take (chunkAt (length S)) (x .log .area) ≡ encodeWalHeader l ++ joined S
@@ -337,7 +383,7 @@ module _ {x : Disk} {b : Model} {l : WalHeader} {S P : List (List ℕ)} {t : Lis
       (modelStores [] (kinds (wholeOf (SetLen Other file.Log (chunkAt (length S)) true ∷ []) j k)) (modelOpen b))
       (keptAfter (wholeOf (SetLen Other file.Log (chunkAt (length S)) true ∷ []) j k) x z)
   unfolding cutAll wholeOf lenCut modelStores keptAfter
-  open-cut z e zero zero = record { l = l; S = S; P = P; t = t; mh = mh; on = re-model o (modelOpen b) refl refl refl; kept = e }
+  open-cut z e zero zero = record { l = l; S = S; P = P; t = t; mh = mh; on = re-model o (modelOpen b) refl refl refl (open-timed b (o .model .times)); kept = e }
   open-cut z e zero (suc k) = rw (le-leb 1 (suc k) (omega arith)) (cut-ok z e (len-file (x .log) (chunkAt (length S)) (committed-len o)))
   open-cut z e (suc j) k = cut-ok z e (len-file (x .log) (chunkAt (length S)) (committed-len o))
 
@@ -374,11 +420,12 @@ empty-none n = refl
 
 -- a store with nothing staged and nothing part done, whose files are these
 pub rests : (x : Disk) (b : Model) (l : WalHeader) (S : List (List ℕ)) (mh own : DbHeader) (v : Wal) (end : ℕ) (G : List ℕ)
-    → OnDisk x b l S [] [] mh → v .len ≡ x .log .len → v .header .salt ≡ l .salt → v .header .«clock_high_water» < 2 ^ 64 → length G ≡ stagingArea
+    → OnDisk x b l S [] [] mh → v .len ≡ x .log .len → v .header .salt ≡ l .salt → l .«clock_high_water» ≤ v .header .«clock_high_water»
+    → v .header .«clock_high_water» < 2 ^ 64 → length G ≡ stagingArea
     → ((n : ℕ) → b .staged n ≡ none) → b .waiting ≡ []
     → Resting (world (opensAs (b .header) own (x .main .len) v end opening.Clean) (tableOf mh S) (x .log .area) (x .main .area)) G b l S [] mh
 unfolding opensAs batchesIn
-rests x b l S mh own v end G o e₁ e₂ e₃ e₄ e₅ e₆ =
+rests x b l S mh own v end G o e₁ e₂ older e₃ e₄ e₅ e₆ =
     let f : record { main = x .main; log = record { area = x .log .area; len = v .len } } ≡ x = λ i. record { main = x .main; log = record { area = x .log .area; len = e₁ i } } in
     record {
       held =
@@ -387,6 +434,7 @@ rests x b l S mh own v end G o e₁ e₂ e₃ e₄ e₅ e₆ =
             tableLong = table-long mh S;
             stagingLong = e₄;
             salt = e₂;
+            older = older;
             clock = e₃;
             header = refl;
             clean = refl;

@@ -15,7 +15,6 @@ use Rattle.frame.proofs.Places.{body-there}
 use Rattle.wal.specs.Header.{headerSize}
 use Rattle.wal.specs.Recovery.{chunks, chunkAt, isBatch, batchesIn, walArea}
 use Rattle.wal.specs.Read.{batchFrom, nextBatch}
-use Rattle.wal.specs.declared.WalHeader.{WalHeader}
 use Rattle.wal.specs.declared.BatchFound.{BatchFound}
 use Rattle.wal.specs.declared.BatchFound.the-variants as batch
 use Rattle.wal.proofs.Places.{get-chunk}
@@ -36,7 +35,7 @@ use Rattle.history.specs.Demand3.{walkedAt, walked, Returns, Sized, AllS
 use Rattle.history.proofs.Files.{lasting}
 use Rattle.history.proofs.Disk.{OnDisk, DiskOk, LeftOk, disk-kept, committed-is, committed-len}
 use Rattle.history.proofs.Rest.{Inv}
-use Rattle.history.proofs.Opening.{Areas, laid-on, sized-areas, openLog, openStore, point-is, open-len, open-header, opens, table-is, area-is, stores-is, cut-on, open-cut, rests}
+use Rattle.history.proofs.Opening.{Areas, laid-on, sized-areas, openLog, openStore, point-is, open-len, open-salt, open-clock, open-below, opens, table-is, area-is, stores-is, cut-on, open-cut, rests}
 
 abbrev pub InvRun : Run → Type 0
 InvRun r = Inv (r .world) (r .staging) (r .model) (r .kept)
@@ -150,8 +149,8 @@ module _ {d : Disk} {b : Model} {z : List ℕ} (k : DiskOk d b z) (lent : Lent) 
         P = [];
         mh = k .mh;
         it = rests (record { main = readInto lent d .main; log = lasting (readInto lent d .log) (chunkAt (length (k .S))) }) (modelOpen b) (k .l) (k .S) (k .mh) (k .mh) (openLog on)
-            (chunkAt (length (k .S))) (lent .staging) (cut-on on) (open-len on) (ap (λ (h : WalHeader). h .salt) (open-header on))
-            (rw (open-header on) (k .on .log .written .clock)) (a .staging) (λ n. refl) refl;
+            (chunkAt (length (k .S))) (lent .staging) (cut-on on) (open-len on) (open-salt on)
+            (omega (arith, open-clock on)) (open-below on) (a .staging) (λ n. refl) refl;
         kept = k .kept;
       })
 

@@ -49,6 +49,7 @@ pub record Held (w : World) (g : List ℕ) (b : Model) (l : WalHeader) (S P : Li
   pub tableLong : length (w .table) ≡ pageLimit
   pub stagingLong : length g ≡ stagingArea
   pub salt : w .pager .wal .header .salt ≡ l .salt
+  pub older : l .«clock_high_water» ≤ w .pager .wal .header .«clock_high_water»
   pub clock : w .pager .wal .header .«clock_high_water» < 2 ^ 64
   pub header : headerOf (w .pager) ≡ b .header
   pub clean : w .pager .opening ≡ opening.Clean
@@ -166,6 +167,7 @@ held-stored k d h j own o =
       tableLong = k .tableLong;
       stagingLong = k .stagingLong;
       salt = k .salt;
+      older = k .older;
       clock = k .clock;
       header = k .header;
       clean = k .clean;

@@ -88,10 +88,11 @@ module _ (w : World) (g : List ℕ) (b : Model) (z : List ℕ) (i : Inv w g b z)
       record {
         held =
             record {
-              on = re-model (q .on) (modelStage n bytes b) refl refl refl;
+              on = re-model (q .on) (modelStage n bytes b) refl refl refl (q .on .model .times);
               tableLong = q .tableLong;
               stagingLong = length-put g (stagedAt (w .pager .staged) n) bytes (omega (arith, low, long, q .stagingLong)) ∙ q .stagingLong;
               salt = q .salt;
+              older = q .older;
               clock = q .clock;
               header = q .header;
               clean = q .clean;

@@ -129,11 +129,12 @@ CommitGuard =
 
 -- ---- what a commit that is begun comes to
 
--- v is w with a log longer by so many frames and nothing staged, at rest
+-- v is w with a log longer by so many frames, its header as it was, and nothing staged, at rest
 pub record LongerBy (w v : World) (n : ℕ) : Type 0 where
   pub rests : v .pager .job ≡ job.Idle
   pub unstaged : v .pager .staged .count ≡ 0
   pub opening : v .pager .opening ≡ w .pager .opening
+  pub header : v .pager .wal .header ≡ w .pager .wal .header
   pub logFile : v .pager .wal .len ≡ w .pager .wal .len + frameSize * n
   pub frames : v .pager .wal .«frame_count» ≡ w .pager .wal .«frame_count» + n
 
@@ -171,9 +172,11 @@ EmptyCommitGuard =
 
 -- ---- a checkpoint leaves log length 32 and its pages in the main file
 
--- v is the store that a checkpoint of w leaves: each page below the count that the log had is in the main file, and the main file's own stay
+-- v is the store that a checkpoint of w leaves: each page below the count that the log had is in the main file, and the main file's own stay;
+-- so does the clock
 pub record CheckpointedTo (w v : World) : Type 0 where
   pub empty : Empty v
+  pub clock : v .pager .wal .header .«clock_high_water» ≡ w .pager .wal .header .«clock_high_water»
   pub staged : v .pager .staged ≡ w .pager .staged
   pub mainFile : v .pager .storage .len ≡ pageSize * countOf (headerOf (w .pager))
   pub brought : (n : ℕ) → 1 ≤ n → n < countOf (headerOf (w .pager)) → inLog (w .table) n ≡ true

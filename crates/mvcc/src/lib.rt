@@ -3,14 +3,16 @@
 // record by record and column by column with a cursor. Every public function is total.
 ghost use mathlib.Core.Path.{_≡_};
 ghost use Prim.Native.Nat.{_^_, _≤_, _<_};
+ghost use lib.Dec.{leb};
 ghost use lib.ListN.{length, drop, take};
+ghost use Rattle.le.specs.Choice.{pick};
 ghost use Rattle.mvcc.specs.Answer.{why};
 ghost use Rattle.mvcc.specs.Batch.{bodySize};
 ghost use Rattle.mvcc.specs.Fields.{numAnswer, textAnswer, valueAnswer, columnAnswer, rowAnswer, payloadAnswer, recordAnswer, itemsOf, itemsIn, refusedBatch};
 ghost use Rattle.mvcc.specs.Decode.{numAt, textOf, textAt, signed, realOf, integerAt, realAt, boolAt, textValueAt, vectorAt, valueAt, columnAt, recordAt};
 ghost use Rattle.mvcc.specs.Parts.{rowAt, columnsAt, payloadAt};
 ghost use Rattle.mvcc.specs.Items.{presentItems, judgedItems, reportOf, bodyItems};
-ghost use Rattle.mvcc.specs.Seen.{headingJudged, decodes};
+ghost use Rattle.mvcc.specs.Seen.{headingJudged, decodes, commitTs};
 ghost use Rattle.mvcc.specs.Vector.{bitsAt, elementAt};
 use refusal::Refusal;
 
@@ -541,6 +543,13 @@ pub fn heading_refusal(body: &[u8]) -> HeadingJudged
         return HeadingJudged::Refused(Refusal::Magic);
     }
     HeadingJudged::Fine
+}
+
+// The commit time in a body's heading; no record is looked at. 0 where the body is too short for it.
+pub fn commit_ts(body: &[u8]) -> u64
+    ensures { λ r. ⌜ r ≡ pick (leb 16 (length (now (body .entry)))) (commitTs (now (body .entry))) 0 ⌝ }
+{
+    le::read_u64(body, 8)
 }
 
 // Whether a body decodes.

@@ -14,21 +14,21 @@ use Rattle.header.specs.Header.{decodeHeader}
 use Rattle.header.specs.declared.DbHeader.{DbHeader}
 use Rattle.header.specs.declared.HeaderDecoded.the-variants as main
 use Rattle.wal.specs.Header.{walHeaderIn}
-use Rattle.wal.specs.Recovery.{chunks, chunkAt, pageOf, pageIn, recovered, committedFrames, commitPoint, lastCommit, lastCount, walOf}
-use Rattle.wal.specs.Write.{emptyWal}
+use Rattle.wal.specs.Recovery.{chunks, chunkAt, pageOf, pageIn, Recovered, recovered, committedFrames, commitPoint, lastCommit, lastCount, walOf}
+use Rattle.wal.specs.Write.{emptyWal, withClock}
 use Rattle.wal.specs.declared.Wal.{Wal}
 use Rattle.wal.proofs.Places.{length-chunks, chunk-gone, take-chunk}
 use Rattle.wal.proofs.Frames.{pageIn-snoc, committed-most}
-use Rattle.wal.proofs.Recovered.{frames-most, committed-chunks, commit-within, committed-committed, cut-committed}
+use Rattle.wal.proofs.Recovered.{frames-most, committed-chunks, commit-within, committed-committed, recovered-cut, cut-committed}
 use Rattle.wal.proofs.Opening.{known-header, known-commit, known-last, cut-known, length-cut}
 use Rattle.pager_state.specs.Stores.{File, content}
-use Rattle.pager_state.specs.Opening.{placeFrom, How, keptOf, foundIn, foundFresh, foundBy, recounted, headerBy}
+use Rattle.pager_state.specs.Opening.{placeFrom, How, keptOf, clockTaken, foundIn, foundFresh, foundBy, recounted, headerBy}
 use Rattle.pager_open.specs.Judging.{committedWal, keptWal}
 use Rattle.pager_open.proofs.Table.{place-snoc}
 
 -- ---- page 0
 
-length-frame : (at : ℕ) (l : List ℕ) → at + 4112 ≤ length l → length (bodyOf (frameAt at l)) ≡ 4096
+pub length-frame : (at : ℕ) (l : List ℕ) → at + 4112 ≤ length l → length (bodyOf (frameAt at l)) ≡ 4096
 unfolding bodyOf
 length-frame at l h = simp (length-drop, length-take) (omega arith)
 
@@ -71,15 +71,29 @@ header-there : (l : List ℕ) → recovered l .header ≡ walHeaderIn l
 unfolding recovered
 header-there l = refl
 
+cut-header : (l : List ℕ) → recovered (take (commitPoint (recovered l)) l) .header ≡ recovered l .header
+cut-header l = ap (λ (r : Recovered). r .header) (recovered-cut l)
+
 -- "its frame count is the frames kept"
-cut-wal : (l : List ℕ) (v : Wal) → 32 ≤ length l → v ≡ walOf (length l) (recovered l) → keptWal true v ≡ foundIn true l .log
-unfolding foundIn keptOf committedWal
+cut-wal : (l : List ℕ) (v : Wal) → 32 ≤ length l → v ≡ walOf (length l) (recovered l) → keptWal true l v ≡ foundIn true l .log
+unfolding foundIn keptOf committedWal clockTaken withClock
 cut-wal l v h k =
     let n : (commitPoint (recovered l) - 32) / 4112 ≡ length (committedFrames (recovered l)) = omega arith in
-    rw (length-cut l h, cut-known l, known-commit l v k, known-last l v k, n, known-header l v k, header-there l)
+    rw (
+      length-cut l h,
+      cut-known l,
+      cut-committed l,
+      cut-header l,
+      known-commit l v k,
+      known-last l v k,
+      n,
+      known-header l v k,
+      header-there l,
+      committed-committed l,
+    )
 
-pub found-log : (clean : Bool) (l : List ℕ) (v : Wal) → 32 ≤ length l → v ≡ walOf (length l) (recovered l) → keptWal clean v ≡ foundIn clean l .log
-unfolding foundIn keptOf
+pub found-log : (clean : Bool) (l : List ℕ) (v : Wal) → 32 ≤ length l → v ≡ walOf (length l) (recovered l) → keptWal clean l v ≡ foundIn clean l .log
+unfolding foundIn keptOf clockTaken withClock walOf
 found-log true l v h k = cut-wal l v h k
 found-log false l v h k = k
 
@@ -106,7 +120,7 @@ module _ (mh : DbHeader) (clean : Bool) (l : List ℕ) where
 
 -- the committed frames end at the commit point of the log that is then open
 end-of : (how : How) (f : File) (b : Bool) → let x = pick b (foundIn (how .clean) (content f)) (foundFresh how) in chunkAt (length (x .frames)) ≡ x .log .«last_commit_offset»
-unfolding foundIn foundFresh walOf emptyWal
+unfolding foundIn foundFresh walOf emptyWal withClock
 end-of how f true = refl
 end-of how f false = refl
 

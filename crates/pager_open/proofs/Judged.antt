@@ -63,7 +63,7 @@ module _ (how : How) (len : ℕ) (mh : DbHeader) (l : List ℕ) where
   found-as a e = rw (sym (header-either mh (how .clean) l) ∙ sym a ∙ e)
 
   pub found-opens : {r : HeaderDecoded} {h : DbHeader} {v w : Wal} → r ≡ headerBy mh (foundIn false l) → r ≡ main.Header h → 32 ≤ length l
-      → w ≡ walOf (length l) (recovered l) → v ≡ keptWal (how .clean) w → openedWith how len mh v h ≡ judgedFound how len mh (foundIn (how .clean) l)
+      → w ≡ walOf (length l) (recovered l) → v ≡ keptWal (how .clean) l w → openedWith how len mh v h ≡ judgedFound how len mh (foundIn (how .clean) l)
   found-opens {r} {h} {v} {w} a e n k b =
       ap (λ (x : Wal). openedWith how len mh x h) (b ∙ found-log (how .clean) l w n k) ∙ found-as a e
 

@@ -10,16 +10,16 @@ use native.Mathlib.Omega.{arith}
 use borrow.Author.Tests.{eq-eqb, ne-eqb}
 use lib.Dec.{eqb}
 use lib.ListN.{length, take, getD, set, length-set}
-use lib.Seq.{take-all, length-take-le, set-out, take-suc-set, getD-set-same, getD-set-other, ext-getD}
+use lib.Seq.{set-out, take-suc-set, getD-set-same, getD-set-other, ext-getD}
 use Rattle.le.specs.Choice.{pick, both}
 use Rattle.le.proofs.Tests.{le-or-lt, eq-or-not}
 use Rattle.frame.specs.Frame.{frameAt}
 use Rattle.header.specs.declared.DbHeader.{DbHeader}
 use Rattle.wal.specs.Recovery.{chunks, chunkAt, pageOf}
-use Rattle.wal.proofs.Places.{length-chunks, take-chunk}
 use Rattle.pager_state.specs.Overlay.{onMain, entry}
 use Rattle.pager_state.specs.Opening.{tabulate, placeFrom, hasPage, tableOf}
 use Rattle.pager_state.specs.Commit.{withEntry}
+use Rattle.pager_open.proofs.Front.{Front, front-on}
 
 -- ---- tabulated lists
 
@@ -162,28 +162,13 @@ table-empty h = refl
 -- ---- entering the frames of a log, one behind the other
 
 -- those in front of `at` are entered
-pub record Entering (h : DbHeader) (l t : List ℕ) (at : ℕ) : Type 0 where
-  pub index : ℕ
-  pub place : at ≡ chunkAt index
-  pub table : t ≡ tableOf h (take index (chunks l))
+abbrev pub Entering : DbHeader → List ℕ → List ℕ → ℕ → Type 0
+Entering h l t at = Front (tableOf h) l t at
 
 module _ (h : DbHeader) (l : List ℕ) where
-  pub entering-starts : {t : List ℕ} → t ≡ tableOf h [] → Entering h l t 32
-  entering-starts e = record { index = 0; place = refl; table = e }
-
   pub entering-long : (t : List ℕ) (at : ℕ) → Entering h l t at → length t ≡ 1024
-  entering-long t at r = rw (r .table) (length-table h (take (r .index) (chunks l)))
+  entering-long t at r = rw (r .is) (length-table h (take (r .index) (chunks l)))
 
   pub entering-on : (t : List ℕ) (at : ℕ) {u : List ℕ} → Entering h l t at → at + 4112 ≤ length l → u ≡ withEntry t (pageOf (frameAt at l)) at
       → Entering h l u (at + 4112)
-  entering-on t at {u} r k e =
-      let i = r .index in
-      let m : chunkAt i + 4112 ≤ length l = rw (← r .place) k in
-      let n : length (take i (chunks l)) ≡ i = length-take-le i (chunks l) (rw length-chunks (omega arith)) in
-      let s : withEntry (tableOf h (take i (chunks l))) (pageOf (frameAt (chunkAt i) l)) (chunkAt i)
-      ≡ tableOf h (take i (chunks l) ++ (frameAt (chunkAt i) l ∷ [])) =
-      rw n at (entered-frame h (take i (chunks l)) (frameAt (chunkAt i) l)) in
-      record { index = suc i; place = omega (arith, r .place); table = e ∙ rw (r .table, r .place, take-chunk i l m) s }
-
-  pub entering-ends : (t : List ℕ) (at : ℕ) → Entering h l t at → length l < at + 4112 → t ≡ tableOf h (chunks l)
-  entering-ends t at r k = r .table ∙ ap (tableOf h) (take-all (r .index) (chunks l) (rw length-chunks (omega (arith, r .place))))
+  entering-on t at r k e = front-on (tableOf h) l t at r k (λ fs a b. e ∙ rw (a, b) (entered-frame h fs (frameAt (chunkAt (length fs)) l)))

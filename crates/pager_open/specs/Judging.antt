@@ -1,21 +1,39 @@
 -- What the parts of an opening answer: pieces of `openPager` over what the parts before them found.
 use mathlib.Core.Bool.{Bool, true, false}
-use Prim.Native.Nat.{ℕ, _-_, _*_, _/_}
+use mathlib.Core.List.{List}
+use Prim.Native.Nat.{ℕ, _-_, _*_, _/_, max}
 use lib.Dec.{leb}
 use Rattle.le.specs.Choice.{pick, both}
 use Rattle.page.specs.Page.{pageSize}
-use Rattle.frame.specs.Frame.{frameSize}
+use Rattle.frame.specs.Frame.{frameSize, bodyOf}
+use Rattle.mvcc.specs.Seen.{commitTs}
 use Rattle.refusal.specs.declared.Refusal.the-variants as refusal
 use Rattle.header.specs.declared.DbHeader.{DbHeader}
 use Rattle.wal.specs.Header.{headerSize, decodeWalHeader}
+use Rattle.wal.specs.Recovery.{isBatch}
+use Rattle.wal.specs.Read.{committedChunks}
 use Rattle.wal.specs.declared.WalHeader.{WalHeader}
 use Rattle.wal.specs.declared.LastCommit.{LastCommit}
 use Rattle.wal.specs.declared.Wal.{Wal}
 use Rattle.pager_state.specs.World.{pageLimit, countOf}
 use Rattle.pager_state.specs.Stores.{File, Disk, content}
-use Rattle.pager_state.specs.Opening.{How, Found, writes, foundBy, mainHeader, judgedMain, judgedLog, judgedZero, headerBy, openingOf, opensAs}
+use Rattle.pager_state.specs.Opening.{How, Found, writes, commitTimes, greatest, foundBy, mainHeader, judgedMain, judgedLog, judgedZero, headerBy, openingOf, opensAs}
 use Rattle.pager_state.specs.Opened.{Opens}
 use Rattle.pager_state.specs.Opened as opened
+
+-- the commit time of a frame that holds a batch; 0 of a page's
+abbrev pub timeOf : List ℕ → ℕ
+timeOf f = pick (isBatch f) (commitTs (bodyOf f)) 0
+
+-- the header with the larger of its clock and the greatest commit time among some frames
+abbrev pub clocked : WalHeader → List (List ℕ) → WalHeader
+clocked h fs =
+    record {
+      version = h .version;
+      salt = h .salt;
+      «checkpoint_seq» = h .«checkpoint_seq»;
+      «clock_high_water» = max (h .«clock_high_water») (greatest (commitTimes fs));
+    }
 
 -- an open log that ends with its last commit frame: "its frame count is the frames kept"
 unfoldable pub committedWal : WalHeader → ℕ → LastCommit → Wal
@@ -29,9 +47,11 @@ committedWal h end last =
       «frame_count» = (end - headerSize) / frameSize;
     }
 
--- "A clean opening .. cuts the log at the commit point"
-abbrev pub keptWal : Bool → Wal → Wal
-keptWal clean v = pick clean (committedWal (v .header) (v .«last_commit_offset») (v .«last_commit_page_count»)) v
+-- "A clean opening .. cuts the log at the commit point", and "takes the larger of the log header's clock and the greatest commit time"
+abbrev pub keptWal : Bool → List ℕ → Wal → Wal
+keptWal clean l v =
+    let end = v .«last_commit_offset» in
+    pick clean (committedWal (clocked (v .header) (committedChunks end l)) end (v .«last_commit_page_count»)) v
 
 -- 10: "clean opening, read-only"
 abbrev pub isCleanReadOnly : How → Bool

@@ -1,14 +1,16 @@
-// Creating a store, and opening one: plainly, as the Rust does, or cleanly, which cuts the log at its commit point.
+// Creating a store, and opening one: plainly, as the Rust does, or cleanly, which cuts the log at its commit point and takes a clock that is no
+// older than a batch in it.
 // All refusals are judged before any area is written. Every public function is total.
 ghost use mathlib.Core.Path.{_≡_};
 ghost use mathlib.Core.Bool.{true, false};
 ghost use mathlib.Core.List.{[]};
-ghost use Prim.Native.Nat.{_+_, _*_, _≤_, _<_, _^_};
+ghost use Prim.Native.Nat.{_+_, _*_, max, _≤_, _<_, _^_};
 ghost use lib.Dec.{leb};
 ghost use lib.ListN.{length};
 ghost use Rattle.le.specs.Choice.{pick};
 ghost use Rattle.le.specs.Le.{put};
 ghost use Rattle.page.specs.Page.{emptyTablePage, pageSize};
+ghost use Rattle.frame.specs.Frame.{frameSize, frameAt};
 ghost use Rattle.header.specs.Header.{encodeHeader};
 ghost use Rattle.wal.specs.Header.{headerSize, decodeWalHeader};
 ghost use Rattle.wal.specs.Recovery.{chunks, recovered, walOf, walArea};
@@ -17,13 +19,14 @@ ghost use Rattle.pager_state.specs.World.{lengthsFine, pageLimit};
 ghost use Rattle.pager_state.specs.Overlay.{entry};
 ghost use Rattle.pager_state.specs.Stores.{File};
 ghost use Rattle.pager_state.specs.Commit.{withEntry};
-ghost use Rattle.pager_state.specs.Opening.{hasPage, tableOf, opensAs, create, createTable, createLog, createMain, writes, foundIn, foundFresh, mainHeader, judgedLog, recounted, headerBy, openingOf, openPager, openedAnswer, openTable, openLogArea, noPager};
+ghost use Rattle.pager_state.specs.Opening.{hasPage, tableOf, opensAs, create, createTable, createLog, createMain, writes, commitTimes, greatest, foundIn, foundFresh, mainHeader, judgedLog, recounted, headerBy, openingOf, openPager, openedAnswer, openTable, openLogArea, noPager};
 ghost use Rattle.pager_state.specs.Opened.{Refused};
 ghost use Rattle.pager_open.specs.Given.{how, howOf, files};
-ghost use Rattle.pager_open.specs.Judging.{committedWal, keptWal, isCleanReadOnly, openedWith, judgedFound, judgedBehind, judgedFiles};
+ghost use Rattle.pager_open.specs.Judging.{timeOf, committedWal, keptWal, isCleanReadOnly, openedWith, judgedFound, judgedBehind, judgedFiles};
 use frame::FRAME_SIZE;
 use header::DbHeader;
 use header::HeaderDecoded;
+use mvcc::MVCC_FRAME_MARKER;
 use page::PAGE_SIZE;
 use pager_state::AccessMode;
 use pager_state::CreateAnswer;
@@ -131,6 +134,38 @@ fn fill_table(table: &mut [u32], file: &[u8], main_header: DbHeader)
     }
 }
 
+fn larger(a: u64, b: u64) -> u64
+    ensures { λ r. ⌜ r ≡ max a b ⌝ }
+{
+    if a < b { b } else { a }
+}
+
+// The commit time of the batch whose frame is at `at`; 0 if a page's is.
+fn batch_time(file: &[u8], at: usize) -> u64
+    requires { ⌜ at + frameSize ≤ length (now file) ⌝ }
+    ensures { λ r. ⌜ r ≡ timeOf (frameAt at (now (file .entry))) ⌝ }
+{
+    let header = frame::read_frame_header(file, at);
+    if header.page_num != MVCC_FRAME_MARKER {
+        return 0;
+    }
+    mvcc::commit_ts(frame::frame_body(file, at))
+}
+
+// The greatest commit time of a log's batches, 0 for none: of each frame the heading is read, and of a batch its time.
+fn greatest_commit_ts(file: &[u8]) -> u64
+    requires { ⌜ length (now file) ≤ walArea ⌝ }
+    ensures { λ r. ⌜ r ≡ greatest (commitTimes (chunks (now (file .entry)))) ⌝ }
+{
+    let mut greatest = 0;
+    let mut at = WAL_HEADER_SIZE;
+    while le::fits_in(file.len(), at, FRAME_SIZE) {
+        greatest = larger(greatest, batch_time(file, at));
+        at += FRAME_SIZE;
+    }
+    greatest
+}
+
 // An open log that ends with its last commit frame.
 fn committed_wal(header: WalHeader, end: usize, last: LastCommit) -> Wal
     requires { ⌜ headerSize ≤ end ⌝ }
@@ -159,23 +194,26 @@ fn empty_wal(salt: u32) -> Wal
     committed_wal(header, WAL_HEADER_SIZE, LastCommit::Nothing)
 }
 
-// The log cut at its commit point.
-fn cut_at_commit(wal: Wal) -> Wal
-    requires { ⌜ headerSize ≤ wal .«last_commit_offset» ⌝ }
-    ensures { λ r. ⌜ r ≡ keptWal true wal ⌝ }
+// The log cut at its commit point, with the larger of its header's clock and the greatest commit time in it.
+fn cut_at_commit(file: &[u8], wal: Wal) -> Wal
+    requires { ⌜ (headerSize ≤ wal .«last_commit_offset») × (length (now file) ≤ walArea) ⌝ }
+    ensures { λ r. ⌜ r ≡ keptWal true (now (file .entry)) wal ⌝ }
 {
-    let header = wal.header;
+    let mut header = wal.header;
     let last = wal.last_commit_page_count;
-    committed_wal(header, wal.last_commit_offset, last)
+    let end = wal.last_commit_offset;
+    let greatest = greatest_commit_ts(le::part(file, 0, end));
+    header.clock_high_water = larger(header.clock_high_water, greatest);
+    committed_wal(header, end, last)
 }
 
-// The log as it is then open: a clean opening cuts it, a plain one keeps the tail.
-fn kept(wal: Wal, clean: bool) -> Wal
-    requires { ⌜ headerSize ≤ wal .«last_commit_offset» ⌝ }
-    ensures { λ r. ⌜ r ≡ keptWal clean wal ⌝ }
+// The log as it is then open: a clean opening cuts it and takes its clock, a plain one keeps the tail and the header's clock.
+fn kept(file: &[u8], wal: Wal, clean: bool) -> Wal
+    requires { ⌜ (headerSize ≤ wal .«last_commit_offset») × (length (now file) ≤ walArea) ⌝ }
+    ensures { λ r. ⌜ r ≡ keptWal clean (now (file .entry)) wal ⌝ }
 {
     if clean {
-        return cut_at_commit(wal);
+        return cut_at_commit(file, wal);
     }
     wal
 }
@@ -324,7 +362,7 @@ fn judge_found(
     main_header: DbHeader,
     options: OpenOptions,
 ) -> PagerOpened
-    requires { ⌜ (wal ≡ walOf (length (now file)) (recovered (now file))) × (headerSize ≤ length (now file)) ⌝ }
+    requires { ⌜ (wal ≡ walOf (length (now file)) (recovered (now file))) × (headerSize ≤ length (now file)) × (length (now file) ≤ walArea) ⌝ }
     ensures { λ r. ⌜ r ≡ openedAnswer (judgedFound (howOf options) «main_len» «main_header» (foundIn (options .clean) (now (file .entry)))) ⌝ }
 {
     match header_by(file, wal, main_header) {
@@ -332,7 +370,7 @@ fn judge_found(
             options,
             main_len,
             main_header,
-            kept(wal, options.clean),
+            kept(file, wal, options.clean),
             header,
         ),
         HeaderDecoded::Refused(_) => refused(Refusal::PageZero),
@@ -527,7 +565,7 @@ pub fn open_with_mode(
     open(table, log, main, staging, main_len, log_len, options)
 }
 
-// Opens a store cleanly: the log ends at its commit point.
+// Opens a store cleanly: the log ends at its commit point, and the clock is the larger of the log header's and the greatest commit time up to there.
 pub fn open_clean(
     table: &mut [u32],
     log: &mut [u8],

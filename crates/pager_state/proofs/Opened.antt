@@ -16,7 +16,7 @@ use Rattle.header.specs.declared.HeaderDecoded.{HeaderDecoded}
 use Rattle.header.specs.declared.HeaderDecoded.the-variants as main
 use Rattle.wal.specs.Header.{decodeWalHeader}
 use Rattle.wal.specs.Recovery.{chunkAt, pageOf, Recovered, recovered, walOf}
-use Rattle.wal.specs.Write.{emptyWal, createdHeader}
+use Rattle.wal.specs.Write.{emptyWal, createdHeader, withClock}
 use Rattle.wal.specs.declared.Wal.{Wal}
 use Rattle.wal.specs.declared.WalHeaderDecoded.{WalHeaderDecoded}
 use Rattle.wal.specs.declared.WalHeaderDecoded.the-variants as log
@@ -26,6 +26,7 @@ use Rattle.pager_state.specs.World.{world, pageLimit, countOf}
 use Rattle.pager_state.specs.Overlay.{frameOf, inLog, entry}
 use Rattle.pager_state.specs.Opening.{tabulate, placeFrom, hasPage, tableOf, emptyStaged, opensAs, firstHeader, createdPager, How, Found, keptOf, foundIn, foundFresh, foundBy, writes, mainHeader, judgedMain, isLong, judgedLog, judgedZero, headerBy, openingOf, openedStore, judged, openFine, openPager, openTable}
 use Rattle.pager_state.specs.Stores.{File, Disk, content}
+use Rattle.pager_state.specs.Queries.{clockOf}
 use Rattle.pager_state.specs.declared.Job.the-variants as job
 use Rattle.pager_state.specs.declared.Opening.{Opening}
 use Rattle.pager_state.specs.declared.Opening.the-variants as opening
@@ -102,7 +103,7 @@ created-made salt l m =
 
 -- the frames found lie inside the log found
 found-in : (clean : Bool) (l : List ℕ) → length (foundIn clean l .frames) ≤ (foundIn clean l .log .len - 32) / 4112
-unfolding foundIn
+unfolding foundIn withClock
 found-in clean l =
     omega (
       arith,
@@ -185,6 +186,15 @@ pub open-made : (how : How) (t : List ℕ) (d : Disk) (g : List ℕ) (p : Pager)
     → Made (world p (openTable how t d g) l m)
 unfolding openTable
 open-made how t d g p e l m = rw e (if-opened (OnFound how d l m) (openPager how t d g) p e (found-made how t d g l m))
+
+-- its clock is that of the log that was found
+abbrev Clocked : How → Disk → Pager → Type 0
+Clocked how d p = clockOf p ≡ foundBy how (d .log) .log .header .«clock_high_water»
+
+pub open-clock : (how : How) (t : List ℕ) (d : Disk) (g : List ℕ) (p : Pager) → openPager how t d g ≡ opened.Opened p
+    → clockOf p ≡ foundBy how (d .log) .log .header .«clock_high_water»
+unfolding opensAs
+open-clock how t d g p e = if-opened (Clocked how d) (openPager how t d g) p e (if-open (Clocked how d) how t d g (λ h mh. refl))
 
 -- nothing is under way in it
 abbrev Rests : Pager → Type 0

@@ -1,8 +1,8 @@
 -- Creation and opening: document 01's lines on `pager.rs` and "Added by design". What an opening knows is a function of the two files' bytes.
 use mathlib.Core.Bool.{Bool, true, false}
-use mathlib.Core.List.{List, [], _∷_}
+use mathlib.Core.List.{List, [], _∷_, map}
 use mathlib.Core.Option.{Option, none}
-use Prim.Native.Nat.{ℕ, zero, suc, _*_}
+use Prim.Native.Nat.{ℕ, zero, suc, _*_, max}
 use lib.Dec.{leb, ltb, eqb}
 use lib.ListN.{length, take, replicate}
 use Rattle.le.specs.Choice.{pick, both}
@@ -16,8 +16,9 @@ use Rattle.header.specs.declared.HeaderDecoded.{HeaderDecoded}
 use Rattle.header.specs.declared.HeaderDecoded.the-variants as main
 use Rattle.frame.specs.Frame.{bodyOf}
 use Rattle.wal.specs.Header.{headerSize, encodeWalHeader, decodeWalHeader}
-use Rattle.wal.specs.Recovery.{chunkAt, pageOf, pageIn, recovered, committedFrames, commitPoint, lastCommit, walOf}
-use Rattle.wal.specs.Write.{emptyWal, createdHeader}
+use Rattle.mvcc.specs.Seen.{commitTs}
+use Rattle.wal.specs.Recovery.{chunkAt, pageOf, pageIn, batchesIn, Recovered, recovered, committedFrames, commitPoint, lastCommit, walOf}
+use Rattle.wal.specs.Write.{emptyWal, createdHeader, withClock}
 use Rattle.wal.specs.declared.WalHeaderDecoded.{WalHeaderDecoded}
 use Rattle.wal.specs.declared.WalHeaderDecoded.the-variants as log
 use Rattle.wal.specs.declared.LastCommit.{LastCommit}
@@ -160,15 +161,31 @@ pub record Found : Type 0 where
   pub log : Wal
   pub last : LastCommit
 
--- "Plain opening .. keeps the tail"; "A clean opening .. cuts the log at the commit point; its frame count is the frames kept, its clock the log header's"
+-- "Plain opening .. keeps the tail"; "A clean opening .. cuts the log at the commit point; its frame count is the frames kept"
 unfoldable pub keptOf : Bool → List ℕ → List ℕ
 keptOf clean l = pick clean (take (commitPoint (recovered l)) l) l
+
+-- the commit times of the batches among some frames
+abbrev pub commitTimes : List (List ℕ) → List ℕ
+commitTimes fs = map (λ (f : List ℕ). commitTs (bodyOf f)) (batchesIn fs)
+
+-- "the greatest commit time"; 0 for none
+unfoldable pub greatest : List ℕ → ℕ
+greatest [] = 0
+greatest (t ∷ ts) = max t (greatest ts)
+
+-- document 02, P4: "A clean opening .. takes the larger of the log header's clock and the greatest commit time among the recovered batches.
+-- Plain openings keep the header's clock"
+unfoldable pub clockTaken : Bool → Recovered → ℕ
+clockTaken clean r =
+    let clock = r .header .«clock_high_water» in
+    pick clean (max clock (greatest (commitTimes (committedFrames r)))) clock
 
 unfoldable pub foundIn : Bool → List ℕ → Found
 foundIn clean l =
     let k = keptOf clean l in
     let r = recovered k in
-    record { frames = committedFrames r; log = walOf (length k) r; last = lastCommit r }
+    record { frames = committedFrames r; log = withClock (walOf (length k) r) (clockTaken clean r); last = lastCommit r }
 
 -- "absent means a fresh log, or read-only an empty one whose clock stays 0"
 unfoldable pub foundFresh : How → Found

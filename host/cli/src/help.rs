@@ -44,9 +44,10 @@ they are whole, so these names are not for other files.
 pub const INFO: &str = "\
 lateenbael info STORE [--wait SECONDS] [--json]
 
-Opens the store read-only and shows the header that counts, both files' lengths, the clock, and the log's header, frames and
-commit point; also how many frames can be added until a commit brings on a fold. As JSON, what is told of the log, this number too, is
-null where there is none.
+Opens the store read-only and shows the header that counts, both files' lengths, the log header's clock, and the log's header, frames
+and commit point; also how many frames can be added until a commit brings on a fold. As JSON, what is told of the log, this number too,
+is null where there is none. A sealed batch's time may be above that clock: commit, append and checkpoint then go by the time, unless
+--plain is given.
 ";
 
 pub const CHECK: &str = "\
@@ -117,7 +118,8 @@ Page 0 is the header's and is refused.
                  is refused, for it would read as nothing
   --root N       the new schema root page; --version N the new format version; --freelist N the new freelist head
   --clock N      raises the clock; a lower one is ignored. A clock is stored with a fold alone: where it would rise and no fold with
-                 something to write follows, the call is refused, for the clock would be lost
+                 something to write follows, the call is refused, for the clock would be lost. The clock before is the larger of the
+                 log header's and the greatest time among the sealed batches, with --plain the log header's
   --batch FILE   appends a file's batches before the commit, which seals them
   --plain        opens as the Rust does: an unsealed tail of the log stays, and this commit takes it in. Behind a tail that ends in
                  bytes that are no frame a commit is refused, for no later opening would find it
@@ -147,8 +149,8 @@ pub const CHECKPOINT: &str = "\
 lateenbael checkpoint STORE [--plain] [--clock N] [--wait SECONDS] [--json] [--cut-after-bytes N]
 
 Writes the log's pages to the main file and empties the log; its batches go with it, and the report tells how many. The options are
-those of commit. --clock N is stored with the fold. A log without frames is not folded: nothing is written, and --clock N is refused
-where the clock would rise.
+those of commit. The clock is stored with the fold: the log header's, --clock N or, without --plain, the greatest time among the sealed
+batches, whichever is larger. A log without frames is not folded: nothing is written, and --clock N is refused where the clock would rise.
 
 A page that check tells as nowhere is in the main file after a fold, as zeros or older bytes, and the next opening reads it so: look first.
 ";
@@ -168,7 +170,7 @@ Opens the store read-only and prints it as text that restore reads, or writes th
 
   lateenbael-dump 1
   header PAGECOUNT ROOT VERSION FREELIST
-  clock N
+  clock N                                the log header's, 0 without a log; batches may have greater times
   page N                                 its 4,096 bytes follow, 32 on a line as 64 hexadecimal digits
   zeros LINES                            so many lines of zeros
   page N nowhere                         a page below the page count that is nowhere: restore refuses it
@@ -183,7 +185,7 @@ begin with #. What no seal closes is not in it.
 pub const RESTORE: &str = "\
 lateenbael restore FILE NEW [--json]
 
-Makes the new store NEW of a text that dump has printed; FILE - is standard input. Header, clock, every page and every batch are then
-the same, byte for byte. NEW and NEW-wal must not be there yet. They are made as NEW-creating and NEW-wal-creating and renamed when they
-are whole, so these names are not for other files. A text that is cut off is refused; it has at most 64 MiB.
+Makes the new store NEW of a text that dump has printed; FILE - is standard input. Header, the log header's clock, every page and every
+batch are then the same, byte for byte. NEW and NEW-wal must not be there yet. They are made as NEW-creating and NEW-wal-creating and
+renamed when they are whole, so these names are not for other files. A text that is cut off is refused; it has at most 64 MiB.
 ";

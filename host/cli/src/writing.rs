@@ -88,20 +88,22 @@ impl Opening {
         })
     }
 
-    /// The store that lies on a disk, its clock raised.
-    fn open<D: Disk>(&self, disk: D) -> Result<Store<D>, Error> {
+    /// The store that lies on a disk, its clock raised; and the clock given if it rose to that, for a lower one is ignored.
+    fn open<D: Disk>(&self, disk: D) -> Result<(Store<D>, Option<u64>), Error> {
         let mut store = Store::open_on(disk, self.mode, salts_of_the_clock())?;
-        self.clock.map_or(Ok(()), |clock| store.observe_clock_high_water(clock))?;
-        Ok(store)
+        let opened = store.clock_high_water()?;
+        let risen = self.clock.filter(|clock| *clock > opened);
+        risen.map_or(Ok(()), |clock| store.observe_clock_high_water(clock))?;
+        Ok((store, risen))
     }
+}
 
-    /// Refuses a clock that the calls on a store have not brought to the log's header, for it would be lost.
-    fn check_clock<D: Disk>(&self, store: &Store<D>) -> Result<(), Failure> {
-        let stored = store.log()?.map_or(0, |log| log.header().clock_high_water);
-        match self.clock.filter(|clock| *clock > stored) {
-            Some(clock) => Err(clock_lost(clock)),
-            None => Ok(()),
-        }
+/// Refuses a clock to which a store's rose and that its calls have not brought to the log's header, for it would be lost.
+fn check_clock<D: Disk>(risen: Option<u64>, store: &Store<D>) -> Result<(), Failure> {
+    let stored = store.log()?.map_or(0, |log| log.header().clock_high_water);
+    match risen.filter(|clock| *clock > stored) {
+        Some(clock) => Err(clock_lost(clock)),
+        None => Ok(()),
     }
 }
 
@@ -121,14 +123,14 @@ trait Operation {
 /// Does the operation on a dry run, then on the files, under one lock.
 fn execute(path: &OsStr, opening: &Opening, operation: &impl Operation) -> Result<Answer, Failure> {
     let mut files = Files::existing(Path::new(path), false, opening.wait)?;
-    let mut tried = opening.open(DryRun::over(&mut files))?;
+    let (mut tried, risen) = opening.open(DryRun::over(&mut files))?;
     let dropped = operation.run(&mut tried)?.dropped;
     if dropped > 0 && !opening.may_drop {
         return Err(would_drop(path, dropped));
     }
-    opening.check_clock(&tried)?;
+    check_clock(risen, &tried)?;
     drop(tried);
-    let mut store = opening.open(PowerCut::new(files))?;
+    let (mut store, _) = opening.open(PowerCut::new(files))?;
     if let Some(bytes) = opening.power_cut {
         store.disk_mut().arm(bytes);
     }

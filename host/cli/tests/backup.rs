@@ -82,6 +82,21 @@ fn a_dump_restores_to_the_same_store() {
     assert!(snapshot(&dir, "piped") == snapshot(&dir, "grips"));
 }
 
+/// A batch's time is above it, and counts in a clean opening alone.
+#[test]
+fn a_dump_has_the_log_headers_clock() {
+    let dir = WorkDir::with_store();
+    dir.done("fold grips --clock 7");
+    dir.text("nine", "batch 9\n");
+    dir.done("append grips nine");
+    assert!(dumped(&dir, "grips").contains("\nclock 7\n"));
+    for store in ["grips", "restored"] {
+        let clock = |mode| Store::open(dir.path(store), mode).unwrap().clock_high_water().unwrap();
+        let modes = [Mode::ReadWrite, Mode::Plain, Mode::ReadOnly];
+        assert_eq!(modes.map(clock), [9, 7, 7], "{store}");
+    }
+}
+
 #[test]
 fn a_folded_store_has_no_page_0_in_its_dump() {
     let dir = WorkDir::with_store();

@@ -257,12 +257,14 @@ impl Engine {
         Ok(())
     }
 
-    /// Plain opening of two files. Where it is refused, nothing is open: the areas may have these bytes then.
+    /// Plain opening of two files: the clock is the log header's. Where it is refused, nothing is open: the areas may have these bytes
+    /// then.
     pub fn open_with_mode(&mut self, main: &[u8], log: Option<&[u8]>, read_only: bool, salt: u32) -> Result<(), Refusal> {
         self.open_files(false, main, log, read_only, salt)
     }
 
-    /// Clean opening of two files. Where it is refused, nothing is open: the areas may have these bytes then.
+    /// Clean opening of two files: the clock is the larger of the log header's and the greatest time among the recovered batches. Where
+    /// it is refused, nothing is open: the areas may have these bytes then.
     pub fn open_clean(&mut self, main: &[u8], log: Option<&[u8]>, read_only: bool, salt: u32) -> Result<(), Refusal> {
         self.open_files(true, main, log, read_only, salt)
     }
@@ -314,7 +316,7 @@ impl Engine {
         Ok(answer.number)
     }
 
-    /// Raises the clock; a lower value is ignored.
+    /// Raises the clock; a lower value is ignored, and a batch that is appended leaves it.
     pub fn observe_clock_high_water(&mut self, value: u64) -> Result<(), Refusal> {
         // SAFETY: numbers alone go over.
         let answered = unsafe { sys::lateenbael_observe_clock_high_water(self.store, value) };

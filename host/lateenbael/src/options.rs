@@ -6,7 +6,8 @@ use std::time::Duration;
 /// How a store is opened.
 #[derive(Clone, Copy, Debug, Default, PartialEq, Eq, Hash)]
 pub enum Mode {
-    /// For reading and writing; the log is cut at its commit point, so that nothing uncommitted is ever taken in.
+    /// For reading and writing; the log is cut at its commit point, so that nothing uncommitted is ever taken in. The clock is the larger
+    /// of the log header's and the greatest time among the batches that were found; in the other modes it is the log header's.
     #[default]
     ReadWrite,
     /// For reading and writing as the Rust does: uncommitted frames (document 01's tail) stay, and a later commit takes them in. Behind

@@ -31,7 +31,8 @@ pub type Page = Box<[u8; PAGE_SIZE]>;
 pub struct Snapshot {
     /// The header that counts.
     pub header: DbHeader,
-    /// The clock.
+    /// The clock: of a store that was opened read-only or plainly and not raised since, the log header's. A new store's log header
+    /// gets it.
     pub clock_high_water: u64,
     /// The pages from 0 to below the page count, as they read; none where a page is nowhere. Page 0 is in the log or nowhere.
     pub pages: Vec<Option<Page>>,
@@ -158,16 +159,20 @@ impl Snapshot {
     }
 
     /// Makes a new store that reads the same, page for page and batch for batch, and opens it for writing. Its main file has the pages;
-    /// its log has the batches, however many there are, and one commit frame.
+    /// its log has the batches, however many there are, and one commit frame. Its log header has the clock; the store that is given back
+    /// has a higher one where a batch's time is above it, as every [`Mode::ReadWrite`](crate::Mode::ReadWrite) has.
     pub fn create(&self, path: impl AsRef<Path>) -> Result<Store, SnapshotError> {
         let mut salts = salts_of_the_clock();
         let (main, log) = (self.main_file()?, self.log_file(salts())?);
         let mut engine = Engine::new();
-        let opened = engine.open_clean(&main, Some(&log), false, 0);
+        // Read-only, since a clean opening may raise the clock that the header has.
+        let opened = engine.open_with_mode(&main, Some(&log), true, 0);
         let made = opened.and_then(|()| Snapshot::of_engine(&engine));
-        if made.map_err(|refusal| SnapshotError::Header { refusal })? != *self {
+        let refused = |refusal| SnapshotError::Header { refusal };
+        if made.map_err(refused)? != *self {
             return Err(SnapshotError::Different);
         }
+        engine.open_clean(&main, Some(&log), false, 0).map_err(refused)?;
         let files = Files::fresh(path.as_ref(), DEFAULT_WAIT)?;
         Ok(Store::made_on(engine, files, salts)?)
     }

@@ -205,13 +205,15 @@ impl<D: Disk> Store<D> {
         Ok(self.engine.is_read_only()?)
     }
 
-    /// The clock.
+    /// The clock. A program that issues times goes on above it: after [`Mode::ReadWrite`] it is at or above the time of every batch that
+    /// the opening found.
     pub fn clock_high_water(&self) -> Result<u64, Error> {
         self.running()?;
         Ok(self.engine.clock_high_water()?)
     }
 
-    /// Raises the clock; a lower value is ignored. It reaches the log's header with the next checkpoint.
+    /// Raises the clock; a lower value is ignored. It reaches the log's header with the next checkpoint. A batch that is appended does
+    /// not raise it: without this call its time is forgotten when a checkpoint drops the batch.
     pub fn observe_clock_high_water(&mut self, value: u64) -> Result<(), Error> {
         self.running()?;
         Ok(self.engine.observe_clock_high_water(value)?)

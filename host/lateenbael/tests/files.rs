@@ -92,6 +92,53 @@ fn what_was_committed_is_there_after_every_opening() {
     assert_eq!(store.clock_high_water().unwrap(), 40);
 }
 
+/// The clock of each opening.
+fn clocks<const N: usize>(path: &Path, modes: [Mode; N]) -> [u64; N] {
+    modes.map(|mode| open(path, mode).clock_high_water().unwrap())
+}
+
+#[test]
+fn a_clean_opening_takes_the_greatest_committed_time() {
+    let folder = Folder::new();
+    let path = folder.store();
+    let mut store = Store::create(&path).unwrap();
+    for time in [5, 9, 4] {
+        store.append_mvcc_batch(batch(time).body()).unwrap();
+    }
+    commit_pages(&mut store, 1, &[1]);
+    store.append_mvcc_batch(batch(12).body()).unwrap();
+    assert_eq!(store.clock_high_water().unwrap(), 0);
+    drop(store);
+    assert_eq!(clocks(&path, [Mode::ReadOnly, Mode::Plain, Mode::ReadWrite]), [0, 0, 9]);
+    // The opening has cut the log and stored nothing else.
+    let cut = bytes_of(&path);
+    assert_eq!(clocks(&path, [Mode::ReadWrite, Mode::Plain, Mode::ReadOnly]), [9, 0, 0]);
+    assert_eq!(bytes_of(&path), cut);
+    let mut store = open(&path, Mode::ReadWrite);
+    assert_eq!(times(&store), [5, 9, 4]);
+    store.observe_clock_high_water(8).unwrap();
+    store.checkpoint().unwrap();
+    drop(store);
+    assert_eq!(clocks(&path, [Mode::ReadOnly, Mode::Plain, Mode::ReadWrite]), [9; 3]);
+}
+
+/// A time that was not observed is gone with its batch.
+#[test]
+fn an_appended_batch_leaves_the_clock() {
+    for (observed, clock) in [(None, 0), (Some(9), 9)] {
+        let folder = Folder::new();
+        let path = folder.store();
+        let mut store = Store::create(&path).unwrap();
+        store.append_mvcc_batch(batch(9).body()).unwrap();
+        observed.into_iter().for_each(|time| store.observe_clock_high_water(time).unwrap());
+        commit_pages(&mut store, 1, &[1]);
+        assert_eq!(store.clock_high_water().unwrap(), clock);
+        store.checkpoint().unwrap();
+        drop(store);
+        assert_eq!(clocks(&path, [Mode::ReadWrite, Mode::Plain]), [clock; 2]);
+    }
+}
+
 #[test]
 fn the_hundredth_frame_brings_a_checkpoint() {
     let folder = Folder::new();

@@ -3,24 +3,36 @@ mod common;
 
 use common::{Folder, batch, bytes_of, commit_pages, open, page, put_back, with_count};
 use lateenbael::sys::{DbHeader, LOG_AREA, MVCC_FRAME_MARKER, PAGE_SIZE, STAGED_PAGES};
-use lateenbael::{BatchBuilder, Error, Mode, Refusal, Snapshot, SnapshotError, Store, wal_path_for};
+use lateenbael::{Batch, BatchBuilder, Error, Mode, Refusal, Snapshot, SnapshotError, Store, wal_path_for};
 use std::fs;
 use std::path::Path;
 
 /// The snapshot of a store, after the store made of it was found to read the same, now and after another opening.
 fn carried_over(folder: &Folder, path: &Path) -> Snapshot {
     let snapshot = Snapshot::of(&open(path, Mode::ReadOnly)).unwrap();
+    let opened_cleanly = with_sealed_times(&snapshot);
     let other = folder.0.join("other");
     let restored = snapshot.create(&other).unwrap();
-    assert!(Snapshot::of(&restored).unwrap() == snapshot);
+    assert!(Snapshot::of(&restored).unwrap() == opened_cleanly);
     drop(restored);
-    for mode in [Mode::ReadOnly, Mode::Plain, Mode::ReadWrite] {
+    for mode in [Mode::ReadOnly, Mode::Plain] {
         assert!(Snapshot::of(&open(&other, mode)).unwrap() == snapshot);
     }
+    assert!(Snapshot::of(&open(&other, Mode::ReadWrite)).unwrap() == opened_cleanly);
     assert_eq!(open(&other, Mode::ReadOnly).log().unwrap().unwrap().file_len() % 4112, 32);
     fs::remove_file(wal_path_for(&other)).unwrap();
     fs::remove_file(&other).unwrap();
     snapshot
+}
+
+/// The same with the clock of a clean opening: a batch's time counts where it is above the log header's.
+fn with_sealed_times(snapshot: &Snapshot) -> Snapshot {
+    let times = snapshot.batches.iter().map(|body| Batch::decode(&body[..]).unwrap().commit_ts());
+    let clock_high_water = times.fold(snapshot.clock_high_water, u64::max);
+    Snapshot {
+        clock_high_water,
+        ..snapshot.clone()
+    }
 }
 
 /// A log of frames: page number, commit count, body.
@@ -111,8 +123,25 @@ fn as_many_batches_as_a_log_holds_are_carried_over() {
         let log = forged_log(&log, &frames);
         assert_eq!(log.len(), LOG_AREA);
         put_back(&path, &[main.clone(), Some(log)]);
-        assert_eq!(carried_over(&folder, &path).batches.len(), count);
+        let snapshot = carried_over(&folder, &path);
+        assert_eq!((snapshot.batches.len(), snapshot.clock_high_water), (count, 0));
     }
+}
+
+/// Of a store that was opened cleanly: the clock that it took goes to the new log's header.
+#[test]
+fn a_raised_clock_is_carried_over() {
+    let folder = Folder::new();
+    let path = folder.store();
+    let mut store = Store::create(&path).unwrap();
+    store.append_mvcc_batch(batch(9).body()).unwrap();
+    commit_pages(&mut store, 1, &[1]);
+    drop(store);
+    let snapshot = Snapshot::of(&open(&path, Mode::ReadWrite)).unwrap();
+    let other = folder.0.join("other");
+    assert!(Snapshot::of(&snapshot.create(&other).unwrap()).unwrap() == snapshot);
+    let clocks = [&path, &other].map(|path| open(path, Mode::ReadOnly).clock_high_water().unwrap());
+    assert_eq!((snapshot.clock_high_water, clocks), (9, [0, 9]));
 }
 
 #[test]

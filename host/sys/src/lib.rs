@@ -77,7 +77,7 @@ pub struct WalHeader {
     pub salt: u32,
     /// The log's sequence: one more each time that the log is emptied.
     pub checkpoint_seq: u32,
-    /// The clock; no call sets it lower.
+    /// The clock; no call sets it lower. In an open store it may be above the file's, until a checkpoint stores it.
     pub clock_high_water: u64,
 }
 
@@ -453,7 +453,7 @@ unsafe extern "C" {
     ) -> Answered;
     /// Plain opening of the files in the first `main_len` and `log_len` bytes of their areas: frames behind the commit point stay, and a
     /// later commit takes them in. `access_mode` 0 is read-write, any other read-only. `log_exists` 0: there is no log file; read-write
-    /// makes one, with the salt. Refusals 1 to 8.
+    /// makes one, with the salt. The clock is the log header's, and 0 without a log. Refusals 1 to 8.
     pub fn lateenbael_open_with_mode(
         table: *mut u32,
         table_entries: usize,
@@ -470,7 +470,8 @@ unsafe extern "C" {
         salt: u32,
     ) -> Answered;
     /// Clean opening, read-write only: the log is cut at the commit point, which becomes store.wal.len, so that nothing that no commit
-    /// frame follows is ever taken in. Arguments as of [`lateenbael_open_with_mode`]. Refusals 1 to 8 and 10.
+    /// frame follows is ever taken in. The clock is the larger of the log header's and the greatest commit time among the recovered
+    /// batches; it is in the store alone, until a checkpoint. Arguments as of [`lateenbael_open_with_mode`]. Refusals 1 to 8 and 10.
     pub fn lateenbael_open_clean(
         table: *mut u32,
         table_entries: usize,
@@ -492,7 +493,8 @@ unsafe extern "C" {
     pub fn lateenbael_access_mode(store: Store) -> NumberAnswer;
     /// The store's clock. Refusal 9.
     pub fn lateenbael_clock_high_water(store: Store) -> NumberAnswer;
-    /// Raises the clock; a lower value is ignored. It reaches the log's header with the next checkpoint. Refusal 9.
+    /// Raises the clock; a lower value is ignored. It reaches the log's header with the next checkpoint. A batch's time does not raise
+    /// it. Refusal 9.
     pub fn lateenbael_observe_clock_high_water(store: Store, value: u64) -> Answered;
     /// The refusal that [`lateenbael_find_page`] would answer, or 0, for hosts that read often: it stays until the next call that gives a
     /// store back. `page_count` is current_header.page_count, `job` is job.kind (any but 0 is refused with 9), `log_len` is wal.len,

@@ -1,4 +1,5 @@
-//! Openings of a store of 501 pages with a full log and with a small one.
+//! Openings of a store of 501 pages with a full log and with a small one, and
+//! with one full of batches, whose times a clean opening reads.
 
 use super::{Folder, assert_agreed, begin};
 use crate::files::{self, PAGES};
@@ -7,11 +8,14 @@ use crate::table::Table;
 use crate::timing::{clock, each};
 use crate::{port, rust};
 
+/// Whether the port opens cleanly, and how a row says it.
+const MODES: [(bool, &str); 2] = [(false, ""), (true, " (port: clean)")];
+
 pub fn rows(table: &Table) {
     let folder = Folder::new();
     for (frames, commit_each) in [(1_024, 8), (10, 5)] {
         let log = files::log(PAGES, frames, commit_each);
-        for (clean, mode) in [(false, ""), (true, " (port: clean)")] {
+        for (clean, mode) in MODES {
             let memory = (rust::InMemory::new(), port::InMemory::new(clean));
             let what = format!("log of {frames} frames, in memory{mode}");
             row(table, &what, memory, &log);
@@ -20,6 +24,12 @@ pub fn rows(table: &Table) {
             let what = format!("log of {frames} frames, files{mode}");
             row(table, &what, (rust, port), &log);
         }
+    }
+    let log = files::log_of_batches(1_024);
+    for (clean, mode) in MODES {
+        let memory = (rust::InMemory::new(), port::InMemory::new(clean));
+        let what = format!("log of 1,023 batches and a seal, in memory{mode}");
+        row(table, &what, memory, &log);
     }
 }
 

@@ -3,9 +3,10 @@
 use std::any::Any;
 use std::panic::{self, AssertUnwindSafe};
 
+use opening_clock::Reading;
 use splitmix::Random;
 
-use crate::call::Call;
+use crate::call::{Call, Opening};
 use crate::port::Port;
 use crate::run::{Outcome, PAGES, Runner};
 use crate::rust::Rust;
@@ -52,6 +53,9 @@ impl Look {
 pub struct Pair {
     pub port: Runner<Port>,
     pub rust: Runner<Rust>,
+    /// What the last opening found in the log about the clock; none if there
+    /// was no log.
+    pub clocks: Option<Reading>,
 }
 
 impl Default for Pair {
@@ -65,6 +69,7 @@ impl Pair {
         Self {
             port: Runner::new(Port::new()),
             rust: Runner::new(Rust::new()),
+            clocks: None,
         }
     }
 
@@ -77,12 +82,17 @@ impl Pair {
     /// is a difference too.
     pub fn call(&mut self, call: &Call, look: &Look) -> Result<Outcome, String> {
         let compared = AssertUnwindSafe(|| {
+            if matches!(call, Call::Open(_)) {
+                let read = |log: Option<&[u8]>| log.and_then(opening_clock::read);
+                self.clocks = self.port.side.look_at(Area::Log, read);
+            }
             let port = self.port.call(call);
             let rust = self.rust.call(call);
             if port != rust {
                 return Err(format!("port {port:?}\nRust {rust:?}"));
             }
-            self.same(look).map(|()| port)
+            self.same(look)?;
+            self.clock_as_read(call).map(|()| port)
         });
         panic::catch_unwind(compared).unwrap_or_else(|panic| Err(message(panic.as_ref())))
     }
@@ -111,6 +121,23 @@ impl Pair {
             unless_same("batches", &port.recovered(), &rust.recovered())?;
         }
         Ok(())
+    }
+
+    /// The clock behind an opening, which is also told by the bytes of the
+    /// log that it found; without a log it is 0.
+    fn clock_as_read(&self, call: &Call) -> Result<(), String> {
+        let (Call::Open(opening), true) = (call, self.port.side.is_open()) else {
+            return Ok(());
+        };
+        let read = self.clocks.as_ref().map_or(0, |clocks| match opening {
+            Opening::Clean => clocks.clean(),
+            Opening::ReadWrite | Opening::ReadOnly => clocks.plain(),
+        });
+        let clock = self.port.side.state().clock;
+        match clock == read {
+            true => Ok(()),
+            false => Err(format!("clock: both {clock}, by the log's bytes {read}")),
+        }
     }
 
     fn same_pages(&self, pages: impl Iterator<Item = u32>) -> Result<(), String> {

@@ -72,6 +72,9 @@ fn run_list(pair: &mut Pair, seed: u64, most: u64, tally: &mut Tally) -> Result<
         };
         let after = View::of(&pair.port.side);
         tally.add(&before, call, &outcome, &after);
+        if let (Call::Open(opening), Some(clocks), true) = (call, &pair.clocks, after.open) {
+            tally.clock(*opening, clocks);
+        }
         before = after;
     }
     Ok(())

@@ -4,6 +4,7 @@ use std::collections::BTreeMap;
 use std::fmt::{self, Display, Formatter};
 
 use items::Reading;
+use opening_clock::Reading as Clocks;
 
 use super::draw::Theme;
 use super::view::View;
@@ -22,6 +23,8 @@ pub struct Tally {
     /// since; a commit has taken them in.
     uncommitted: bool,
     committed_since: bool,
+    /// A batch's time has raised the clock at the last opening.
+    raised: bool,
 }
 
 impl Tally {
@@ -29,6 +32,7 @@ impl Tally {
         self.case(&format!("list, {}", theme.name()));
         self.uncommitted = false;
         self.committed_since = false;
+        self.raised = false;
     }
 
     pub fn end(&mut self, probe: &Probe) {
@@ -57,6 +61,7 @@ impl Tally {
 
     pub fn add(&mut self, before: &View, call: &Call, outcome: &Outcome, after: &View) {
         self.calls += 1;
+        self.raised_clock(call, outcome);
         let name = match call {
             Call::Open(opening) => format!("open {opening}"),
             call => call.name().to_string(),
@@ -118,6 +123,53 @@ impl Tally {
         self.uncommitted =
             opening == Opening::ReadWrite && has_uncommitted && log == after.good_end;
         self.committed_since = false;
+    }
+
+    /// By what an opening found in the log about the clock.
+    pub fn clock(&mut self, opening: Opening, clocks: &Clocks) {
+        let (header, taken) = (clocks.header, clocks.clean());
+        let Some(greatest) = clocks.recovered.iter().max() else {
+            return;
+        };
+        let above = *greatest > header;
+        if opening != Opening::Clean {
+            self.case_if(above, &format!("open {opening}, a time above the clock"));
+            return;
+        }
+        self.raised = above;
+        self.case_if(above, "open clean, clock raised");
+        self.case_if(
+            above && taken >= 1 << 63,
+            "open clean, clock raised to 2^63 or more",
+        );
+        self.case_if(
+            above && taken == u64::MAX,
+            "open clean, clock raised to 2^64 - 1",
+        );
+        self.case_if(above && header > 0, "open clean, clock raised from above 0");
+        self.case_if(*greatest < header, "open clean, clock above every time");
+        self.case_if(
+            *greatest == header,
+            "open clean, clock as the greatest time",
+        );
+        let left_out = clocks.unsealed.iter().any(|time| *time > taken);
+        self.case_if(left_out, "open clean, a time above the clock cut off");
+        let last = clocks.recovered.last();
+        self.case_if(
+            above && last < Some(greatest),
+            "open clean, clock raised, not by the last batch",
+        );
+    }
+
+    /// What becomes of a clock that an opening has raised: a fold's log header
+    /// stores it, and no other opening has it.
+    fn raised_clock(&mut self, call: &Call, outcome: &Outcome) {
+        let mut writes = outcome.writes.iter();
+        let header = writes.any(|write| write.area == Area::Log && write.length == 32);
+        let folds = matches!(call, Call::Commit(_) | Call::Checkpoint);
+        self.case_if(self.raised && header && folds, "fold stores a raised clock");
+        let ends = matches!(call, Call::Create | Call::Open(_) | Call::Drop);
+        self.raised &= !header && !ends;
     }
 
     fn committed(&mut self, before: &View, after: &View, outcome: &Outcome) {

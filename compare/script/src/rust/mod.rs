@@ -56,7 +56,8 @@ impl Rust {
 
     /// Plain opening is the Rust's. "A clean opening, read-write only, cuts
     /// the log at the commit point": it is judged by a read-only opening,
-    /// which writes nothing; then the log is cut and opened plainly.
+    /// which writes nothing; then the log is cut and opened plainly, and the
+    /// clock raised.
     fn open(&mut self, opening: Opening) -> Answer<usize> {
         let main = main_file();
         judge::before_opening(&main, length_of(Area::Log))?;
@@ -68,7 +69,10 @@ impl Rust {
             Opening::ReadOnly => AccessMode::ReadOnly,
             Opening::ReadWrite | Opening::Clean => AccessMode::ReadWrite,
         };
-        let pager = opened(mode, &main)?;
+        let mut pager = opened(mode, &main)?;
+        if opening == Opening::Clean {
+            observe_recovered(&mut pager).map_err(|error| judge::of_call(&error))?;
+        }
         let count = judge::main_header(&main).map_or(0, |header| header.page_count);
         self.model = Model::opened(log_pages(), &main, count);
         self.pager = Some(pager);
@@ -132,6 +136,18 @@ fn cut_at_commit_point(judged: &Pager) -> Result<()> {
         .open(&path(Area::Log));
     let cut = log.and_then(|log| log.set_len(point as u64).and_then(|()| log.sync_all()));
     cut.map_err(SQLRiteError::from)
+}
+
+/// Document 02, P4: "A clean opening therefore takes the larger of the log
+/// header's clock and the greatest commit time among the recovered batches."
+/// The batches are those that the Rust itself has recovered, and by its own
+/// call a time below its clock is ignored. Nothing is stored.
+fn observe_recovered(pager: &mut Pager) -> Result<()> {
+    let batches = pager.recovered_mvcc_commits().iter();
+    match batches.map(|batch| batch.commit_ts).max() {
+        Some(greatest) => pager.observe_clock_high_water(greatest),
+        None => Ok(()),
+    }
 }
 
 /// The log's pages as the pager gets them.

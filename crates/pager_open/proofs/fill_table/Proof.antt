@@ -12,7 +12,8 @@ use Rattle.header.specs.declared.DbHeader.{DbHeader}
 use Rattle.wal.specs.Recovery.{pageOf}
 use Rattle.pager_state.specs.Commit.{withEntry}
 use Rattle.pager_state.specs.Opening.{tableOf}
-use Rattle.pager_open.proofs.Table.{Entering, entering-starts, entering-long, entering-on, entering-ends}
+use Rattle.pager_open.proofs.Front.{front-starts, front-ends}
+use Rattle.pager_open.proofs.Table.{Entering, entering-long, entering-on}
 use Rattle.pager_open.proofs.fill_table.Statement.{statement}
 use Rattle.pager_open.proofs.fill_table.Tie as tie
 
@@ -30,7 +31,7 @@ clear-table-requires : tie.Need-clear-table-requires Inv-loop μ-loop
 clear-table-requires c κs = c .before .before .before .pre .0
 
 loop-holds : tie.Need-loop-holds Inv-loop μ-loop
-loop-holds c = λ h e. entering-starts h (now (c .before .before .before .before .before .before .args .file)) e
+loop-holds c = λ h e. front-starts (tableOf h) (now (c .before .before .before .before .before .before .args .file)) e
 
 enter-frame-requires : tie.Need-enter-frame-requires Inv-loop μ-loop
 enter-frame-requires c κs = omega (arith, inside (c .before .before), c .before .before .before .before .before .before .before .before .before .before .before .pre .1)
@@ -56,7 +57,7 @@ same-length c =
 returns : tie.Need-returns Inv-loop μ-loop
 returns c =
     let h : DbHeader = c .before .before .before .before .before .before .before .before .before .args .main-header in
-    entering-ends h (now (c .before .before .before .before .before .before .before .before .before .args .file)) (c .before .before .loop .table) (c .before .before .loop .at) (c .before .before .loop .inv h (c .before .before .before .before .before .clear-table .ensures)) (leb-false _ _ (sym (c .before .fits-in .ensures) ∙ c .if1 .left))
+    front-ends (tableOf h) (now (c .before .before .before .before .before .before .before .before .before .args .file)) (c .before .before .loop .table) (c .before .before .loop .at) (c .before .before .loop .inv h (c .before .before .before .before .before .clear-table .ensures)) (leb-false _ _ (sym (c .before .fits-in .ensures) ∙ c .if1 .left))
 
 pub fill-table-spec : {M : Type 1} → statement M
 fill-table-spec = tie.close (tie.spec Inv-loop μ-loop clear-table-requires loop-holds (search needs) (search needs) enter-frame-requires add-at loop-less loop-again same-length returns)

@@ -17,7 +17,7 @@ header-by-requires c κs = c .before .pre .0
 kept-requires : tie.Need-kept-requires
 kept-requires c κs =
     let d = c .before .before .before .before .before in
-    known-behind (now (d .args .file)) (d .args .wal) (d .pre .0)
+    (known-behind (now (d .args .file)) (d .args .wal) (d .pre .0), d .pre .2)
 
 returns : tie.Need-returns
 returns c =

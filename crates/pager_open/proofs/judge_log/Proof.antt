@@ -17,7 +17,7 @@ judge-found-requires : tie.Need-judge-found-requires
 judge-found-requires c κs =
     let d = c .before .before .before in
     let k = open-known (now (d .before .before .args .file)) _ (sym (d .«open» .ensures) ∙ c .before .wal .given .1) in
-    (k .known, k .long)
+    (k .known, k .long, d .before .before .pre)
 
 abbrev rest : tie.After-open → Opens
 rest c =

@@ -106,6 +106,29 @@ impl Draw {
         (0..count).map(|_| self.random.pick(&NAMES)).collect()
     }
 
+    /// A commit time: near the clock, small, of any size, or at a border.
+    pub(super) fn time(&mut self, clock: u64) -> u64 {
+        let near = clock.wrapping_add(self.random.below(3) as u64);
+        let near = near.wrapping_sub(1);
+        let any = self.random.u64() >> self.random.below(64);
+        match self.random.below(12) {
+            0..6 => near,
+            6..8 => self.random.below(12) as u64,
+            8..11 => any,
+            _ => self
+                .random
+                .pick(&[0, (1 << 63) - 1, 1 << 63, u64::MAX - 1, u64::MAX]),
+        }
+    }
+
+    /// A good batch whose time is drawn by the clock.
+    pub(super) fn timed_batch(&mut self, clock: u64) -> Call {
+        let mut body = at_random::bytes(&mut self.random, 3);
+        let time = self.time(clock);
+        body[8..16].copy_from_slice(&time.to_le_bytes());
+        Call::Batch(Spec::Inline(body))
+    }
+
     pub(super) fn batch(&mut self) -> Call {
         let body = Spec::Inline(self.body());
         match self.random.below(3) {

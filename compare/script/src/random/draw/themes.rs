@@ -55,6 +55,7 @@ impl Draw {
 
     pub(super) fn of_theme(&mut self, view: &View) -> Vec<Call> {
         match self.theme {
+            Theme::General if !self.random.one_in(3) => self.timed_batches(view),
             Theme::General => vec![self.batch()],
             Theme::Damage => self.damaged(view),
             Theme::Hundred => self.near_a_hundred(view),
@@ -62,6 +63,32 @@ impl Draw {
             Theme::Wide => self.wide(view),
             Theme::UncommittedFrames => self.uncommitted_frames(view),
         }
+    }
+
+    /// Batches with times of all sizes, most of them sealed, often behind a
+    /// fold that stores a clock; opened in any way; often a fold, and opened
+    /// again.
+    fn timed_batches(&mut self, view: &View) -> Vec<Call> {
+        let (mut clock, count) = (view.state.clock, view.header.page_count);
+        let mut calls = Vec::new();
+        if self.random.one_in(2) {
+            clock = clock.max(self.time(clock));
+            calls.extend([Call::Clock(clock), self.commit_to(count), Call::Checkpoint]);
+        }
+        for _ in 0..self.random.between(1, 3) {
+            calls.push(self.timed_batch(clock));
+        }
+        if !self.random.one_in(5) {
+            calls.push(self.commit_to(count));
+        }
+        if self.random.one_in(4) {
+            calls.push(self.timed_batch(clock));
+        }
+        calls.push(Call::Open(self.opening()));
+        if self.random.one_in(2) {
+            calls.extend([Call::Checkpoint, Call::Open(self.opening())]);
+        }
+        calls
     }
 
     fn damaged(&mut self, view: &View) -> Vec<Call> {

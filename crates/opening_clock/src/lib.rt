@@ -1,0 +1,1 @@
+// The clock that a clean opening takes, over histories: see specs/OpeningClock.antt.
