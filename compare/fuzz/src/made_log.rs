@@ -61,9 +61,7 @@ fn frame(random: &mut Random, salt: u32) -> Vec<u8> {
     let mut frame = [page, commit_count, salt, 0].map(u32::to_le_bytes).concat();
     frame.extend(body(random));
     frame.resize(FRAME_SIZE, 0);
-    let bytes = frame[..12].iter().chain(&frame[16..]);
-    let add = |sum: u32, byte: &u8| sum.rotate_left(1).wrapping_add((*byte).into());
-    let sum = bytes.fold(0, add);
+    let sum = opening_clock::checksum(&frame);
     frame[12..16].copy_from_slice(&sum.to_le_bytes());
     frame
 }

@@ -78,7 +78,7 @@ fn is_good(frame: &[u8], salt: u32) -> bool {
 
 /// "start at 0; for each of 12 heading bytes, then 4,096 body bytes, rotate
 /// the 32-bit sum left by 1 and add the byte, wrapping"
-fn checksum(frame: &[u8]) -> u32 {
+pub fn checksum(frame: &[u8]) -> u32 {
     let bytes = frame[..12].iter().chain(&frame[16..]);
     bytes.fold(0u32, |sum, byte| {
         sum.rotate_left(1).wrapping_add(u32::from(*byte))

@@ -13,6 +13,7 @@ use lib.Seq.{take-at, drop-at, drop-drop, drop-append-le}
 use Rattle.le.specs.Choice.{pick, both}
 use Rattle.page.specs.Page.{pageSize}
 use Rattle.frame.specs.Frame.{frameSize, bodyOf}
+use Rattle.mvcc.specs.Seen.{commitTs}
 use Rattle.wal.specs.Header.{headerSize}
 use Rattle.wal.specs.Recovery.{chunkAt, pageOf, batchPage, pageIn, batchesIn}
 use Rattle.wal.proofs.Frames.{batchesIn-append}
@@ -156,6 +157,12 @@ body-last l n i rest (laid.more {f} {fs} h w) e =
 
 abbrev pub batchesOf : List (List ℕ) → List Batch
 batchesOf fs = map (λ (f : List ℕ). batchIn (bodyOf f)) (batchesIn fs)
+
+-- the frames' times are those of the batches that they hold
+pub times-of : (fs : List (List ℕ)) → map (λ (f : List ℕ). commitTs (bodyOf f)) fs ≡ map (λ (b : Batch). b .time) (map (λ (f : List ℕ). batchIn (bodyOf f)) fs)
+unfolding batchIn
+times-of [] = refl
+times-of (f ∷ fs) = ap (λ (ts : List ℕ). commitTs (bodyOf f) ∷ ts) (times-of fs)
 
 pub batches-append : (fs gs : List (List ℕ)) → batchesOf (fs ++ gs) ≡ batchesOf fs ++ batchesOf gs
 batches-append fs gs = ap (map (λ (f : List ℕ). batchIn (bodyOf f))) (batchesIn-append fs gs) ∙ map-append _ (batchesIn fs) (batchesIn gs)

@@ -21,8 +21,15 @@ use Rattle.history.proofs.GuardHistories.{made-whole}
 use Rattle.history.proofs.GuardCheckpoint.{checkpoint-leaves}
 use Rattle.history.proofs.GuardModel.{world-after, staging-after}
 
-module _ (r : Run) (h : DbHeader) (salt n : ℕ) (made : Made (r .world)) (taken : commitRefusal (r .staging) (r .world) h ≡ none)
-    (writes : readOnly (r .world .pager) ≡ false) (some : 1 ≤ n) (ends : LongerBy (r .world) (commitWorld (r .staging) (r .world) h salt) n) where
+-- a commit that adds n frames and brings no checkpoint on
+pub record Commits (r : Run) (h : DbHeader) (salt n : ℕ) : Type 0 where
+  pub made : Made (r .world)
+  pub taken : commitRefusal (r .staging) (r .world) h ≡ none
+  pub writes : readOnly (r .world .pager) ≡ false
+  pub some : 1 ≤ n
+  pub ends : LongerBy (r .world) (commitWorld (r .staging) (r .world) h salt) n
+
+module _ {r : Run} {h : DbHeader} {salt n : ℕ} (k : Commits r h salt n) where
   abbrev committed : Run
   committed = whole (Commit h salt) r
 
@@ -31,21 +38,21 @@ module _ (r : Run) (h : DbHeader) (salt n : ℕ) (made : Made (r .world)) (taken
   committed-world = world-after (Commit h salt) r
 
   pub longer : LongerBy (r .world) (committed .world) n
-  longer = rw committed-world ends
+  longer = rw committed-world (k .ends)
 
   committed-fine : stepFine (committed .staging) (committed .world) ≡ true
   committed-fine =
-      rw (committed-world, staging-after (Commit h salt) r) (commit-done (r .staging) (r .world) h salt taken (made .slots) .ready .right)
+      rw (committed-world, staging-after (Commit h salt) r) (commit-done (r .staging) (r .world) h salt (k .taken) (k .made .slots) .ready .right)
 
   committed-made : Made (committed .world)
-  committed-made = made-whole (Commit h salt) r made
+  committed-made = made-whole (Commit h salt) r (k .made)
 
   committed-writes : readOnly (committed .world .pager) ≡ false
-  committed-writes = ap readOnlyBy (longer .opening) ∙ writes
+  committed-writes = ap readOnlyBy (longer .opening) ∙ k .writes
 
   some-frames : nothingToCheckpoint (committed .world) ≡ false
   unfolding nothingToCheckpoint
-  some-frames = rw (ne-eqb (committed .world .pager .wal .«frame_count») 0 (λ e. omega (arith, e, longer .frames)))
+  some-frames = rw (ne-eqb (committed .world .pager .wal .«frame_count») 0 (λ e. omega (arith, e, longer .frames, k .some)))
 
   checkpoint-none : checkpointRefusal (committed .staging) (committed .world) ≡ none
   unfolding checkpointRefusal

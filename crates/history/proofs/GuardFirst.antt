@@ -18,21 +18,20 @@ use Rattle.pager_state.specs.World.{World, stagingArea, stagedLimit, countOf, h
 use Rattle.pager_state.specs.Overlay.{pageFrom, slotOf, inLog, onMain, below, placePage, readRefusal, findPage}
 use Rattle.pager_state.specs.Staging.{stageRefusal, withSlot, stagedAfter, stagingBytes}
 use Rattle.pager_state.specs.Opening.{createFine}
-use Rattle.pager_state.specs.Steps.{differing, commitRefusal, beginCheckpoint, todo, stepFine, onStore, commitWorld}
+use Rattle.pager_state.specs.Steps.{differing, commitRefusal, stepFine, commitWorld}
 use Rattle.pager_state.specs.declared.Staged.{Staged}
 use Rattle.pager_state.specs.declared.Job.the-variants as job
 use Rattle.pager_state.specs.declared.PageFound.the-variants as found
 use Rattle.pager_state.proofs.Made.{Made}
-use Rattle.pager_state.proofs.Done.{Rests}
 use Rattle.history.specs.Calls.{Stage, Commit, Checkpoint, Words, refusedBy, worldAfter}
 use Rattle.history.specs.Run.{Run, whole, start}
 use Rattle.history.specs.Demand3.{readingAt, Demand3}
-use Rattle.history.specs.Guards.{GoodHeader, withSlots, LongerBy, CheckpointedTo, Accepted, reading, committedPage, ReadsBack, Keeps}
+use Rattle.history.specs.Guards.{GoodHeader, withSlots, LongerBy, Accepted, reading, committedPage, ReadsBack, Keeps}
 use Rattle.history.proofs.GuardNew.{fine-create, few-differ, none-staged, new-begun, new-made, new-idle, new-count, new-none, new-frames, new-writes}
 use Rattle.history.proofs.GuardHistories.{made-whole}
 use Rattle.history.proofs.GuardCommit.{commit-ends}
 use Rattle.history.proofs.GuardModel.{world-after, staging-after}
-use Rattle.history.proofs.GuardBehind.{longer, checkpoint-starts, checkpoint-taken, checkpoint-ends, checkpoint-to}
+use Rattle.history.proofs.GuardBehind.{Commits, longer, checkpoint-starts, checkpoint-taken, checkpoint-ends, checkpoint-to}
 use Rattle.history.proofs.GuardReached.{reached-none}
 use Rattle.history.proofs.GuardPages.{some-same, none-some, reads-back}
 
@@ -127,27 +126,25 @@ module _ (t l m g : List ℕ) (salt : ℕ) (f : createFine t l m g ≡ true) (by
         let e = commit-ends (staged .staging) (staged .world) h next (staged-made .slots) (omega (arith, staged-frames)) first-begun in
         e .below (omega (arith, staged-frames, few-differ (staged .staging) (staged .world) (staged-made .slots)))
 
-    -- ---- and a checkpoint
-
     abbrev frames : ℕ
     frames = differing (staged .staging) (staged .world) + 1
+
+    commits : Commits staged h next frames
+    commits = record { made = staged-made; taken = first-begun; writes = staged-writes; some = omega arith; ends = first-longer }
+
+    -- ---- and a checkpoint
 
     module _ (last : ℕ) where
       abbrev checkpointed : Run
       checkpointed = whole (Checkpoint last) committed
 
-      ends : Rests (λ (n : ℕ). false) (committed .staging) (todo (committed .staging) (onStore (committed .world) (beginCheckpoint (committed .staging) (committed .world) last .pager))) (committed .world) (checkpointed .world)
-      ends = checkpoint-ends staged h next frames staged-made first-begun staged-writes (omega arith) first-longer last
-
-      to : CheckpointedTo (committed .world) (checkpointed .world)
-      to = checkpoint-to staged h next frames staged-made first-begun staged-writes (omega arith) first-longer last
-
       -- no page is staged or in the log: it is read from the main file
       in-main : reading checkpointed 1 ≡ some bytes → pageFrom pageSize (checkpointed .world .main) ≡ bytes
       in-main e =
+          let ends = checkpoint-ends commits last in
+          let to = checkpoint-to commits last in
           let fine : stepFine (checkpointed .staging) (checkpointed .world) ≡ true = rw (staging-after (Checkpoint last) committed) (ends .ready .right) in
-          let l : LongerBy (staged .world) (committed .world) frames = longer staged h next frames staged-made first-begun staged-writes (omega arith) first-longer in
-          let unstaged : checkpointed .world .pager .staged .count ≡ 0 = rw (to .staged) (l .unstaged) in
+          let unstaged : checkpointed .world .pager .staged .count ≡ 0 = rw (to .staged) (longer commits .unstaged) in
           read-main (checkpointed .world) (checkpointed .staging) 1 fine (ends .idle) unstaged (to .empty .none 1) bytes e
 
     pub keeps : Demand3 → salt < 2 ^ 32 → Bytes bytes → Words h → next < 2 ^ 32 → Keeps new bytes h next
@@ -158,7 +155,7 @@ module _ (t l m g : List ℕ) (salt : ℕ) (f : createFine t l m g ≡ true) (by
           staged = stage-taken;
           committed = first-taken;
           reads = back;
-          begins = checkpoint-starts staged h next frames staged-made first-begun staged-writes (omega arith) first-longer;
+          begins = checkpoint-starts commits;
           checkpointed = λ last z. in-main last
-              (back .checkpointed last z (checkpoint-taken staged h next frames staged-made first-begun staged-writes (omega arith) first-longer last));
+              (back .checkpointed last z (checkpoint-taken commits last));
         }

@@ -8,22 +8,23 @@ use Rattle.le.specs.Choice.{pick}
 use Rattle.le.proofs.Compare.{both-true}
 use Rattle.frame.specs.Frame.{intact, bodyOf}
 use Rattle.mvcc.specs.Batch.{Each}
-use Rattle.mvcc.specs.Seen.{decodes, commitTs}
+use Rattle.mvcc.specs.Seen.{decodes}
 use Rattle.wal.specs.Header.{walHeaderIn}
 use Rattle.wal.specs.Recovery.{isBatch, readable, good, goodFront, batchesIn, Recovered, recovered}
 use Rattle.wal.specs.declared.WalHeader.{WalHeader}
 use Rattle.pager_state.specs.World.{World}
 use Rattle.pager_state.specs.Stores.{Disk, content, diskOf}
-use Rattle.pager_state.specs.Opening.{opensAs, commitTimes, greatest, createFine}
-use Rattle.pager_state.specs.Queries.{clockOf}
+use Rattle.pager_state.specs.Opening.{opensAs, greatest, createFine}
+use Rattle.pager_state.specs.Queries.{clockOf, logClock}
 use Rattle.pager_state.specs.declared.AccessMode.{AccessMode}
 use Rattle.pager_state.specs.declared.AccessMode.the-variants as mode
 use Rattle.pager_state.specs.declared.Job.the-variants as job
-use Rattle.history.specs.Model.{Model}
+use Rattle.history.specs.Model.{Batch, Model, batchIn}
 use Rattle.history.specs.Calls.{Lent, Call, Open, openedWorld, worldAfter}
 use Rattle.history.specs.Run.{Run, whole, cutCall, Attempt, reopened, Event, Cut, next, start}
 use Rattle.history.specs.Demand3.{Sized, TypedEvent, AllTyped}
 use Rattle.history.specs.Guards.{after, Accepted}
+use Rattle.history.proofs.Frames.{batchesOf}
 use Rattle.history.proofs.Disk.{DiskOk, recovered-is}
 use Rattle.history.proofs.Rest.{Held, Some, inv-held}
 use Rattle.history.proofs.Opening.{Areas, sized-areas, open-len, open-clock, cut-on}
@@ -62,15 +63,11 @@ module _ (salt : ℕ) where
 
 -- ---- what an open store gives
 
--- the clock in the log's header
-abbrev pub headerClock : World → ℕ
-headerClock w = walHeaderIn (content (diskOf w .log)) .«clock_high_water»
-
 pub record Found (w : World) : Type 1 where
   pub rests : w .pager .job ≡ job.Idle
   pub batches : List (List ℕ)
   pub decode : Each Decoding batches
-  pub clock : clockOf (w .pager) ≡ max (headerClock w) (greatest (map (λ (f : List ℕ). commitTs (bodyOf f)) batches))
+  pub clock : clockOf (w .pager) ≡ max (logClock (diskOf w)) (greatest (map (λ (b : Batch). b .time) (map (λ (f : List ℕ). batchIn (bodyOf f)) batches)))
   pub told : {A : Type 0} (tell : List ℕ → A) (by : ℕ → ℕ → List A) → Walk tell w by → by 1025 0 ≡ map (λ (f : List ℕ). tell (bodyOf f)) batches
 
 module _ {d : Disk} {b : Model} {z : List ℕ} (k : DiskOk d b z) (lent : Lent) (a : Areas lent d) (w : World) where
@@ -81,7 +78,7 @@ module _ {d : Disk} {b : Model} {z : List ℕ} (k : DiskOk d b z) (lent : Lent) 
       let o = on k lent a w in
       rw (world-is k lent a w, open-len o) (ap (λ (r : Recovered). r .header) (recovered-is (cut-on o)))
 
-  opened-clock : clockOf (openedWorld mode.ReadWrite lent d w .pager) ≡ max (k .l .«clock_high_water») (greatest (commitTimes (k .S)))
+  opened-clock : clockOf (openedWorld mode.ReadWrite lent d w .pager) ≡ max (k .l .«clock_high_water») (greatest (map (λ (x : Batch). x .time) (batchesOf (k .S))))
   unfolding opensAs
   opened-clock = ap (λ (v : World). clockOf (v .pager)) (world-is k lent a w) ∙ open-clock (on k lent a w)
 
@@ -92,7 +89,7 @@ module _ {d : Disk} {b : Model} {z : List ℕ} (k : DiskOk d b z) (lent : Lent) 
         rests = rw (world-is k lent a w);
         batches = batchesIn (k .S);
         decode = decoding (k .l .salt) (k .S) (k .P) (k .on .log .good);
-        clock = opened-clock ∙ ap (λ (h : WalHeader). max (h .«clock_high_water») (greatest (commitTimes (k .S)))) (sym opened-header);
+        clock = opened-clock ∙ ap (λ (h : WalHeader). max (h .«clock_high_water») (greatest (map (λ (x : Batch). x .time) (batchesOf (k .S))))) (sym opened-header);
         told = λ tell by walk. opened-told k lent a w tell by walk;
       }
 
@@ -118,17 +115,17 @@ module _ (t l m g : List ℕ) (salt : ℕ) (f : createFine t l m g ≡ true) (sm
     found-in = rw (world-after (Open mode.ReadWrite lent) r) (found files lent a (r .world))
 
     -- the log's header is as it was, and has no later clock than the store had
-    older-in : headerClock (whole (Open mode.ReadWrite lent) r .world) ≤ clockOf (r .world .pager)
+    older-in : logClock (diskOf (whole (Open mode.ReadWrite lent) r .world)) ≤ clockOf (r .world .pager)
     unfolding worldAfter
     older-in =
-        let e = ap (λ (w : World). headerClock w) (world-after (Open mode.ReadWrite lent) r)
+        let e = ap (λ (w : World). logClock (diskOf w)) (world-after (Open mode.ReadWrite lent) r)
         ∙ ap (λ (h : WalHeader). h .«clock_high_water») (opened-header files lent a (r .world)) in
         omega (arith, e, held .it .older)
 
   pub opening-found : (lent : Lent) → Sized lent → Found (whole (Open mode.ReadWrite lent) r .world)
   opening-found lent s = found-in lent (sized-areas (held .it .on) lent s)
 
-  pub opening-older : (lent : Lent) → Sized lent → headerClock (whole (Open mode.ReadWrite lent) r .world) ≤ clockOf (r .world .pager)
+  pub opening-older : (lent : Lent) → Sized lent → logClock (diskOf (whole (Open mode.ReadWrite lent) r .world)) ≤ clockOf (r .world .pager)
   opening-older lent s = older-in lent (sized-areas (held .it .on) lent s)
 
   -- an opening that is not refused

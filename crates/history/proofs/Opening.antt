@@ -15,9 +15,7 @@ use Rattle.le.specs.Le.{field}
 use Rattle.le.proofs.Fields.{drop-take, field-part}
 use Rattle.le.proofs.Compare.{both-true}
 use Rattle.page.specs.Page.{pageSize}
-use Rattle.frame.specs.Frame.{bodyOf}
 use Rattle.mvcc.specs.Batch.{Each}
-use Rattle.mvcc.specs.Seen.{commitTs}
 use Rattle.header.specs.Header.{decodeHeader, headerIn}
 use Rattle.header.specs.declared.DbHeader.{DbHeader}
 use Rattle.header.specs.declared.HeaderDecoded.the-variants as main
@@ -35,7 +33,7 @@ use Rattle.wal.proofs.Laid.{joined}
 use Rattle.wal.proofs.Opening.{length-cut}
 use Rattle.pager_state.specs.World.{world, mainArea, stagingArea, pageLimit, countOf, inArea, lengthsFine}
 use Rattle.pager_state.specs.Overlay.{pageFrom, entry, isStaged, slotOf}
-use Rattle.pager_state.specs.Opening.{tabulate, placeFrom, hasPage, tableOf, emptyStaged, opensAs, keptOf, commitTimes, greatest, clockTaken, foundIn, foundBy, mainHeader, headerBy, openedStore, judged, openFine, openPager, openRefusal, openStores, openTable, openLogArea}
+use Rattle.pager_state.specs.Opening.{tabulate, placeFrom, hasPage, tableOf, emptyStaged, opensAs, keptOf, greatest, clockTaken, foundIn, foundBy, mainHeader, headerBy, openedStore, judged, openFine, openPager, openRefusal, openStores, openTable, openLogArea}
 use Rattle.pager_state.specs.Stores.{File, Disk, content, SetLen, Other, lenFile, lenCut, cutAll, wholeOf, storedAll}
 use Rattle.pager_state.specs.declared.AccessMode.{AccessMode}
 use Rattle.pager_state.specs.declared.AccessMode.the-variants as mode
@@ -43,12 +41,12 @@ use Rattle.pager_state.specs.declared.FileKind.the-variants as file
 use Rattle.pager_state.specs.declared.Opening.the-variants as opening
 use Rattle.pager_state.specs.declared.Pager.{Pager}
 use Rattle.pager_state.specs.Opened as opened
-use Rattle.history.specs.Model.{Batch, Model, batchIn, modelOpen, modelStores}
+use Rattle.history.specs.Model.{Batch, Model, modelOpen, modelStores}
 use Rattle.history.specs.Calls.{Lent, cleanly, fileReadInto, readInto}
 use Rattle.history.specs.Run.{kinds, keptAfter}
 use Rattle.history.specs.Demand3.{Sized}
 use Rattle.history.proofs.Files.{lasting, grown-none, len-file, length-content}
-use Rattle.history.proofs.Frames.{batchesOf}
+use Rattle.history.proofs.Frames.{batchesOf, times-of}
 use Rattle.history.proofs.Slots.{Slots}
 use Rattle.history.proofs.Disk.{mainPage, viewOf, headerOver, Timed, LogIs, ModelIs, OnDisk, DiskOk, short-stop, none-committed, whole-left, log-inside, log-len, committed-len, front-is, recovered-is, committed-is}
 use Rattle.history.proofs.Rest.{Resting}
@@ -150,18 +148,11 @@ each-left P (x ∷ xs) ys h = (h .0, each-left P xs ys (h .1))
 open-timed : (b : Model) → Timed (b .committed ++ b .waiting) → Timed (modelOpen b .committed ++ modelOpen b .waiting)
 open-timed b h = rw (append-nil (b .committed)) (each-left (λ (x : Batch). x .time < 2 ^ 64) (b .committed) (b .waiting) h)
 
--- the greatest of some that are below a number
-greatest-below : (n : ℕ) (ts : List ℕ) → 1 ≤ n → Each (λ (t : ℕ). t < n) ts → greatest ts < n
+-- so the greatest has 64 bits
+greatest-timed : (bs : List Batch) → Timed bs → greatest (map (λ (b : Batch). b .time) bs) < 2 ^ 64
 unfolding greatest Each
-greatest-below n [] k h = k
-greatest-below n (t ∷ ts) k h = omega (arith, h .0, greatest-below n ts k (h .1))
-
--- the frames' times are those of the batches that they hold
-times-below : (fs : List (List ℕ)) → Timed (map (λ (f : List ℕ). batchIn (bodyOf f)) fs)
-    → Each (λ (t : ℕ). t < 2 ^ 64) (map (λ (f : List ℕ). commitTs (bodyOf f)) fs)
-unfolding Each batchIn
-times-below [] h = tt
-times-below (f ∷ fs) h = (h .0, times-below fs (h .1))
+greatest-timed [] h = omega arith
+greatest-timed (b ∷ bs) h = omega (arith, h .0, greatest-timed bs (h .1))
 
 -- ---- the areas lent
 
@@ -248,7 +239,7 @@ module _ {x : Disk} {b : Model} {l : WalHeader} {S P : List (List ℕ)} {t : Lis
 
   -- the log as it is then open
   abbrev pub openLog : Wal
-  openLog = withClock (walOf (length keptLog) (recovered keptLog)) (clockTaken true (recovered keptLog))
+  openLog = withClock (walOf (length keptLog) (recovered keptLog)) (clockTaken true (recovered (content (x .log))))
 
   -- the store as it is then open
   abbrev pub openStore : Pager
@@ -264,24 +255,22 @@ module _ {x : Disk} {b : Model} {l : WalHeader} {S P : List (List ℕ)} {t : Lis
   unfolding walOf withClock
   open-len = length-cut (content (x .log)) long-enough ∙ point-is
 
-  header-kept : recovered keptLog .header ≡ l
-  header-kept = ap (λ (r : Recovered). r .header) (recovered-cut (content (x .log)) ∙ ap (λ (r : Recovered). record { header = r .header; frames = committedFrames (recovered (content (x .log))); stopped = false }) (recovered-is o))
+  salt-kept : recovered keptLog .header .salt ≡ l .salt
+  salt-kept = ap (λ (r : Recovered). r .header .salt) (recovered-cut (content (x .log)) ∙ ap (λ (r : Recovered). record { header = r .header; frames = committedFrames (recovered (content (x .log))); stopped = false }) (recovered-is o))
 
   pub open-salt : openLog .header .salt ≡ l .salt
   unfolding walOf withClock
-  open-salt = ap (λ (h : WalHeader). h .salt) header-kept
+  open-salt = salt-kept
 
   -- "the larger of the log header's clock and the greatest commit time among the recovered batches"
-  pub open-clock : openLog .header .«clock_high_water» ≡ max (l .«clock_high_water») (greatest (commitTimes S))
+  pub open-clock : openLog .header .«clock_high_water» ≡ max (l .«clock_high_water») (greatest (map (λ (b : Batch). b .time) (batchesOf S)))
   unfolding walOf withClock clockTaken
-  open-clock = rw (header-kept, cut-committed (content (x .log)), committed-is o)
+  open-clock = rw (committed-is o, recovered-is o, times-of (batchesIn S))
 
   pub open-below : openLog .header .«clock_high_water» < 2 ^ 64
   open-below =
-      let committed = each-left (λ (x : Batch). x .time < 2 ^ 64) (b .committed) (b .waiting) (o .model .times) in
-      let times : Timed (batchesOf S) = rw (o .model .batches) committed in
-      let late = greatest-below (2 ^ 64) (commitTimes S) (omega arith) (times-below (batchesIn S) times) in
-      rw open-clock (omega (arith, o .log .written .clock, late))
+      let late = greatest-timed (b .committed) (each-left (λ (x : Batch). x .time < 2 ^ 64) (b .committed) (b .waiting) (o .model .times)) in
+      rw (open-clock, o .model .batches) (omega (arith, o .log .written .clock, late))
 
   main-is : mainHeader (x .main) ≡ main.Header mh
   unfolding mainHeader

@@ -503,7 +503,7 @@ impl MvccCommitBatch {
         if le::read_u64(body, 0) != MVCC_BODY_MAGIC {
             return refused_batch(Refusal::Magic, 0);
         }
-        let commit_ts = le::read_u64(body, 8);
+        let commit_ts = commit_ts(body);
         let records = le::read_u16(body, 16) as usize;
         let mut end: usize = BATCH_HEADING_SIZE;
         let mut left = records;

@@ -1,52 +1,35 @@
 -- A batch in a new store, committed: the clock that a clean opening takes, and what is left of it behind a checkpoint. Assumes nothing.
 use mathlib.Core.Path.{_≡_, refl, sym, ap, _∙_}
-use mathlib.Core.Bool.{true, false}
-use mathlib.Core.List.{List, [], _∷_, map}
-use mathlib.Core.Option.{none}
+use mathlib.Core.Bool.{true}
+use mathlib.Core.List.{List, [], map}
 use Prim.Native.Nat.{ℕ, max, _^_, _≤_, _<_}
 use native.Mathlib.Omega.{arith}
 use lib.IntN.{pos}
-use Rattle.frame.specs.Frame.{bodyOf}
-use Rattle.mvcc.specs.Seen.{commitTs}
 use Rattle.wal.specs.Write.{emptyWal, createdHeader, longer}
 use Rattle.wal.specs.declared.WalHeader.{WalHeader}
-use Rattle.pager_state.specs.World.{World, readOnly}
 use Rattle.pager_state.specs.Opening.{createFine, firstHeader, opensAs, createdPager, greatest}
-use Rattle.pager_state.specs.Queries.{clockOf}
-use Rattle.pager_state.specs.Steps.{commitRefusal, commitWorld}
+use Rattle.pager_state.specs.Stores.{diskOf}
+use Rattle.pager_state.specs.Queries.{clockOf, logClock}
 use Rattle.pager_state.specs.declared.AccessMode.the-variants as mode
 use Rattle.pager_state.proofs.Made.{Made}
 use Rattle.history.specs.Model.{Batch, batchIn}
 use Rattle.history.specs.Calls.{Lent, Open, Append, Commit, Checkpoint}
-use Rattle.history.specs.Run.{Run, whole, Event, Whole, next, start}
-use Rattle.history.specs.Demand3.{walked, Sized, AllTyped}
-use Rattle.history.specs.Guards.{Body, LongerBy, Recovers, after, Accepted}
+use Rattle.history.specs.Run.{Run, whole, start}
+use Rattle.history.specs.Demand3.{walked, Sized}
+use Rattle.history.specs.Guards.{Body, Recovers}
 use Rattle.history.proofs.Demand3Holds.{demand3}
 use Rattle.history.proofs.Reopening.{walked-walk}
 use Rattle.history.proofs.GuardNew.{new-made}
 use Rattle.history.proofs.GuardHistories.{made-whole}
-use Rattle.history.proofs.GuardBehind as behind
+use Rattle.history.proofs.GuardBehind.{Commits, longer as committed-longer, checkpoint-begins, checkpoint-taken, checkpoint-to}
 use Rattle.history.proofs.GuardModel.{open-model, checkpoint-empty}
 use Rattle.history.proofs.GuardReached.{Reached, reached-none, reached-whole, opening-taken, opening-returns}
-use Rattle.history.proofs.GuardFound.{Found, headerClock, opening-found, opening-older}
+use Rattle.history.proofs.GuardFound.{Found, opening-found, opening-older}
 use Rattle.history.proofs.GuardBatches.{Good, Ready, append-world, append-ready, ready-begun, ready-longer, new-ready, recovers}
 use Rattle.history.proofs.GuardBody as sample
 use Rattle.history.proofs.Guards.{met}
 use Rattle.opening_clock.specs.OpeningClock.{Tells, bodyAt, committedAt, Falls}
 use Rattle.opening_clock.proofs.Found.{at-rest-tells}
-
--- the frames' times are those of the batches that they hold
-times-of : (fs : List (List ℕ)) → map (λ (f : List ℕ). commitTs (bodyOf f)) fs ≡ map (λ (b : Batch). b .time) (map (λ (f : List ℕ). batchIn (bodyOf f)) fs)
-unfolding batchIn
-times-of [] = refl
-times-of (f ∷ fs) = ap (λ (ts : List ℕ). commitTs (bodyOf f) ∷ ts) (times-of fs)
-
--- what is told of a store that returned these batches, where the log's header had clock 0
-clock-of : (w : World) → Found w → headerClock w ≤ 0 → {bs : List Batch} → walked 1025 w 0 ≡ bs → Tells (w .pager) (greatest (map (λ (b : Batch). b .time) bs))
-clock-of w f h {bs} e =
-    let told : map (λ (x : List ℕ). batchIn (bodyOf x)) (f .batches) ≡ bs = sym (f .told batchIn (λ k i. walked k w i) (walked-walk w)) ∙ e in
-    let times : map (λ (x : List ℕ). commitTs (bodyOf x)) (f .batches) ≡ map (λ (b : Batch). b .time) bs = times-of (f .batches) ∙ ap (map (λ (b : Batch). b .time)) told in
-    at-rest-tells (w .pager) (f .rests) (f .clock ∙ rw times (omega (arith, h)))
 
 module _ (t l m g : List ℕ) (first : ℕ) (f : createFine t l m g ≡ true) (small : first < 2 ^ 32) (time salt : ℕ) (early : time < 2 ^ 64) (fits : salt < 2 ^ 32) where
   abbrev new : Run
@@ -88,86 +71,62 @@ module _ (t l m g : List ℕ) (first : ℕ) (f : createFine t l m g ≡ true) (s
   abbrev committed : Run
   committed = committedAt time salt new
 
-  commit-none : commitRefusal (appended .staging) (appended .world) firstHeader ≡ none
-  commit-none = ready-begun firstHeader 1 appended appended-ready body good (omega arith)
-
-  ends : LongerBy (appended .world) (commitWorld (appended .staging) (appended .world) firstHeader salt) 1
-  ends = ready-longer firstHeader 1 appended appended-ready body good appended-made (omega arith) salt (omega arith)
-
-  writes : readOnly (appended .world .pager) ≡ false
-  writes = appended-ready .unrefused .writes
+  commits : Commits appended firstHeader salt 1
+  commits =
+      record {
+        made = appended-made;
+        taken = ready-begun firstHeader 1 appended appended-ready body good (omega arith);
+        writes = appended-ready .unrefused .writes;
+        some = omega arith;
+        ends = ready-longer firstHeader 1 appended appended-ready body good appended-made (omega arith) salt (omega arith);
+      }
 
   committed-clock : clockOf (committed .world .pager) ≡ 0
   committed-clock =
       ap (λ (h : WalHeader). h .«clock_high_water»)
-      (behind.longer appended firstHeader salt 1 appended-made commit-none writes (omega arith) ends .header ∙ appended-header)
+      (committed-longer commits .header ∙ appended-header)
       ∙ new-clock
 
-  -- in a history of its own
-  reached : Reached new committed
-  reached = reached-whole (reached-whole (reached-none new) (Append body) (there .bytes)) (Commit firstHeader salt) (met .words, fits)
+  -- ---- opened, in a history of its own
+
+  -- where the clock is 0 an opening takes the greatest of the committed times
+  tells : {r : Run} → Reached new r → clockOf (r .world .pager) ≡ 0 → {bs : List Batch} → r .model .committed ≡ bs → (lent : Lent) → Sized lent
+      → Tells (whole (Open mode.ReadWrite lent) r .world .pager) (greatest (map (λ (b : Batch). b .time) bs))
+  tells {r} k zero {bs} e lent z =
+      let w = whole (Open mode.ReadWrite lent) r .world in
+      let found : Found w = rw (k .is) at (opening-found t l m g first f small (k .events) (k .typed) lent z) in
+      let older : logClock (diskOf w) ≤ clockOf (r .world .pager) = rw (k .is) at (opening-older t l m g first f small (k .events) (k .typed) lent z) in
+      let returned : walked 1025 w 0 ≡ bs =
+      opening-returns demand3 t l m g first f small k lent z ∙ rw (open-model lent r (opening-taken demand3 t l m g first f small k lent z)) e in
+      let batches = sym (found .told batchIn (λ n i. walked n w i) (walked-walk w)) ∙ returned in
+      at-rest-tells (w .pager) (found .rests) (found .clock ∙ rw batches (omega (arith, older, zero)))
 
   here : Recovers new body firstHeader salt
   here = recovers t l m g first f firstHeader (met .good) (omega (arith, met .two)) demand3 small body good salt (met .words) fits
 
-  abbrev events : List Event
-  events = Whole (Append body) ∷ Whole (Commit firstHeader salt) ∷ []
-
-  typed : AllTyped events
-  typed = (there .bytes, ((met .words, fits), tt))
-
-  events-are : after events new ≡ committed
-  unfolding after next
-  events-are = refl
+  reached : Reached new committed
+  reached = reached-whole (reached-whole (reached-none new) (Append body) (there .bytes)) (Commit firstHeader salt) (met .words, fits)
 
   raised : (lent : Lent) → Sized lent → Tells (whole (Open mode.ReadWrite lent) committed .world .pager) time
   unfolding greatest
   raised lent z =
-      let w = whole (Open mode.ReadWrite lent) committed .world in
-      let found : Found w = rw events-are at (opening-found t l m g first f small events typed lent z) in
-      let older : headerClock w ≤ clockOf (committed .world .pager) = rw events-are at (opening-older t l m g first f small events typed lent z) in
-      let low : headerClock w ≤ 0 = omega (arith, older, committed-clock) in
       let alone : max time 0 ≡ time = omega arith in
-      rw (there .says, alone) at (clock-of w found low (here .opened lent z))
+      rw (there .says, alone) at (tells reached committed-clock (here .batches) lent z)
 
   -- ---- behind a checkpoint
 
   abbrev checkpointed : Run
   checkpointed = whole (Checkpoint salt) committed
 
-  checkpoint-taken : Accepted (Checkpoint salt) committed
-  checkpoint-taken = behind.checkpoint-taken appended firstHeader salt 1 appended-made commit-none writes (omega arith) ends salt
-
   checkpointed-clock : clockOf (checkpointed .world .pager) ≡ 0
-  checkpointed-clock = behind.checkpoint-to appended firstHeader salt 1 appended-made commit-none writes (omega arith) ends salt .clock ∙ committed-clock
+  checkpointed-clock = checkpoint-to commits salt .clock ∙ committed-clock
 
   none-left : checkpointed .model .committed ≡ []
-  none-left = checkpoint-empty salt committed checkpoint-taken (behind.checkpoint-begins appended firstHeader salt 1 appended-made commit-none writes (omega arith) ends)
-
-  reached-behind : Reached new checkpointed
-  reached-behind = reached-whole reached (Checkpoint salt) fits
-
-  abbrev all-events : List Event
-  all-events = Whole (Append body) ∷ Whole (Commit firstHeader salt) ∷ Whole (Checkpoint salt) ∷ []
-
-  all-typed : AllTyped all-events
-  all-typed = (there .bytes, ((met .words, fits), (fits, tt)))
-
-  all-are : after all-events new ≡ checkpointed
-  unfolding after next
-  all-are = refl
+  none-left = checkpoint-empty salt committed (checkpoint-taken commits salt) (checkpoint-begins commits)
 
   fallen : (lent : Lent) → Sized lent → Tells (whole (Open mode.ReadWrite lent) checkpointed .world .pager) 0
   unfolding greatest
-  fallen lent z =
-      let w = whole (Open mode.ReadWrite lent) checkpointed .world in
-      let found : Found w = rw all-are at (opening-found t l m g first f small all-events all-typed lent z) in
-      let older : headerClock w ≤ clockOf (checkpointed .world .pager) = rw all-are at (opening-older t l m g first f small all-events all-typed lent z) in
-      let low : headerClock w ≤ 0 = omega (arith, older, checkpointed-clock) in
-      let none : walked 1025 w 0 ≡ [] =
-      opening-returns demand3 t l m g first f small reached-behind lent z
-      ∙ rw (open-model lent checkpointed (opening-taken demand3 t l m g first f small reached-behind lent z)) none-left in
-      clock-of w found low none
+  fallen lent z = tells (reached-whole reached (Checkpoint salt) fits) checkpointed-clock none-left lent z
 
   pub falls : Falls new time salt
-  falls = record { appended = here .appended; committed = here .committed; checkpointed = checkpoint-taken; raised = raised; fallen = fallen }
+  falls = record { appended = here .appended; committed = here .committed; checkpointed = checkpoint-taken commits salt; raised = raised; fallen = fallen }

@@ -7,12 +7,11 @@ use mathlib.Core.List.{List, [], _∷_}
 use Prim.Native.Nat.{ℕ, max, _^_, _≤_, _<_}
 use lib.IntN.{pos}
 use Rattle.mvcc.specs.Batch.{tombstone, encodeBody, Each}
-use Rattle.wal.specs.Header.{walHeaderIn}
 use Rattle.wal.specs.Recovery.{recovered, committedFrames}
 use Rattle.pager_state.specs.Stores.{Disk, content, diskOf}
 use Rattle.pager_state.specs.Opening.{How, commitTimes, greatest, firstHeader, openPager}
 use Rattle.pager_state.specs.Opened.{Opened}
-use Rattle.pager_state.specs.Queries.{clockHighWater}
+use Rattle.pager_state.specs.Queries.{logClock, clockHighWater}
 use Rattle.pager_state.specs.declared.AccessMode.{AccessMode}
 use Rattle.pager_state.specs.declared.AccessMode.the-variants as mode
 use Rattle.pager_state.specs.declared.ClockRead.the-variants as clock
@@ -25,16 +24,12 @@ use Rattle.history.specs.Guards.{AtFirst, Always, Accepted, committedBatch}
 
 -- ---- any files
 
--- the clock in the log's header
-abbrev pub logClock : Disk → ℕ
-logClock d = walHeaderIn (content (d .log)) .«clock_high_water»
-
 -- the clock that a store tells
 abbrev pub Tells : Pager → ℕ → Type 0
 Tells p c = clockHighWater p ≡ clock.Clock c
 
--- the store that an opening of these files gave
-pub record Opening (how : How) (d : Disk) (p : Pager) : Type 0 where
+-- of the store that an opening of these files gave
+pub record ByOpening (how : How) (d : Disk) (p : Pager) : Type 0 where
   -- "A clean opening .. takes the larger of the log header's clock and the greatest commit time among the recovered batches"
   pub clean : how .exists ≡ true → how .clean ≡ true → Tells p (max (logClock d) (greatest (commitTimes (committedFrames (recovered (content (d .log)))))))
   -- "Plain openings keep the header's clock"
@@ -46,10 +41,10 @@ pub record Opening (how : How) (d : Disk) (p : Pager) : Type 0 where
 
 -- the clock is at least the log header's, and at least every commit time of the batches that the store returns
 pub record NoOlder (r : Run) : Type 0 where
-  pub time : ℕ
-  pub told : Tells (r .world .pager) time
-  pub header : logClock (diskOf (r .world)) ≤ time
-  pub batches : Each (λ (b : Batch). b .time ≤ time) (walked 1025 (r .world) 0)
+  pub clock : ℕ
+  pub told : Tells (r .world .pager) clock
+  pub header : logClock (diskOf (r .world)) ≤ clock
+  pub batches : Each (λ (b : Batch). b .time ≤ clock) (walked 1025 (r .world) 0)
 
 -- a batch of that time: the deletion of a row
 abbrev pub bodyAt : ℕ → List ℕ
@@ -70,11 +65,11 @@ pub record Falls (r : Run) (time salt : ℕ) : Type 0 where
 
 pub record OpeningClock : Type 0 where
   -- any files and areas, whatever they hold
-  pub openings : (how : How) (t : List ℕ) (d : Disk) (g : List ℕ) (p : Pager) → openPager how t d g ≡ Opened p → Opening how d p
+  pub openings : (how : How) (t : List ℕ) (d : Disk) (g : List ℕ) (p : Pager) → openPager how t d g ≡ Opened p → ByOpening how d p
   -- in any history, cuts and refused calls included: a clean opening that is not refused ..
   pub opened : Always (λ (r : Run). (m : AccessMode) (lent : Lent) → Accepted (Open m lent) r → NoOlder (whole (Open m lent) r))
   -- .. and the one behind a cut and other openings that were cut, of any call, after any stored byte
   pub reopened : Always (λ (r : Run).
       (c : Call) (j k : ℕ) (attempts : List Attempt) (lent : Lent) → TypedEvent (Cut c j k attempts lent) → NoOlder (next (Cut c j k attempts lent) r))
-  -- what is not promised: batch of time 9, commit, checkpoint, opening: 0
+  -- what is not promised, of every time: batch of time 9, commit, checkpoint, opening: 0
   pub falls : AtFirst (λ (r : Run). (time salt : ℕ) → time < 2 ^ 64 → salt < 2 ^ 32 → Falls r time salt)

@@ -14,12 +14,12 @@ use Rattle.header.specs.Header.{decodeHeader}
 use Rattle.header.specs.declared.DbHeader.{DbHeader}
 use Rattle.header.specs.declared.HeaderDecoded.the-variants as main
 use Rattle.wal.specs.Header.{walHeaderIn}
-use Rattle.wal.specs.Recovery.{chunks, chunkAt, pageOf, pageIn, Recovered, recovered, committedFrames, commitPoint, lastCommit, lastCount, walOf}
+use Rattle.wal.specs.Recovery.{chunks, chunkAt, pageOf, pageIn, recovered, committedFrames, commitPoint, lastCommit, lastCount, walOf}
 use Rattle.wal.specs.Write.{emptyWal, withClock}
 use Rattle.wal.specs.declared.Wal.{Wal}
 use Rattle.wal.proofs.Places.{length-chunks, chunk-gone, take-chunk}
 use Rattle.wal.proofs.Frames.{pageIn-snoc, committed-most}
-use Rattle.wal.proofs.Recovered.{frames-most, committed-chunks, commit-within, committed-committed, recovered-cut, cut-committed}
+use Rattle.wal.proofs.Recovered.{frames-most, committed-chunks, commit-within, committed-committed, cut-committed}
 use Rattle.wal.proofs.Opening.{known-header, known-commit, known-last, cut-known, length-cut}
 use Rattle.pager_state.specs.Stores.{File, content}
 use Rattle.pager_state.specs.Opening.{placeFrom, How, keptOf, clockTaken, foundIn, foundFresh, foundBy, recounted, headerBy}
@@ -71,9 +71,6 @@ header-there : (l : List ℕ) → recovered l .header ≡ walHeaderIn l
 unfolding recovered
 header-there l = refl
 
-cut-header : (l : List ℕ) → recovered (take (commitPoint (recovered l)) l) .header ≡ recovered l .header
-cut-header l = ap (λ (r : Recovered). r .header) (recovered-cut l)
-
 -- "its frame count is the frames kept"
 cut-wal : (l : List ℕ) (v : Wal) → 32 ≤ length l → v ≡ walOf (length l) (recovered l) → keptWal true l v ≡ foundIn true l .log
 unfolding foundIn keptOf committedWal clockTaken withClock
@@ -82,8 +79,6 @@ cut-wal l v h k =
     rw (
       length-cut l h,
       cut-known l,
-      cut-committed l,
-      cut-header l,
       known-commit l v k,
       known-last l v k,
       n,

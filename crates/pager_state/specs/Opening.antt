@@ -15,8 +15,8 @@ use Rattle.header.specs.declared.DbHeader.{DbHeader}
 use Rattle.header.specs.declared.HeaderDecoded.{HeaderDecoded}
 use Rattle.header.specs.declared.HeaderDecoded.the-variants as main
 use Rattle.frame.specs.Frame.{bodyOf}
-use Rattle.wal.specs.Header.{headerSize, encodeWalHeader, decodeWalHeader}
 use Rattle.mvcc.specs.Seen.{commitTs}
+use Rattle.wal.specs.Header.{headerSize, encodeWalHeader, decodeWalHeader}
 use Rattle.wal.specs.Recovery.{chunkAt, pageOf, pageIn, batchesIn, Recovered, recovered, committedFrames, commitPoint, lastCommit, walOf}
 use Rattle.wal.specs.Write.{emptyWal, createdHeader, withClock}
 use Rattle.wal.specs.declared.WalHeaderDecoded.{WalHeaderDecoded}
@@ -185,7 +185,7 @@ unfoldable pub foundIn : Bool → List ℕ → Found
 foundIn clean l =
     let k = keptOf clean l in
     let r = recovered k in
-    record { frames = committedFrames r; log = withClock (walOf (length k) r) (clockTaken clean r); last = lastCommit r }
+    record { frames = committedFrames r; log = withClock (walOf (length k) r) (clockTaken clean (recovered l)); last = lastCommit r }
 
 -- "absent means a fresh log, or read-only an empty one whose clock stays 0"
 unfoldable pub foundFresh : How → Found

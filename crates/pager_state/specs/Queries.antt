@@ -3,9 +3,11 @@ use Prim.Native.Nat.{ℕ}
 use lib.Dec.{leb}
 use Rattle.le.specs.Choice.{pick}
 use Rattle.refusal.specs.Refusal.{accepts, answered}
+use Rattle.wal.specs.Header.{walHeaderIn}
 use Rattle.wal.specs.Write.{withClock}
 use Rattle.wal.specs.declared.Wal.{Wal}
 use Rattle.pager_state.specs.World.{headerOf, busyRefusal, withWal}
+use Rattle.pager_state.specs.Stores.{Disk, content}
 use Rattle.pager_state.specs.declared.AccessMode.{AccessMode}
 use Rattle.pager_state.specs.declared.AccessMode.the-variants as mode
 use Rattle.pager_state.specs.declared.Opening.{Opening}
@@ -40,6 +42,10 @@ accessMode p = answered moded.Refused (moded.Mode (modeBy (p .opening))) (busyRe
 
 abbrev pub clockOf : Pager → ℕ
 clockOf p = p .wal .header .«clock_high_water»
+
+-- the one that the log's header has, to which "a raised clock" comes "only at a fold"
+abbrev pub logClock : Disk → ℕ
+logClock d = walHeaderIn (content (d .log)) .«clock_high_water»
 
 unfoldable pub clockHighWater : Pager → ClockRead
 clockHighWater p = answered clock.Refused (clock.Clock (clockOf p)) (busyRefusal p)

@@ -7,7 +7,8 @@ use Rattle.mvcc.specs.Answer.{many}
 use Rattle.mvcc.specs.Fields.{rowAnswer, payloadAnswer, itemsIn}
 use Rattle.mvcc.specs.Decode.{recordAt, batchMagic}
 use Rattle.mvcc.specs.Items.{manyItems, recordItems}
-use Rattle.le.specs.Le.{leOf}
+use Rattle.mvcc.specs.Seen.{commitTs}
+use Rattle.le.specs.Le.{leOf, wholeField}
 use Rattle.mvcc.proofs.Laws.{ends, told, passed, many-on, many-off, many-done}
 use Rattle.mvcc.proofs.Items.{items-on, items-off, items-done, items-least, items-fit}
 use Rattle.mvcc.proofs.Parts.{row-bad, row-none, payload-bad, payload-good, payload-items, reported, report-short, report-alien, report-good, report-bad}
@@ -63,7 +64,7 @@ few c =
     )
 
 returns-3 : tie.Need-returns-3 Inv-loop μ-loop
-unfolding batchMagic leOf
+unfolding batchMagic leOf wholeField commitTs
 returns-3 c =
     let t = c .before .before .before .before .before in
     let l = t .before .loop in
@@ -72,7 +73,7 @@ returns-3 c =
     let s = h .before .before .args .body .now in
     let r = passed rowAnswer (c .before .before .before .before .row-at .ensures) (c .before .before .enum-told .given .1) (c .before .why-row .ensures) refl in
     reported s (c .refused-batch3 .ensures
-    ∙ report-bad s (h .if1 .left) (sym (n .before .before .before .read-u64 .ensures) ∙ n .before .before .if2 .left) (n .before .read-u642 .ensures) (n .read-u16 .ensures)
+    ∙ report-bad s (h .if1 .left) (sym (n .before .before .before .read-u64 .ensures) ∙ n .before .before .if2 .left) (n .before .commit-ts .ensures) (n .read-u16 .ensures)
     (many-off (recordAt s) (l .left) (l .end) (t .loop-test .taken) (row-bad s (l .end) r) (l .inv .0))
     (omega (arith, row-none s (l .end) r, items-off (recordAt s) (recordItems s) (l .items) (l .left) (l .end) (t .loop-test .taken) (row-bad s (l .end) r) (l .inv .1))))
 
@@ -83,7 +84,7 @@ add-items : tie.Need-add-items Inv-loop μ-loop
 add-items c = omega (arith, few (c .before), c .items-in .ensures)
 
 returns-4 : tie.Need-returns-4 Inv-loop μ-loop
-unfolding batchMagic leOf
+unfolding batchMagic leOf wholeField commitTs
 returns-4 c =
     let i = c .before .before .before .before in
     let k = i .before .before in
@@ -95,7 +96,7 @@ returns-4 c =
     let e = payload-bad s (l .end) (told rowAnswer (k .before .before .before .row-at .ensures) (k .before .r .given .1))
     (passed payloadAnswer (i .before .payload-at .ensures .0) (c .before .before .enum-told2 .given .1) (c .before .why-payload .ensures) refl) in
     reported s (c .refused-batch4 .ensures
-    ∙ report-bad s (h .if1 .left) (sym (n .before .before .before .read-u64 .ensures) ∙ n .before .before .if2 .left) (n .before .read-u642 .ensures) (n .read-u16 .ensures)
+    ∙ report-bad s (h .if1 .left) (sym (n .before .before .before .read-u64 .ensures) ∙ n .before .before .if2 .left) (n .before .commit-ts .ensures) (n .read-u16 .ensures)
     (many-off (recordAt s) (l .left) (l .end) (t .loop-test .taken) e (l .inv .0))
     (rw (counted (i .before), ← (i .items-in .ensures)) at (items-off (recordAt s) (recordItems s) (l .items) (l .left) (l .end) (t .loop-test .taken) e (l .inv .1))))
 
@@ -112,14 +113,14 @@ loop-again c =
     )
 
 returns-5 : tie.Need-returns-5 Inv-loop μ-loop
-unfolding batchMagic leOf
+unfolding batchMagic leOf wholeField commitTs
 returns-5 c =
     let l = c .before .loop in
     let n = c .before .before in
     let h = n .before .before .before .before in
     let s = h .before .before .args .body .now in
     reported s
-    (report-good s (h .if1 .left) (sym (n .before .before .before .read-u64 .ensures) ∙ n .before .before .if2 .left) (n .before .read-u642 .ensures) (n .read-u16 .ensures)
+    (report-good s (h .if1 .left) (sym (n .before .before .before .read-u64 .ensures) ∙ n .before .before .if2 .left) (n .before .commit-ts .ensures) (n .read-u16 .ensures)
     (many-done (recordAt s) (l .left) (l .end) (c .loop-test .left) (l .inv .0))
     (items-done (recordAt s) (recordItems s) (l .items) (l .left) (l .end) (c .loop-test .left) (l .inv .1)))
 
