@@ -1,1 +1,2 @@
 // The numbers of characters that batches carry, over histories: see specs/BatchChars.antt.
+#![tactic(auto)]

@@ -1,1 +1,2 @@
 // How many items batches have, over histories: see specs/BatchItems.antt.
+#![tactic(auto)]

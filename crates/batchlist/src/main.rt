@@ -2,6 +2,7 @@
 // A body of more than 4,096 bytes is refused (1).
 // With the word `replay` it replays the list of batch bodies that stands there, and answers as the Rust does (compare/README.md).
 // A case: the body's length (2 bytes) and the bytes at its front; the rest of the body is zeros.
+#![tactic(auto)]
 mod print;
 
 use input::Input;

@@ -1,4 +1,6 @@
 // What the benchmark of the checksum links: the sum in blocks and the serial one, over plain bytes and over a whole frame.
+#![tactic(auto)]
+
 ghost use Rattle.std.specs.Prelude.{◌≡◌};
 ghost use Rattle.checksum.specs.Checksum.{sum_from};
 ghost use Rattle.frame.specs.Frame.{frame_at, checksum_of};

@@ -18,7 +18,7 @@ use refusal::Refusal;
 
 // A batch: its records start at 18, and decoding ended at `end`. How many items were read is told of a refused body too.
 #[repr(C)]
-#[derive(Drop)]
+#[derive(Clone, Copy)]
 pub struct BatchNumbers {
     pub refusal: u32,
     pub commit_ts: u64,
@@ -29,7 +29,7 @@ pub struct BatchNumbers {
 
 // A record: the next cursor, its row, and its columns if it is present, the first at the cursor `first`.
 #[repr(C)]
-#[derive(Drop)]
+#[derive(Clone, Copy)]
 pub struct RecordNumbers {
     pub refusal: u32,
     // 0 a tombstone, 1 present.
@@ -43,7 +43,7 @@ pub struct RecordNumbers {
 
 // A value by document 01's tag: 0 null, 1 integer, 2 real, 3 text, 4 bool, 5 vector.
 #[repr(C)]
-#[derive(Drop)]
+#[derive(Clone, Copy)]
 pub struct ValueNumbers {
     pub tag: u32,
     // 1 where it is true.
@@ -56,7 +56,7 @@ pub struct ValueNumbers {
 }
 
 #[repr(C)]
-#[derive(Drop)]
+#[derive(Clone, Copy)]
 pub struct ValueAnswer {
     pub refusal: u32,
     pub next: usize,
@@ -64,7 +64,7 @@ pub struct ValueAnswer {
 }
 
 #[repr(C)]
-#[derive(Drop)]
+#[derive(Clone, Copy)]
 pub struct ColumnNumbers {
     pub refusal: u32,
     pub next: usize,
@@ -73,7 +73,7 @@ pub struct ColumnNumbers {
 }
 
 #[repr(C)]
-#[derive(Drop)]
+#[derive(Clone, Copy)]
 pub struct ElementNumbers {
     // 1: the vector has that element.
     pub found: u32,
@@ -299,7 +299,7 @@ pub extern "C" fn lateenbael_mvcc_canonicalize(body: &[u8], out: &mut [u8]) -> u
 
 // A batch being built, in numbers.
 #[repr(C)]
-#[derive(Drop)]
+#[derive(Clone, Copy)]
 pub struct Building {
     // Document 01's number; 0 is none. Beside another the rest is 0, and the caller goes on with what he had.
     pub refusal: u32,

@@ -27,14 +27,14 @@ use wal_batch::BatchAppended;
 
 // What a call answers that gives an open log: where it is refused, the log's numbers are 0.
 #[repr(C)]
-#[derive(Drop)]
+#[derive(Clone, Copy)]
 pub struct WalAnswer {
     pub refusal: u32,
     pub wal: WalNumbers,
 }
 
 #[repr(C)]
-#[derive(Drop)]
+#[derive(Clone, Copy)]
 pub struct WalHeaderAnswer {
     pub refusal: u32,
     pub header: WalHeader,
@@ -42,7 +42,7 @@ pub struct WalHeaderAnswer {
 
 // What stands at an index of the log: its frame's first byte and heading.
 #[repr(C)]
-#[derive(Drop)]
+#[derive(Clone, Copy)]
 pub struct FrameAnswer {
     pub found: u32,
     pub offset: usize,
@@ -51,7 +51,7 @@ pub struct FrameAnswer {
 
 // How many bytes a listing has.
 #[repr(C)]
-#[derive(Drop)]
+#[derive(Clone, Copy)]
 pub struct ListAnswer {
     pub refusal: u32,
     pub len: usize,

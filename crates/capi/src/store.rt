@@ -258,7 +258,7 @@ fn staged_number(answer: StageAnswer) -> u32
 
 // What staging in place gives: a refusal or 0, and how many pages are staged.
 #[repr(C)]
-#[derive(Drop)]
+#[derive(Clone, Copy)]
 pub struct StagedCount {
     pub refusal: u32,
     pub count: usize,

@@ -8,7 +8,7 @@ use text::Utf8;
 
 // Whether bytes are a text, and its number of Unicode scalar values.
 #[repr(C)]
-#[derive(Drop)]
+#[derive(Clone, Copy)]
 pub struct TextAnswer {
     pub refusal: u32,
     pub chars: usize,

@@ -1,4 +1,5 @@
 // The answers of the store's calls in numbers: document 01's refusal or 0, what the call gives, and the store after it.
+#![tactic(auto)]
 ghost use Rattle.std.specs.Prelude.{◌≡◌};
 ghost use Rattle.capi_answers.specs.Answers.{flag_in, flag_of, reply, refused_as, mode_in, created_as, opened_as, header_as, number_reply, mode_of, mode_as, clock_as, observed_as, page, found_as, place, recovered_as, staged_as, cleared_as, appended_as, commit_begun_as, checkpoint_begun_as, committed_as, written_as, preview_reply, preview_refused, previewed_as, file_number, step_stored, no_step, stepped_as};
 
@@ -19,7 +20,7 @@ use wal::WAL_AREA;
 // What a call answers that may change the store. Where it is refused, the store that was given; creation and openings are given none, and
 // tell one without pages that writes nothing.
 #[repr(C)]
-#[derive(Drop)]
+#[derive(Clone, Copy)]
 pub struct Answered {
     pub refusal: u32,
     // 1 where a commit or checkpoint has begun, and its stores are still to be done by next steps.
@@ -31,14 +32,14 @@ pub struct Answered {
 
 // The answers of queries.
 #[repr(C)]
-#[derive(Drop)]
+#[derive(Clone, Copy)]
 pub struct HeaderAnswer {
     pub refusal: u32,
     pub header: DbHeader,
 }
 
 #[repr(C)]
-#[derive(Drop)]
+#[derive(Clone, Copy)]
 pub struct NumberAnswer {
     pub refusal: u32,
     pub number: u64,
@@ -46,7 +47,7 @@ pub struct NumberAnswer {
 
 // Where bytes stand: area 0 is none, 1 the log, 2 the main file, 3 the staging area.
 #[repr(C)]
-#[derive(Drop)]
+#[derive(Clone, Copy)]
 pub struct PageAnswer {
     pub refusal: u32,
     pub area: u32,
@@ -55,7 +56,7 @@ pub struct PageAnswer {
 
 // A batch's index among the frames and its frame's first byte; its body stands 16 bytes behind.
 #[repr(C)]
-#[derive(Drop)]
+#[derive(Clone, Copy)]
 pub struct BatchPlace {
     pub refusal: u32,
     pub found: u32,
@@ -65,7 +66,7 @@ pub struct BatchPlace {
 
 // A next step.
 #[repr(C)]
-#[derive(Drop)]
+#[derive(Clone, Copy)]
 pub struct StepAnswered {
     pub refusal: u32,
     // 0 idle, 1 a store, 2 the last store, with the answer.
@@ -81,7 +82,7 @@ pub struct StepAnswered {
 
 // What a commit would come to.
 #[repr(C)]
-#[derive(Drop)]
+#[derive(Clone, Copy)]
 pub struct PreviewAnswered {
     pub refusal: u32,
     // 1 where a checkpoint would follow it.

@@ -1,5 +1,6 @@
 // The open store, an open log and what is part done, in numbers, and back. Any numbers make a store: a kind of job that there is
 // not is none, and a kind of opening that there is not writes nothing.
+#![tactic(auto)]
 ghost use Rattle.std.specs.Prelude.{◌≡◌};
 ghost use Rattle.pager_state.specs.Opening.{no_header};
 ghost use Rattle.capi_numbers.specs.Numbers.{last_in, wal_in, committed_of, last_commit_count, numbers_of_wal, job_in, plain_job, job_of, opening_in, opening_number, pager_in, store_of};
@@ -9,7 +10,7 @@ use pager_state::{FileStorage, Job, Opening, Pager, Staged};
 use wal::{LastCommit, Wal, WalHeader};
 
 #[repr(C)]
-#[derive(Drop)]
+#[derive(Clone, Copy)]
 pub struct WalNumbers {
     pub header: WalHeader,
     pub len: usize,
@@ -22,7 +23,7 @@ pub struct WalNumbers {
 }
 
 #[repr(C)]
-#[derive(Drop)]
+#[derive(Clone, Copy)]
 pub struct JobNumbers {
     // 0 none, 1 commit, 2 checkpoint, 3 main length, 4 log length, 5 log header.
     pub kind: u32,
@@ -33,7 +34,7 @@ pub struct JobNumbers {
 }
 
 #[repr(C)]
-#[derive(Drop)]
+#[derive(Clone, Copy)]
 pub struct Store {
     pub current_header: DbHeader,
     pub wal: WalNumbers,

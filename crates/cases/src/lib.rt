@@ -1,1 +1,2 @@
 // Document 01's starred cases: see specs/Cases.antt.
+#![tactic(auto)]

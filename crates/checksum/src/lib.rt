@@ -1,5 +1,7 @@
 // The rolling sum of bytes that a frame carries: byte by byte, and in blocks of sixteen bytes.
 // proofs/Blocks.antt has the law of a block, and says why it holds.
+#![tactic(auto)]
+
 ghost use Rattle.std.specs.Prelude.{◌≡◌, ◌+◌, ◌^◌, ◌<◌, ◌≤◌, length, bit_and, nat_le};
 ghost use Rattle.le.specs.Le.{le_bytes};
 ghost use Rattle.checksum.specs.Checksum.{rotated, sum_step, sum_from};
@@ -112,7 +114,7 @@ fn sum_eights(bytes: &[u8], start: u32) -> u32
 }
 
 // How many bytes at the front of a slice were summed, and the sum after them.
-#[derive(Drop)]
+#[derive(Clone, Copy)]
 struct Run {
     len: usize,
     sum: u32,

@@ -1,1 +1,2 @@
 // What a preview of a commit tells, over histories: see specs/CommitPreview.antt.
+#![tactic(auto)]

@@ -1,5 +1,7 @@
 // One frame of the log: a heading of 16 bytes and a page's bytes behind it.
 // A frame is read, summed and written where it lies in the log; no place in the log can hurt.
+#![tactic(auto)]
+
 ghost use Rattle.std.specs.Prelude.{◌≡◌, ◌+◌, ◌≤◌, length};
 ghost use Rattle.le.specs.Answers.{stored_of};
 ghost use Rattle.le.specs.Le.{put};
@@ -15,7 +17,7 @@ pub const FRAME_SIZE: usize = FRAME_HEADER_SIZE + PAGE_SIZE;
 
 // A frame's heading.
 #[repr(C)]
-#[derive(Drop)]
+#[derive(Clone, Copy)]
 pub struct FrameHeader {
     pub page_num: u32,
     pub commit_page_count: u32,

@@ -1,1 +1,2 @@
 // What every opening compares with a frame's stored sum: see specs/FrameSums.antt.
+#![tactic(auto)]

@@ -1,4 +1,6 @@
 // The main file's header, page 0: what it holds, and its bytes in both directions.
+#![tactic(auto)]
+
 ghost use Rattle.std.specs.Prelude.{◌≡◌};
 ghost use Rattle.header.specs.Header.{decode_header, header_fields, encode_answer, encode_after};
 
@@ -18,7 +20,7 @@ pub const FORMAT_VERSION_BASELINE: u16 = FORMAT_VERSION_V4;
 
 // What the header says. The page count includes page 0.
 #[repr(C)]
-#[derive(Drop)]
+#[derive(Clone, Copy)]
 pub struct DbHeader {
     pub page_count: u32,
     pub schema_root_page: u32,
@@ -41,7 +43,7 @@ pub fn encode_fields(h: DbHeader) -> [u8; 32]
 }
 
 // What encoding answers.
-#[derive(Drop)]
+#[derive(Clone, Copy)]
 pub enum HeaderEncoded {
     Done,
     // Short: the buffer does not have a page's length.
@@ -62,7 +64,7 @@ pub fn encode_header(h: DbHeader, buf: &mut [u8]) -> HeaderEncoded
 }
 
 // What decoding answers: the header, or the first of its refusals.
-#[derive(Drop)]
+#[derive(Clone, Copy)]
 pub enum HeaderDecoded {
     Header(DbHeader),
     Refused(Refusal),

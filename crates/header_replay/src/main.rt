@@ -1,4 +1,5 @@
 // Replays the list of main headers (compare/README.md).
+#![tactic(auto)]
 use replay_lists::List;
 
 fn main() {

@@ -1,7 +1,8 @@
 // Reading an input to its end, where a read that fails is told apart from the end.
+#![tactic(auto)]
 ghost use Rattle.input.specs.Input.{Within};
 
-#[derive(Drop)]
+#[derive(Clone, Copy)]
 pub enum Input {
     // How many bytes stand at the front of the buffer: it is full, or the input has ended.
     Bytes(usize),

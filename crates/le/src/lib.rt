@@ -1,6 +1,8 @@
 // Little-endian fields of byte slices, parts of them and stores into them.
 // Every public function is total: a field that is not wholly there reads as 0, a part is what is there
 // of it, and a store that does not fit is refused and changes nothing.
+#![tactic(auto)]
+
 ghost use Rattle.std.specs.Prelude.{◌≡◌, ◌+◌, ◌≤◌, ◌<◌, min, max, leb, length, take, drop, replicate};
 ghost use Rattle.le.specs.Le.{le_bytes, field, whole_field, put, store, same_bytes};
 ghost use Rattle.le.specs.Answers.{stored_of};
@@ -194,7 +196,7 @@ pub fn same(a: &[u8], b: &[u8]) -> bool
 }
 
 // What a store answers.
-#[derive(Drop)]
+#[derive(Clone, Copy)]
 pub enum Stored {
     Done,
     // It would pass the end.

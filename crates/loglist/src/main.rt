@@ -1,4 +1,5 @@
 // Lists the log on standard input in document 01's lines.
+#![tactic(auto)]
 use input::Input;
 use log_listing::{LISTED_SIZE, LISTING_SIZE, Listed};
 

@@ -1,6 +1,8 @@
 // Batches of the mvcc log: what a batch's body holds, read in place.
 // Nothing is copied: texts and vectors are told by their places in the body, and a batch is walked
 // record by record and column by column with a cursor. Every public function is total.
+#![tactic(auto)]
+
 ghost use Rattle.std.specs.Prelude.{◌≡◌, ◌^◌, ◌≤◌, ◌<◌, leb, length, drop, take};
 ghost use Rattle.le.specs.Choice.{pick};
 ghost use Rattle.mvcc.specs.Answer.{why};
@@ -28,7 +30,7 @@ pub const MVCC_BODY_MAGIC: u64 = 0x3130_3030_4343_564d;
 
 // Where a text stands in the body, and its number of Unicode scalar values.
 #[repr(C)]
-#[derive(Drop)]
+#[derive(Clone, Copy)]
 pub struct TextPlace {
     pub start: usize,
     pub len: usize,
@@ -36,7 +38,7 @@ pub struct TextPlace {
 }
 
 // A column's value. A float is its bits: Nan has those of a NaN, Real every other one.
-#[derive(Drop)]
+#[derive(Clone, Copy)]
 pub enum Value {
     Null,
     Integer(i64),
@@ -48,34 +50,34 @@ pub enum Value {
     Vector { start: usize, count: usize },
 }
 
-#[derive(Drop)]
+#[derive(Clone, Copy)]
 pub struct Column {
     pub name: TextPlace,
     pub value: Value,
 }
 
 #[repr(C)]
-#[derive(Drop)]
+#[derive(Clone, Copy)]
 pub struct RowID {
     pub table: TextPlace,
     pub rowid: i64,
 }
 
 // A present row has `count` columns, the first at the cursor `first`.
-#[derive(Drop)]
+#[derive(Clone, Copy)]
 pub enum VersionPayload {
     Tombstone,
     Present { count: usize, first: usize },
 }
 
-#[derive(Drop)]
+#[derive(Clone, Copy)]
 pub struct MvccLogRecord {
     pub row: RowID,
     pub payload: VersionPayload,
 }
 
 // A batch: its records start at 18, and decoding ended at `end`.
-#[derive(Drop)]
+#[derive(Clone, Copy)]
 pub struct MvccCommitBatch {
     pub commit_ts: u64,
     pub records: usize,
@@ -83,79 +85,79 @@ pub struct MvccCommitBatch {
 }
 
 // A number field: its number and the next cursor, or it runs past the body.
-#[derive(Drop)]
+#[derive(Clone, Copy)]
 enum NumField {
     Taken(u64, usize),
     Short,
 }
 
-#[derive(Drop)]
+#[derive(Clone, Copy)]
 enum TextField {
     Taken(TextPlace, usize),
     Refused(Refusal),
 }
 
-#[derive(Drop)]
+#[derive(Clone, Copy)]
 pub enum ValueField {
     Taken(Value, usize),
     Refused(Refusal),
 }
 
-#[derive(Drop)]
+#[derive(Clone, Copy)]
 pub enum ColumnField {
     Taken(Column, usize),
     Refused(Refusal),
 }
 
 // A record's op and row.
-#[derive(Drop)]
+#[derive(Clone, Copy)]
 enum RowField {
     Taken(u64, RowID, usize),
     Refused(Refusal),
 }
 
 // What a record says of its row; or why it does not, and how many of its items were read before.
-#[derive(Drop)]
+#[derive(Clone, Copy)]
 enum PayloadField {
     Taken(VersionPayload, usize),
     Refused(Refusal, usize),
 }
 
-#[derive(Drop)]
+#[derive(Clone, Copy)]
 pub enum RecordField {
     Taken(MvccLogRecord, usize),
     Refused(Refusal),
 }
 
-#[derive(Drop)]
+#[derive(Clone, Copy)]
 pub enum BatchDecoded {
     Batch(MvccCommitBatch),
     Refused(Refusal),
 }
 
 // What decoding a body came to, and how many items, records and columns, it read; those before a refusal count too.
-#[derive(Drop)]
+#[derive(Clone, Copy)]
 pub struct DecodeReport {
     pub answer: BatchDecoded,
     pub items: usize,
 }
 
 // What a body's heading alone says.
-#[derive(Drop)]
+#[derive(Clone, Copy)]
 pub enum HeadingJudged {
     Fine,
     Refused(Refusal),
 }
 
 // An element of a vector: its bits, or there is none.
-#[derive(Drop)]
+#[derive(Clone, Copy)]
 pub enum ElementBits {
     Bits(u32),
     Beyond,
 }
 
 // An element of a vector as a float, where it is no NaN.
-#[derive(Drop)]
+#[derive(Clone, Copy)]
 pub enum Element {
     Real(f32),
     Nan(u32),

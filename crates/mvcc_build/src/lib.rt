@@ -1,6 +1,7 @@
 // A batch of the mvcc log, built in a lent body of 4,096 bytes: started, then records and columns added one by one.
 // Every public function is total, for made-up builders too. A refused addition leaves the body as it was,
 // and the caller's builder still tells the batch.
+#![tactic(auto)]
 ghost use Rattle.std.specs.Prelude.{◌≡◌, [], true, ◌+◌, ◌*◌, ◌≤◌, ◌<◌, leb, eqb, length};
 ghost use Rattle.std.specs.Int.Bits.{bit_and};
 ghost use Rattle.std.specs.Float.{binary64};
@@ -21,7 +22,7 @@ use mvcc::{BATCH_BODY_SIZE, BATCH_HEADING_SIZE};
 use refusal::Refusal;
 
 // The record that was added last.
-#[derive(Drop)]
+#[derive(Clone, Copy)]
 pub enum Last {
     // None yet, or a tombstone: it takes no column.
     Closed,
@@ -30,7 +31,7 @@ pub enum Last {
 }
 
 // A batch being built: the end of its bytes, and its records.
-#[derive(Drop)]
+#[derive(Clone, Copy)]
 pub struct BatchBuilder {
     pub at: usize,
     pub records: u16,
@@ -40,7 +41,7 @@ pub struct BatchBuilder {
 // What an addition answers: the builder to go on with, or the first of its refusals. Area: the body has not 4,096 bytes.
 // Truncated: the last element of a vector is cut. Text: a name or a text is not UTF-8. Fit: the batch would pass 4,096 bytes.
 // NoRecord: a column, and no present record is last.
-#[derive(Drop)]
+#[derive(Clone, Copy)]
 pub enum Added {
     Done(BatchBuilder),
     Refused(Refusal),

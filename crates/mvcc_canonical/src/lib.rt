@@ -1,5 +1,6 @@
 // The canonical form of a batch's body: what `MvccCommitBatch::encode` writes for what the body says.
 // It has the body's own bytes up to where decoding ended, with every bool 0 or 1, and zeros behind them.
+#![tactic(auto)]
 ghost use Rattle.std.specs.Prelude.{◌≡◌, ◌≤◌, length};
 ghost use Rattle.mvcc.specs.Batch.{heading_size};
 ghost use Rattle.le.specs.Choice.{pick};
@@ -10,7 +11,7 @@ ghost use Rattle.mvcc_canonical.specs.Canonical.{answer_end, fix_all, fix_value,
 use mvcc::{BATCH_BODY_SIZE, BATCH_HEADING_SIZE};
 use refusal::Refusal;
 
-#[derive(Drop)]
+#[derive(Clone, Copy)]
 pub enum Canonical {
     Done,
     // Area: `out` has not 4,096 bytes, or the body has more. Any other: the body does not decode.

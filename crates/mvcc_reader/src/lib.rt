@@ -1,5 +1,6 @@
 // A batch's body and a cursor in it, kept together: a thin reader over the plain functions of `mvcc`.
 // Every public function is total.
+#![tactic(auto)]
 ghost use Rattle.std.specs.Prelude.{◌≡◌};
 ghost use Rattle.mvcc.specs.Batch.{heading_size};
 ghost use Rattle.mvcc.specs.Fields.{record_answer};
@@ -7,7 +8,7 @@ ghost use Rattle.mvcc.specs.Decode.{record_at};
 
 use mvcc::BATCH_HEADING_SIZE;
 
-#[derive(Drop)]
+#[derive(Clone, Copy)]
 pub struct BatchReader<'a> {
     pub body: &'a [u8],
     pub at: usize,

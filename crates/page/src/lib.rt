@@ -1,4 +1,6 @@
 // Page sizes, and the empty table page that a new store starts with.
+#![tactic(auto)]
+
 ghost use Rattle.std.specs.Prelude.{◌≡◌};
 ghost use Rattle.page.specs.Page.{empty_answer, empty_after};
 
@@ -15,7 +17,7 @@ pub const PAYLOAD_PER_PAGE: usize = PAGE_SIZE - PAGE_HEADER_SIZE;
 pub const TABLE_LEAF: u8 = 2;
 
 // A table's leaf page: a slot directory and cells behind the page's heading.
-#[derive(Drop)]
+#[derive(Clone, Copy)]
 pub struct TablePage {}
 
 impl TablePage {

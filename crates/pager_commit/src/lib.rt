@@ -1,4 +1,5 @@
 // The calls of a commit: its start, its stores one at a time, and all of them up to the commit frame.
+#![tactic(auto)]
 ghost use Rattle.std.specs.Prelude.{◌≡◌, true, false, ◌+◌, ◌≤◌, ◌<◌, length, take};
 ghost use Rattle.le.specs.Choice.{pick};
 ghost use Rattle.le.specs.Le.{put};
@@ -360,7 +361,7 @@ fn run_frames(
 }
 
 // What a commit in one call comes to, but for the checkpoint that it may bring on.
-#[derive(Drop)]
+#[derive(Clone, Copy)]
 pub struct CommitRun {
     pub answer: CommitStart,
     // The number of differing pages, if it has begun.

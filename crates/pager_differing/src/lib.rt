@@ -1,4 +1,5 @@
 // Which pages a commit stores: the staged pages that differ, one after another or all at once, and the first that is missing.
+#![tactic(auto)]
 ghost use Rattle.std.specs.Prelude.{◌≡◌, ◌+◌, ◌<◌, ◌≤◌, not, length, take, drop};
 ghost use Rattle.le.specs.Choice.{pick};
 ghost use Rattle.le.specs.Le.{same_bytes};
@@ -11,7 +12,7 @@ use page::PAGE_SIZE;
 use pager_state::{PAGES, STAGED_PAGES, Staged};
 
 // A staged page and its slot; page 1,024 is none.
-#[derive(Drop)]
+#[derive(Clone, Copy)]
 pub struct Slot {
     pub page: usize,
     pub index: usize,
@@ -170,7 +171,7 @@ fn mark(page: u16, yes: bool) -> u16
 }
 
 // The staged pages that differ, each in its slot, and in the other slots a number that is no page's; and how many they are.
-#[derive(Drop)]
+#[derive(Clone, Copy)]
 pub struct Marked {
     pub pages: [u16; STAGED_PAGES],
     pub count: usize,

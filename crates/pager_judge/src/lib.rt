@@ -1,4 +1,5 @@
 // How a commit is judged before anything is stored.
+#![tactic(auto)]
 ghost use Rattle.std.specs.Prelude.{◌≡◌, length, take};
 ghost use Rattle.le.specs.Choice.{pick};
 ghost use Rattle.refusal.specs.Refusal.{accepts};
@@ -57,7 +58,7 @@ fn is_header_good(header: DbHeader) -> bool
 }
 
 // How a commit is judged; if it begins, how many pages differ, and which.
-#[derive(Drop)]
+#[derive(Clone, Copy)]
 pub struct Judged {
     pub answer: CommitStart,
     pub pages: usize,

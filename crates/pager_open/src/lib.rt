@@ -1,6 +1,7 @@
 // Creating a store, and opening one: plainly, as the Rust does, or cleanly, which cuts the log at its commit point and takes a clock that is no
 // older than a batch in it.
 // All refusals are judged before any area is written. Every public function is total.
+#![tactic(auto)]
 ghost use Rattle.std.specs.Prelude.{◌≡◌, true, false, [], ◌+◌, ◌*◌, max, ◌≤◌, ◌<◌, ◌^◌, leb, length};
 ghost use Rattle.le.specs.Choice.{pick};
 ghost use Rattle.le.specs.Le.{put};
@@ -31,7 +32,7 @@ use refusal::Refusal;
 use wal::{LastCommit, WAL_AREA, WAL_HEADER_SIZE, Wal, WalHeader, WalOpened};
 
 // How a store is to be opened.
-#[derive(Drop)]
+#[derive(Clone, Copy)]
 struct OpenOptions {
     clean: bool,
     access_mode: AccessMode,

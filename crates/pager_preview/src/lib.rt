@@ -1,4 +1,5 @@
 // What a commit would answer and leave, before it is made. It is judged as a commit is, and its end is told without a store.
+#![tactic(auto)]
 ghost use Rattle.std.specs.Prelude.{◌≡◌, ℕ, ◌+◌, ◌*◌, ◌≤◌};
 ghost use Rattle.frame.specs.Frame.{frame_size};
 ghost use Rattle.wal.specs.Recovery.{wal_area};
@@ -14,7 +15,7 @@ use refusal::Refusal;
 use wal::{WAL_HEADER_SIZE, Wal};
 
 // The answer of a commit, and the store after it.
-#[derive(Drop)]
+#[derive(Clone, Copy)]
 pub struct Preview {
     // The number of differing pages.
     pub answer: usize,
@@ -25,7 +26,7 @@ pub struct Preview {
     pub checkpointed: bool,
 }
 
-#[derive(Drop)]
+#[derive(Clone, Copy)]
 pub enum PreviewAnswer {
     Previewed(Preview),
     Refused(Refusal),

@@ -1,5 +1,6 @@
 // Reading the open store: its header, access mode and clock, its pages, and the batches that the opening found.
 // A page is read where it lies. Every public function is total.
+#![tactic(auto)]
 ghost use Rattle.std.specs.Prelude.{◌≡◌};
 ghost use Rattle.pager_state.specs.World.{world};
 ghost use Rattle.pager_state.specs.Overlay.{slots, below, place_page, find_page, read_page};
@@ -190,7 +191,7 @@ pub fn read_end(page_count: u32, staged_count: usize) -> usize
 }
 
 // What judging a reading answers.
-#[derive(Drop)]
+#[derive(Clone, Copy)]
 pub enum ReadAnswer {
     Allowed,
     Refused(Refusal),

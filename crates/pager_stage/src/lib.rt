@@ -1,5 +1,6 @@
 // What a caller adds to the open store between commits: staged pages, and batches in the log.
 // Every public function is total; a refusal changes neither the store nor an area.
+#![tactic(auto)]
 ghost use Rattle.std.specs.Prelude.{◌≡◌, not, eqb};
 ghost use Rattle.pager_state.specs.World.{with_wal};
 ghost use Rattle.pager_state.specs.Overlay.{slots};
@@ -18,7 +19,7 @@ use wal::{WAL_AREA, Wal};
 use wal_batch::BatchAppended;
 
 // What staging answers, and how many pages are staged then.
-#[derive(Drop)]
+#[derive(Clone, Copy)]
 pub struct StagedIn {
     pub answer: StageAnswer,
     pub count: usize,

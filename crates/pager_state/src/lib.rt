@@ -1,4 +1,5 @@
 // The open store: what it holds, and what its calls answer. The definitions of every call are this crate's specs.
+#![tactic(auto)]
 ghost use Rattle.std.specs.Prelude.{◌≡◌, true, ◌+◌, ◌≤◌, ◌<◌, leb, eqb, length, take};
 ghost use Rattle.le.specs.Choice.{pick, both};
 ghost use Rattle.pager_state.specs.World.{staging_area, staged_limit, busy_with, read_only_by, in_area, files_fine, fine_in, fine_by, with_job, with_wal};
@@ -24,14 +25,14 @@ pub const STAGING_AREA: usize = PAGE_SIZE * STAGED_PAGES;
 // Frames at which a commit checkpoints.
 pub const AUTO_CHECKPOINT_THRESHOLD_FRAMES: usize = 100;
 
-#[derive(Drop)]
+#[derive(Clone, Copy)]
 pub enum AccessMode {
     ReadWrite,
     ReadOnly,
 }
 
 // How the store came to be open.
-#[derive(Drop)]
+#[derive(Clone, Copy)]
 pub enum Opening {
     // Created, or opened cleanly.
     Clean,
@@ -43,7 +44,7 @@ pub enum Opening {
 
 // The main file: its length, and its own header.
 #[repr(C)]
-#[derive(Drop)]
+#[derive(Clone, Copy)]
 pub struct FileStorage {
     pub len: usize,
     pub header: DbHeader,
@@ -51,14 +52,14 @@ pub struct FileStorage {
 
 // The numbers of the staged pages; slot i's bytes stand at 4,096 × i in the staging area.
 #[repr(C)]
-#[derive(Drop)]
+#[derive(Clone, Copy)]
 pub struct Staged {
     pub count: usize,
     pub pages: [u16; STAGED_PAGES],
 }
 
 // What is part done: its arguments, the first page not looked at, and the answer that its last store gives.
-#[derive(Drop)]
+#[derive(Clone, Copy)]
 pub enum Job {
     Idle,
     Commit {
@@ -88,7 +89,7 @@ pub enum Job {
 
 // An open store. The page table is lent beside it: an entry for each page, twice the place of its frame in the log (0: none),
 // and 1 more if the main file has it.
-#[derive(Drop)]
+#[derive(Clone, Copy)]
 pub struct Pager {
     // The header that counts.
     pub current_header: DbHeader,
@@ -102,7 +103,7 @@ pub struct Pager {
 }
 
 // What finding a page answers: the area and the first byte of its bytes there.
-#[derive(Drop)]
+#[derive(Clone, Copy)]
 pub enum PageFound {
     Staged(usize),
     Log(usize),
@@ -111,114 +112,114 @@ pub enum PageFound {
     Refused(Refusal),
 }
 
-#[derive(Drop)]
+#[derive(Clone, Copy)]
 pub enum StageAnswer {
     Staged,
     Refused(Refusal),
 }
 
-#[derive(Drop)]
+#[derive(Clone, Copy)]
 pub struct PageStaged {
     pub answer: StageAnswer,
     pub pager: Pager,
 }
 
-#[derive(Drop)]
+#[derive(Clone, Copy)]
 pub enum ClearAnswer {
     Cleared,
     Refused(Refusal),
 }
 
-#[derive(Drop)]
+#[derive(Clone, Copy)]
 pub struct StagedCleared {
     pub answer: ClearAnswer,
     pub pager: Pager,
 }
 
-#[derive(Drop)]
+#[derive(Clone, Copy)]
 pub enum HeaderRead {
     Header(DbHeader),
     Refused(Refusal),
 }
 
-#[derive(Drop)]
+#[derive(Clone, Copy)]
 pub enum ModeRead {
     Mode(AccessMode),
     Refused(Refusal),
 }
 
-#[derive(Drop)]
+#[derive(Clone, Copy)]
 pub enum ClockRead {
     Clock(u64),
     Refused(Refusal),
 }
 
-#[derive(Drop)]
+#[derive(Clone, Copy)]
 pub enum ObserveAnswer {
     Observed,
     Refused(Refusal),
 }
 
-#[derive(Drop)]
+#[derive(Clone, Copy)]
 pub struct ClockObserved {
     pub answer: ObserveAnswer,
     pub pager: Pager,
 }
 
-#[derive(Drop)]
+#[derive(Clone, Copy)]
 pub enum BatchAnswer {
     Appended,
     Refused(Refusal),
 }
 
-#[derive(Drop)]
+#[derive(Clone, Copy)]
 pub struct PagerAppended {
     pub answer: BatchAnswer,
     pub pager: Pager,
 }
 
 // What walking the recovered batches answers: a batch's index among the frames and its frame's place.
-#[derive(Drop)]
+#[derive(Clone, Copy)]
 pub enum RecoveredFound {
     Batch { index: usize, offset: usize },
     Nothing,
     Refused(Refusal),
 }
 
-#[derive(Drop)]
+#[derive(Clone, Copy)]
 pub enum CreateAnswer {
     Created,
     Refused(Refusal),
 }
 
 // Where the answer is a refusal, the store is one without pages that writes nothing.
-#[derive(Drop)]
+#[derive(Clone, Copy)]
 pub struct PagerCreated {
     pub answer: CreateAnswer,
     pub pager: Pager,
 }
 
-#[derive(Drop)]
+#[derive(Clone, Copy)]
 pub enum OpenAnswer {
     Opened,
     Refused(Refusal),
 }
 
 // Where the answer is a refusal, the store is one without pages that writes nothing.
-#[derive(Drop)]
+#[derive(Clone, Copy)]
 pub struct PagerOpened {
     pub answer: OpenAnswer,
     pub pager: Pager,
 }
 
-#[derive(Drop)]
+#[derive(Clone, Copy)]
 pub enum FileKind {
     Log,
     Main,
 }
 
 // A store as it is named: its file, first byte and length (for a length store the new length, then 0), and whether a flush follows.
-#[derive(Drop)]
+#[derive(Clone, Copy)]
 pub struct Place {
     pub file: FileKind,
     pub at: usize,
@@ -227,7 +228,7 @@ pub struct Place {
 }
 
 // What a next step answers: Last has the answer of the commit or checkpoint besides.
-#[derive(Drop)]
+#[derive(Clone, Copy)]
 pub enum StepAnswer {
     Idle,
     Stored(Place),
@@ -235,60 +236,60 @@ pub enum StepAnswer {
     Refused(Refusal),
 }
 
-#[derive(Drop)]
+#[derive(Clone, Copy)]
 pub struct Stepped {
     pub answer: StepAnswer,
     pub pager: Pager,
 }
 
 // What starting a commit answers.
-#[derive(Drop)]
+#[derive(Clone, Copy)]
 pub enum CommitStart {
     Begun,
     Refused(Refusal),
 }
 
-#[derive(Drop)]
+#[derive(Clone, Copy)]
 pub struct CommitStarted {
     pub answer: CommitStart,
     pub pager: Pager,
 }
 
 // What starting a checkpoint answers; Nothing has no store to do.
-#[derive(Drop)]
+#[derive(Clone, Copy)]
 pub enum CheckpointStart {
     Begun,
     Nothing,
     Refused(Refusal),
 }
 
-#[derive(Drop)]
+#[derive(Clone, Copy)]
 pub struct CheckpointStarted {
     pub answer: CheckpointStart,
     pub pager: Pager,
 }
 
 // What a commit in one call answers: the number of differing pages.
-#[derive(Drop)]
+#[derive(Clone, Copy)]
 pub enum CommitAnswer {
     Committed(usize),
     Refused(Refusal),
 }
 
-#[derive(Drop)]
+#[derive(Clone, Copy)]
 pub struct Committed {
     pub answer: CommitAnswer,
     pub pager: Pager,
 }
 
 // What a checkpoint in one call answers: the number of pages written.
-#[derive(Drop)]
+#[derive(Clone, Copy)]
 pub enum CheckpointAnswer {
     Written(usize),
     Refused(Refusal),
 }
 
-#[derive(Drop)]
+#[derive(Clone, Copy)]
 pub struct Checkpointed {
     pub answer: CheckpointAnswer,
     pub pager: Pager,

@@ -1,9 +1,11 @@
 // Document 01's table of refusals. Every answer that can be one has it as `Refused(Refusal)`.
 // A new refusal is a row of the enum, one of `row_of`, and one of the definition.
+#![tactic(auto)]
+
 ghost use Rattle.std.specs.Prelude.{◌≡◌};
 ghost use Rattle.refusal.specs.Refusal.{plain, row_of, number, lowest_page};
 
-#[derive(Drop)]
+#[derive(Clone, Copy)]
 pub enum Refusal {
     // A wrong area length, or a file length above its area.
     Area,
@@ -50,7 +52,7 @@ pub enum Refusal {
 }
 
 // What the table gives a refusal: its number, and beside 14 the lowest page; beside every other 0.
-#[derive(Drop)]
+#[derive(Clone, Copy)]
 pub struct Row {
     pub number: u32,
     pub page: usize,

@@ -1,4 +1,5 @@
 // Test support: the lists of cases that the test programs replay, each its own (compare/README.md), and their one main.
+#![tactic(auto)]
 mod bodies;
 mod frames;
 mod headers;
@@ -10,7 +11,7 @@ mod texts;
 use input::Input;
 
 // A list of cases, by what its cases are; beside it the program that replays it.
-#[derive(Drop)]
+#[derive(Clone, Copy)]
 pub enum List {
     // items_replay
     Bodies,

@@ -1,1 +1,2 @@
 // How many pages can be staged, over histories: see specs/StagingLimit.antt.
+#![tactic(auto)]

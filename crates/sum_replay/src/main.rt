@@ -1,4 +1,5 @@
 // Replays the list of plain sums (compare/README.md).
+#![tactic(auto)]
 use replay_lists::List;
 
 fn main() {

@@ -1,5 +1,7 @@
 // Whether bytes are well-formed UTF-8, and how many scalar values they are: past the ASCII at the front by blocks and words; then sequence by
 // sequence or, where more is left, by windows in which each byte is judged by the three before it.
+#![tactic(auto)]
+
 ghost use Rattle.std.specs.Prelude.{◌≡◌, true, false, ◌+◌, ◌-◌, ◌≤◌, ◌<◌, length, drop};
 ghost use Rattle.le.specs.Choice.{pick};
 ghost use Rattle.text.specs.Utf8.{continues, pair, two, three, four, size, well_formed, chars, utf8_of};
@@ -7,14 +9,14 @@ ghost use Rattle.text.specs.Walk.{Ascii, number_behind};
 ghost use Rattle.text.specs.Windows.{is_open, lowest, highest, fits, opens_at, fits_from, AllFit, Begun, Judges};
 
 // The answer for a text: its number of Unicode scalar values.
-#[derive(Drop)]
+#[derive(Clone, Copy)]
 pub enum Utf8 {
     WellFormed(usize),
     IllFormed,
 }
 
 // A way through a text: its bytes, and the scalar values that they are.
-#[derive(Drop)]
+#[derive(Clone, Copy)]
 struct Way {
     len: usize,
     chars: usize,
@@ -212,7 +214,7 @@ fn one_unless(b: bool) -> u8
 }
 
 // What was found of bytes: whether all can stand where they do, and how many begin a sequence.
-#[derive(Drop)]
+#[derive(Clone, Copy)]
 struct Judged {
     fits: bool,
     begun: u8,

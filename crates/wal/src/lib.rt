@@ -1,5 +1,6 @@
 // The log: its header, what reading it finds, its pages and batches, and the frames added to it.
 // A log's bytes are lent; an open log is a few numbers by value. Every public function is total.
+#![tactic(auto)]
 ghost use Rattle.std.specs.Prelude.{◌≡◌, ◌+◌, ◌-◌, ◌/◌, ◌^◌, ◌<◌, length, drop, nat_eq};
 ghost use Rattle.le.specs.Choice.{pick};
 ghost use Rattle.le.specs.Answers.{stored_of};
@@ -30,7 +31,7 @@ pub const WAL_AREA: usize = 4_210_720;
 
 // What the header says.
 #[repr(C)]
-#[derive(Drop)]
+#[derive(Clone, Copy)]
 pub struct WalHeader {
     pub version: u32,
     pub salt: u32,
@@ -55,7 +56,7 @@ pub fn encode_wal_header(h: WalHeader, log: &mut [u8]) -> Stored
 }
 
 // What decoding answers: the header, or the first of its refusals.
-#[derive(Drop)]
+#[derive(Clone, Copy)]
 pub enum WalHeaderDecoded {
     Header(WalHeader),
     Refused(Refusal),
@@ -91,14 +92,14 @@ pub fn decode_wal_header(log: &[u8]) -> WalHeaderDecoded
 }
 
 // The last commit frame's page count.
-#[derive(Drop)]
+#[derive(Clone, Copy)]
 pub enum LastCommit {
     Nothing,
     Count(u32),
 }
 
 // An open log.
-#[derive(Drop)]
+#[derive(Clone, Copy)]
 pub struct Wal {
     pub header: WalHeader,
     // The log's length in its area.
@@ -113,7 +114,7 @@ pub struct Wal {
 }
 
 // What opening answers: the open log, or the first of its refusals.
-#[derive(Drop)]
+#[derive(Clone, Copy)]
 pub enum WalOpened {
     Opened(Wal),
     Refused(Refusal),
@@ -247,7 +248,7 @@ fn chunk_count(len: usize) -> usize
 }
 
 // What stands at an index.
-#[derive(Drop)]
+#[derive(Clone, Copy)]
 pub enum FrameFound {
     Frame { offset: usize, header: FrameHeader },
     Nothing,
@@ -266,7 +267,7 @@ pub fn frame_at(file: &[u8], index: usize) -> FrameFound
 }
 
 // Where a page's own bytes stand in the log.
-#[derive(Drop)]
+#[derive(Clone, Copy)]
 pub enum PagePlace {
     At(usize),
     Nothing,
@@ -310,7 +311,7 @@ pub fn read_page(file: &[u8], wal: Wal, page_num: u32) -> &[u8]
 }
 
 // A batch's place.
-#[derive(Drop)]
+#[derive(Clone, Copy)]
 pub enum BatchFound {
     Batch { index: usize, offset: usize },
     Nothing,
@@ -341,7 +342,7 @@ pub fn next_batch(file: &[u8], wal: Wal, index: usize) -> BatchFound
 }
 
 // What creating answers.
-#[derive(Drop)]
+#[derive(Clone, Copy)]
 pub enum WalCreated {
     Created(Wal),
     Refused(Refusal),
@@ -365,7 +366,7 @@ pub fn create(log: &mut [u8], salt: u32) -> WalCreated
 }
 
 // What truncating answers.
-#[derive(Drop)]
+#[derive(Clone, Copy)]
 pub enum WalTruncated {
     Truncated(Wal),
     Refused(Refusal),
@@ -393,7 +394,7 @@ pub fn truncate(log: &mut [u8], wal: Wal, salt: u32) -> WalTruncated
 }
 
 // What appending answers.
-#[derive(Drop)]
+#[derive(Clone, Copy)]
 pub enum FrameAppended {
     Appended(Wal),
     Refused(Refusal),
@@ -463,7 +464,7 @@ pub fn append_page_zero(
 }
 
 // What setting the clock answers.
-#[derive(Drop)]
+#[derive(Clone, Copy)]
 pub enum ClockSet {
     Set(Wal),
     Refused(Refusal),

@@ -1,5 +1,6 @@
 // A batch appended to the log: its canonical form is written straight behind the heading's place at the log's length,
 // and becomes an uncommitted frame there.
+#![tactic(auto)]
 ghost use Rattle.std.specs.Prelude.{◌≡◌};
 ghost use Rattle.refusal.specs.Refusal.{answered};
 ghost use Rattle.mvcc.specs.Seen.{heading_refusal};
@@ -14,7 +15,7 @@ use wal::{WAL_AREA, Wal};
 
 // What appending answers: the log one frame longer, or the first of its refusals. Area: the log's area has another length,
 // the log is longer than it, or the body is longer than a page.
-#[derive(Drop)]
+#[derive(Clone, Copy)]
 pub enum BatchAppended {
     Appended(Wal),
     Refused(Refusal),

@@ -1,0 +1,8 @@
+use borrow.Author.Tests.{eq-eqb, ne_eqb}
+use Rattle.capi.proofs.batch.last_in.Goals as goal
+
+pub returns-then-b-eq0 : goal.returns-then-b-eq0
+returns-then-b-eq0 c = rw (eq-eqb _ _ c.if-b-eq0.true)
+
+pub returns : goal.returns
+returns c = rw (ne_eqb _ _ c.if-b-eq0.false)

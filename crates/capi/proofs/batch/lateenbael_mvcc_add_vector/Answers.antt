@@ -1,0 +1,8 @@
+use mathlib.Core.Path.{ap, ◌∙◌}
+use Rattle.capi.specs.Batch.{added_numbers}
+use Rattle.capi.proofs.batch.lateenbael_mvcc_add_vector.Goals as goal
+
+pub returns : goal.returns
+returns c =
+    let h = rw c.builder_in.ensures at c.add_vector.ensures in
+    record { value = c.added_numbers.ensures ∙ ap added_numbers h.0; body_after = h.1 }

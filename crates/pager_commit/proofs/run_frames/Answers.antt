@@ -1,0 +1,27 @@
+use mathlib.Core.Path.{refl, ◌∙◌}
+use lib.ListN.{take}
+use Rattle.pager_commit.specs.Parts.{marked_pages}
+use Rattle.pager_commit.proofs.Whole.{run-committed}
+use Rattle.pager_commit.proofs.run_frames.Goals as goal
+
+pub store_frames-last-requires : goal.store_frames-last-requires
+store_frames-last-requires c = c.requires
+
+pub store_commit_frame-wal-requires : goal.store_commit_frame-wal-requires
+store_commit_frame-wal-requires c =
+    let k = c.store_frames-last.auto in
+    (record { table = k.1.1.1.0 ∙ c.requires.1.0.table; log = k.1.1.1.1.0 ∙ c.requires.1.0.log }, c.store_frames-last.ensures.result_value)
+
+pub shape_of-table : goal.shape_of-table
+shape_of-table c = c.store_commit_frame-wal.auto.0 ∙ c.store_frames-last.auto.1.1.1.0
+
+pub shape_of-log : goal.shape_of-log
+shape_of-log c = c.store_commit_frame-wal.auto.1.0 ∙ c.store_frames-last.auto.1.1.1.1.0
+
+pub returns : goal.returns
+returns c =
+    let a = c.args in
+    let q = c.store_frames-last.auto in
+    let e = c.store_frames-last.ensures in
+    let z = c.store_commit_frame-wal.ensures in
+    λ m b. run-committed a.staging.now m a.pager a.header a.salt a.answer a.table.now a.log.now (marked_pages (take a.pager.staged.count a.marks.now)) (e.fact a.pager m refl b) b.right (record { table = q.1.1.1.0 ∙ c.requires.1.0.table; log = q.1.1.1.1.0 ∙ c.requires.1.0.log }) e.result_value z.value c.committed.ensures z.table_after z.log_after

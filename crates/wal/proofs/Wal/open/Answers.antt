@@ -1,0 +1,23 @@
+use Rattle.std.proofs.Common.{◌≡◌, sym, ◌∙◌}
+use borrow.Author.Tests.{lt-leb}
+use Rattle.wal.specs.Header.{wal_header_in}
+use Rattle.wal.specs.Recovery.{open_log}
+use Rattle.wal.proofs.HeaderRoundTrip.{decoded-as}
+use Rattle.wal.proofs.Opening.{opened-as}
+use Rattle.wal.proofs.Wal.open.Goals as goal
+
+pub returns-then-file-gt-WAL_AREA : goal.returns-then-file-gt-WAL_AREA
+unfolding open_log
+returns-then-file-gt-WAL_AREA c = rw (lt-leb _ _ c.if-file-gt-WAL_AREA.true)
+
+pub replay_frames-requires : goal.replay_frames-requires
+replay_frames-requires c =
+    let header-there : c.in-Header.header ≡ wal_header_in c.args.file.now =
+    sym (decoded-as c.args.file.now _ (sym c.decode_wal_header.ensures ∙ c.in-Header.is)).fields in
+    header-there
+
+pub returns-in-Header : goal.returns-in-Header
+returns-in-Header c = rw c.replay_frames.ensures (opened-as c.args.file.now c.if-file-gt-WAL_AREA.false (sym c.decode_wal_header.ensures ∙ c.in-Header.is))
+
+pub returns-in-Refused : goal.returns-in-Refused
+returns-in-Refused c = opened-as c.args.file.now c.if-file-gt-WAL_AREA.false (sym c.decode_wal_header.ensures ∙ c.in-Refused.is)
