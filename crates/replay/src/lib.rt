@@ -2,6 +2,7 @@
 // A list has one case a line, its bytes in hexadecimal digits; an answer is a line of text.
 // Every public function is total: a case or a text that finds no room is cut or left out.
 #![tactic(auto)]
+
 ghost use Rattle.std.specs.Prelude.{◌≡◌, [], ◌∷◌, ◌+◌, ◌<◌, min, max, length, drop, replicate};
 ghost use Rattle.le.specs.Le.{store};
 ghost use Rattle.replay.specs.Cases.{line_of, digit_of, hex_bytes, case_at, Copied, Next};

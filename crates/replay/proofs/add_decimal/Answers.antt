@@ -3,6 +3,6 @@ use Rattle.replay.proofs.add_decimal.Goals as goal
 
 pub returns : goal.returns
 returns c =
-    let d = c.type_inv.digits in
+    let d = c.decimal-k in
     let t = c.add_text.ensures in
-    spelt 10 1 _ _ d.result d.ensures.0.1 d.ensures.1.0 d.ensures.1.1 t.value t.line_after
+    spelt 10 1 _ _ d.result d.ensures.in_bounds.1 d.ensures.len d.ensures.digits t.value t.line_after

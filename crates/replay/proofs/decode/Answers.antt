@@ -1,10 +1,9 @@
 use native.Mathlib.Omega.{arith}
 use mathlib.Core.Path.{◌≡◌, refl, sym}
-use Prim.Native.Nat.{◌+◌, ◌-◌, ◌*◌, ◌<◌}
+use Prim.Native.Nat.{◌+◌, ◌*◌, ◌<◌}
 use lib.ListN.{length, take, length-set, length-take}
 use Rattle.replay.proofs.Bytes.{length-bytes, byte_at, lay-more, laid}
 use Rattle.replay.specs.Cases.{hex_bytes}
-use Rattle.le.specs.Le.{put}
 use Rattle.le.proofs.Stores.{put-none}
 use Rattle.replay.proofs.decode.Goals as goal
 

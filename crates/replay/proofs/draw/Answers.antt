@@ -1,8 +1,6 @@
 use native.Mathlib.Omega.{arith}
 use mathlib.Core.Path.{refl, sym, ◌∙◌}
-use Prim.Native.Nat.{◌-◌}
-use lib.ListN.{length, length-set}
-use Rattle.le.specs.Le.{put}
+use lib.ListN.{length-set}
 use Rattle.le.proofs.Stores.{put-none}
 use Rattle.replay.specs.Drawn.{number_after, drawn}
 use Rattle.replay.proofs.Bytes.{draw-next, draw-more, draw-all}

@@ -1,3 +1,4 @@
+use native.Mathlib.Omega.{arith}
 use borrow.Author.Tests.{ne_eqb}
 use Rattle.replay.specs.Drawn.{drawn_body}
 use Rattle.replay.proofs.draw_body.Goals as goal
@@ -19,5 +20,5 @@ returns-in-5 c =
 pub returns-in_default : goal.returns-in_default
 unfolding drawn_body
 returns-in_default c =
-    let r = c.in_default.rest in
-    rw (ne_eqb _ _ r.0.0.1, ne_eqb _ _ r.0.1, ne_eqb _ _ r.1) c.draw-in_default.ensures
+    let k = c.args.kind in
+    rw (ne_eqb k 0 (omega arith), ne_eqb k 4 (omega arith), ne_eqb k 5 (omega arith)) c.draw-in_default.ensures

@@ -1,9 +1,7 @@
 use native.Mathlib.Omega.{arith}
 use mathlib.Core.Path.{refl, sym, ◌∙◌}
-use Prim.Native.Nat.{◌-◌}
-use lib.ListN.{length, length-set}
+use lib.ListN.{length-set}
 use Rattle.replay.proofs.Bytes.{fill_more, fill-all}
-use Rattle.le.specs.Le.{put}
 use Rattle.le.proofs.Stores.{put-none}
 use Rattle.replay.proofs.fill.Goals as goal
 

@@ -1,6 +1,5 @@
 use native.Mathlib.Omega.{arith}
 use mathlib.Core.Path.{refl}
-use Prim.Native.Nat.{◌-◌}
 use Rattle.replay.proofs.Lines.{line-more, line-stop, line-none}
 use Rattle.replay.proofs.line_end.Goals as goal
 
