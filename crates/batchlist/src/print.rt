@@ -186,7 +186,9 @@ fn print_record(rt: &impl Print, body: &[u8], i: usize, record: mvcc::MvccLogRec
     print_number(rt, i);
     match payload {
         mvcc::VersionPayload::Tombstone => print_tombstone(rt, body, row),
-        mvcc::VersionPayload::Present { count, first } => print_present(rt, body, row, count, first),
+        mvcc::VersionPayload::Present { count, first } => print_present(
+            rt, body, row, count, first,
+        ),
     }
 }
 
