@@ -59,7 +59,12 @@ fn report(rt: &impl Print, body: &[u8]) {
     let answer = report.answer;
     match answer {
         BatchDecoded::Batch(batch) => print_report(rt, b"end ", batch.end as u64, items),
-        BatchDecoded::Refused(row) => print_report(rt, b"refused ", refusal::number(row) as u64, items),
+        BatchDecoded::Refused(row) => print_report(
+            rt,
+            b"refused ",
+            refusal::number(row) as u64,
+            items,
+        ),
     }
 }
 
