@@ -2,6 +2,7 @@
 // Every public function is total, for made-up builders too. A refused addition leaves the body as it was,
 // and the caller's builder still tells the batch.
 #![tactic(auto)]
+
 ghost use Rattle.std.specs.Prelude.{◌≡◌, [], true, ◌+◌, ◌*◌, ◌≤◌, ◌<◌, leb, eqb, length};
 ghost use Rattle.std.specs.Int.Bits.{bit_and};
 ghost use Rattle.std.specs.Float.{binary64};

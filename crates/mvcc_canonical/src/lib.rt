@@ -1,6 +1,7 @@
 // The canonical form of a batch's body: what `MvccCommitBatch::encode` writes for what the body says.
 // It has the body's own bytes up to where decoding ended, with every bool 0 or 1, and zeros behind them.
 #![tactic(auto)]
+
 ghost use Rattle.std.specs.Prelude.{◌≡◌, ◌≤◌, length};
 ghost use Rattle.mvcc.specs.Batch.{heading_size};
 ghost use Rattle.le.specs.Choice.{pick};

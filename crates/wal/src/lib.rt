@@ -1,6 +1,7 @@
 // The log: its header, what reading it finds, its pages and batches, and the frames added to it.
 // A log's bytes are lent; an open log is a few numbers by value. Every public function is total.
 #![tactic(auto)]
+
 ghost use Rattle.std.specs.Prelude.{◌≡◌, ◌+◌, ◌-◌, ◌/◌, ◌^◌, ◌<◌, length, drop, nat_eq};
 ghost use Rattle.le.specs.Choice.{pick};
 ghost use Rattle.le.specs.Answers.{stored_of};

@@ -11,4 +11,4 @@ returns-in_default c = rw (told num_answer c.take_u64.ensures c.in_default.is)
 
 pub returns : goal.returns
 unfolding integer_at
-returns c = rw (told num_answer c.take_u64.ensures c.in-Taken.is, to_z-of_z w64 c.signed_of.result (record { sfits = c.signed_of.type-inv }), c.signed_of.ensures)
+returns c = rw (told num_answer c.take_u64.ensures c.in-Taken.is, to_z-of_z w64 c.signed_of.result (record { sfits = c.signed_of.type_inv }), c.signed_of.ensures)

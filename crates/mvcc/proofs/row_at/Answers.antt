@@ -24,6 +24,6 @@ returns-in_default-take_u64 c =
 pub returns : goal.returns
 returns c =
     let f = c.signed_of in
-    rw (to_z-of_z w64 f.result (record { sfits = f.type-inv }), f.ensures)
+    rw (to_z-of_z w64 f.result (record { sfits = f.type_inv }), f.ensures)
     (row-taken _ _ (told num_answer c.take_u8.ensures c.in-Taken.is)
     (told text_answer c.read_str-t.ensures c.in-Taken-t.is) (told num_answer c.take_u64.ensures c.in-Taken-take_u64.is))

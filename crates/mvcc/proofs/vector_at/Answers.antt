@@ -16,7 +16,6 @@ returns-in_default c = rw (told num_answer c.take_u32.ensures c.in_default.is)
 pub overflow_sub-body : goal.overflow_sub-body
 overflow_sub-body c =
     let counted : let a = c.args in
-    let v = c.n-1.given.0 in
     num_at 4 a.body.now a.at ≡ taken c.in-Taken.n c.in-Taken.start =
     told num_answer c.take_u32.ensures c.in-Taken.is in
     let a = c.args in num-next 4 a.body.now a.at (counted)
@@ -25,10 +24,8 @@ pub returns-then-body-start : goal.returns-then-body-start
 unfolding vector_at
 returns-then-body-start c =
     let counted : let a = c.args in
-    let v = c.n-1.given.0 in
     num_at 4 a.body.now a.at ≡ taken c.in-Taken.n c.in-Taken.start =
     told num_answer c.take_u32.ensures c.in-Taken.is in
-    let v = c.n-1.given.0 in
     let h : length c.args.body.now < c.in-Taken.start + c.in-Taken.n * 4 = omega arith in
     rw (counted, lt-leb _ _ h)
 
@@ -36,10 +33,8 @@ pub returns : goal.returns
 unfolding vector_at
 returns c =
     let counted : let a = c.args in
-    let v = c.n-1.given.0 in
     num_at 4 a.body.now a.at ≡ taken c.in-Taken.n c.in-Taken.start =
     told num_answer c.take_u32.ensures c.in-Taken.is in
     let a = c.args in
-    let v = c.n-1.given.0 in
     let h : c.in-Taken.start + c.in-Taken.n * 4 ≤ length a.body.now = omega (arith, num-next 4 a.body.now a.at (counted)) in
     rw (counted, le-leb _ _ h)
