@@ -1,6 +1,7 @@
 // The open store, an open log and what is part done, in numbers, and back. Any numbers make a store: a kind of job that there is
 // not is none, and a kind of opening that there is not writes nothing.
 #![tactic(auto)]
+
 ghost use Rattle.std.specs.Prelude.{◌≡◌};
 ghost use Rattle.pager_state.specs.Opening.{no_header};
 ghost use Rattle.capi_numbers.specs.Numbers.{last_in, wal_in, committed_of, last_commit_count, numbers_of_wal, job_in, plain_job, job_of, opening_in, opening_number, pager_in, store_of};

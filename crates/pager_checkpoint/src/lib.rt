@@ -1,5 +1,6 @@
 // The stores of a checkpoint, one at a time, and the call that starts a checkpoint.
 #![tactic(auto)]
+
 ghost use Rattle.std.specs.Prelude.{◌≡◌, true, false, ◌++◌, ℕ, ◌+◌, ◌*◌, ◌≤◌, ◌<◌, max, eqb, length, take, drop, get_or, replicate};
 ghost use Rattle.wal.specs.Recovery.{wal_area};
 ghost use Rattle.page.specs.Page.{page_size};

@@ -177,6 +177,10 @@ module _ (g : List ℕ) (h : DbHeader) (salt answer page : ℕ) (w : World) wher
 abbrev others : List ℕ
 others = 0 ∷ 2 ∷ 3 ∷ 4 ∷ 5 ∷ []
 
+-- the job is no commit's
+abbrev pub NoCommit : Job → Type 0
+NoCommit j = (h : DbHeader) (salt page answer : ℕ) → j ≡ job.Commit h salt page answer → ⊥
+
 module _ (g : List ℕ) (w : World) where
   pub not-fine : step_fine g w ≡ false → (step.Refused refusal.Area ≡ commit_step_answer g w) × (w ≡ commit_stepped g w)
   unfolding commit_step_answer commit_stepped
@@ -189,16 +193,16 @@ module _ (g : List ℕ) (w : World) where
     by-job j q = (rw (fi, q), rw (fi, q))
 
     -- no store of a commit is left of another job
-    none_left : (j : Job) → OneOf others (tag_of J.the_type j) → commit_todo g j w ≡ []
+    none_left : (j : Job) → NoCommit j → commit_todo g j w ≡ []
     unfolding commit_todo
     none_left job.Idle k = refl
-    none_left (job.Commit h salt page answer) k = absurd (miss others 1 tt k)
+    none_left (job.Commit h salt page answer) k = absurd (k h salt page answer refl)
     none_left (job.Checkpoint salt page answer) k = refl
     none_left (job.MainLength salt answer) k = refl
     none_left (job.LogLength salt answer) k = refl
     none_left (job.LogHeader salt answer) k = refl
 
-    pub at_other : OneOf others (tag_of J.the_type w.pager.job) → (step.Idle ≡ commit_step_answer g w) × (w ≡ commit_stepped g w)
+    pub at_other : NoCommit w.pager.job → (step.Idle ≡ commit_step_answer g w) × (w ≡ commit_stepped g w)
     unfolding named done
     at_other k =
         let b = by-job w.pager.job refl in

@@ -1,5 +1,6 @@
 // Which pages a commit stores: the staged pages that differ, one after another or all at once, and the first that is missing.
 #![tactic(auto)]
+
 ghost use Rattle.std.specs.Prelude.{◌≡◌, ◌+◌, ◌<◌, ◌≤◌, not, length, take, drop};
 ghost use Rattle.le.specs.Choice.{pick};
 ghost use Rattle.le.specs.Le.{same_bytes};

@@ -1,5 +1,6 @@
 // How a commit is judged before anything is stored.
 #![tactic(auto)]
+
 ghost use Rattle.std.specs.Prelude.{◌≡◌, length, take};
 ghost use Rattle.le.specs.Choice.{pick};
 ghost use Rattle.refusal.specs.Refusal.{accepts};

@@ -2,6 +2,7 @@
 // older than a batch in it.
 // All refusals are judged before any area is written. Every public function is total.
 #![tactic(auto)]
+
 ghost use Rattle.std.specs.Prelude.{◌≡◌, true, false, [], ◌+◌, ◌*◌, max, ◌≤◌, ◌<◌, ◌^◌, leb, length};
 ghost use Rattle.le.specs.Choice.{pick};
 ghost use Rattle.le.specs.Le.{put};

@@ -1,5 +1,6 @@
 // What a commit would answer and leave, before it is made. It is judged as a commit is, and its end is told without a store.
 #![tactic(auto)]
+
 ghost use Rattle.std.specs.Prelude.{◌≡◌, ℕ, ◌+◌, ◌*◌, ◌≤◌};
 ghost use Rattle.frame.specs.Frame.{frame_size};
 ghost use Rattle.wal.specs.Recovery.{wal_area};

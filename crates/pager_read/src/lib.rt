@@ -1,6 +1,7 @@
 // Reading the open store: its header, access mode and clock, its pages, and the batches that the opening found.
 // A page is read where it lies. Every public function is total.
 #![tactic(auto)]
+
 ghost use Rattle.std.specs.Prelude.{◌≡◌};
 ghost use Rattle.pager_state.specs.World.{world};
 ghost use Rattle.pager_state.specs.Overlay.{slots, below, place_page, find_page, read_page};

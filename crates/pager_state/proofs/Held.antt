@@ -17,7 +17,7 @@ same xs p = sym (length-map xs (λ v. v)) ∙ p
 
 -- `pages` is field 1
 pub slots : (s : Staged) (vs : List Val) → Is (row S.the_type) s vs → length s.pages ≡ staged_limit
-slots s vs p = same s.pages p.1.1.1.0.1.0.1
+slots s vs p = p.1.1.1.0.1.0.1
 
 -- of the store's own: `staged` is field 4
 pub held-slots : (p : Pager) (vs : List Val) → Is (row P.the_type) p vs → length p.staged.pages ≡ staged_limit

@@ -1,5 +1,6 @@
 // The open store: what it holds, and what its calls answer. The definitions of every call are this crate's specs.
 #![tactic(auto)]
+
 ghost use Rattle.std.specs.Prelude.{◌≡◌, true, ◌+◌, ◌≤◌, ◌<◌, leb, eqb, length, take};
 ghost use Rattle.le.specs.Choice.{pick, both};
 ghost use Rattle.pager_state.specs.World.{staging_area, staged_limit, busy_with, read_only_by, in_area, files_fine, fine_in, fine_by, with_job, with_wal};

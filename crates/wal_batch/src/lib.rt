@@ -1,6 +1,7 @@
 // A batch appended to the log: its canonical form is written straight behind the heading's place at the log's length,
 // and becomes an uncommitted frame there.
 #![tactic(auto)]
+
 ghost use Rattle.std.specs.Prelude.{◌≡◌};
 ghost use Rattle.refusal.specs.Refusal.{answered};
 ghost use Rattle.mvcc.specs.Seen.{heading_refusal};

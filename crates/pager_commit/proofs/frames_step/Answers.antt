@@ -31,7 +31,7 @@ frame_step-requires c =
     let room : has_room c.args.pager.wal ≡ true =
     sym c.fits_in.ensures ∙ c.if-not-fits_in.false in
     let h = c.if-found-lt-PAGES.true in
-    ((h, (c.next_differing-found.ensures.index_value h).1), (c.requires, room))
+    record { page_lt_page_limit = (h, (c.next_differing-found.ensures.index_value h).1); lengths = c.requires; wal_value = room }
 
 pub returns-then-found-lt-PAGES : goal.returns-then-found-lt-PAGES
 returns-then-found-lt-PAGES c =

@@ -9,8 +9,7 @@ enter-requires c = (omega (arith, c.requires.0.table), omega (arith, room-is c.a
 pub returns-in_default : goal.returns-in_default
 returns-in_default c =
     let s = commit-frame-stored c.args.log.now c.args.wal c.args.header c.requires.0.log c.requires.1 c.encode_fields-fields.ensures c.append_page_zero-appended.ensures.value c.append_page_zero-appended.ensures.log_after in
-    let both = not_full s.0 c.in_default.is in
-    record { value = both.0; table_after = both.1.0; log_after = both.1.1 }
+    not_full s.0 c.in_default.is
 
 pub returns : goal.returns
 returns c =

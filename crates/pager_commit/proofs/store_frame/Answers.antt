@@ -9,13 +9,13 @@ use Rattle.pager_commit.proofs.store_frame.Goals as goal
 pub enter-requires : goal.enter-requires
 enter-requires c =
     let k = c.requires in
-    (omega (arith, k.0.0, k.1.0.0.table), omega (arith, room-is c.args.wal k.1.1))
+    (omega (arith, k.page_lt_page_limit.0, k.lengths.0.table), omega (arith, room-is c.args.wal k.wal_value))
 
 pub returns : goal.returns
 returns c =
     let a = c.args in
     let k = c.requires in
     let bs = c.page_from-body.result.now in
-    let b : length bs ≡ page_size = rw c.page_from-body.ensures (body-size a.staging.now a.found.index k.1.0.1 k.0.1) in
-    let f = frame-stored a.log.now a.wal a.found.page bs k.1.0.0.log b k.1.1 in
-    record { value = c.longer.ensures ∙ rw k.1.1; table_after = c.enter.ensures; log_after = rw (← c.page_from-body.ensures) (c.write_frame.ensures.log_after ∙ f) }
+    let b : length bs ≡ page_size = rw c.page_from-body.ensures (body-size a.staging.now a.found.index k.lengths.1 k.page_lt_page_limit.1) in
+    let f = frame-stored a.log.now a.wal a.found.page bs k.lengths.0.log b k.wal_value in
+    record { value = c.longer.ensures ∙ rw k.wal_value; table_after = c.enter.ensures; log_after = rw (← c.page_from-body.ensures) (c.write_frame.ensures.log_after ∙ f) }

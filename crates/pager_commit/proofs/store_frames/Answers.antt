@@ -11,7 +11,7 @@ use Rattle.pager_commit.proofs.store_frames.Goals as goal
 pub loop-page-init : goal.loop-page-init
 loop-page-init c =
     let a = c.args in
-    loop-start (take a.n a.marks.now) a.staging.now a.first a.table.now a.log.now c.requires.0.1
+    loop-start (take a.n a.marks.now) a.staging.now a.first a.table.now a.log.now c.requires.marks_len.1
 
 pub shape_of-table-then-found-ge-PAGES : goal.shape_of-table-then-found-ge-PAGES
 shape_of-table-then-found-ge-PAGES c = c.loop-page.invariant.table
@@ -33,7 +33,11 @@ store_frame-wal-requires c =
     let h = c.if-found-ge-PAGES.false in
     let k = place-within a.marks.now a.n c.loop-page.page c.next_of-found.result.page c.next_of-found.ensures.page_value h in
     let i = c.loop-page.invariant in
-    ((h, omega (arith, k, c.next_of-found.ensures.index_value h, c.requires.0.0)), ((loop-lent M a.staging.now a.first a.table.now a.log.now i c.requires.1.0, c.requires.1.1), loop-room M a.staging.now a.first a.table.now a.log.now i))
+    record {
+      page_lt_page_limit = (h, omega (arith, k, c.next_of-found.ensures.index_value h, c.requires.marks_len.0));
+      lengths = (loop-lent M a.staging.now a.first a.table.now a.log.now i c.requires.lengths.0, c.requires.lengths.1);
+      wal_value = loop-room M a.staging.now a.first a.table.now a.log.now i;
+    }
 
 pub overflow_add-page : goal.overflow_add-page
 overflow_add-page c = omega (arith, c.if-found-ge-PAGES.false)
@@ -58,7 +62,7 @@ loop-page-preserved c =
     let h = c.if-found-ge-PAGES.false in
     let s = c.store_frame-wal.ensures in
     let k = place-within a.marks.now a.n c.loop-page.page c.next_of-found.result.page c.next_of-found.ensures.page_value h in
-    loop-frame M a.staging.now a.first a.table.now a.log.now c.loop-page.invariant c.requires.1.0 c.requires.1.1 c.next_of-found.result (found) (c.next_of-found.ensures.index_value h) (omega (arith, k, c.next_of-found.ensures.index_value h, c.requires.0.0)) c.store_frame-wal.auto.1.1.0 c.store_frame-wal.auto.1.1.1.0 s.value s.table_after s.log_after
+    loop-frame M a.staging.now a.first a.table.now a.log.now c.loop-page.invariant c.requires.lengths.0 c.requires.lengths.1 c.next_of-found.result (found) (c.next_of-found.ensures.index_value h) (omega (arith, k, c.next_of-found.ensures.index_value h, c.requires.marks_len.0)) c.store_frame-wal.auto.table c.store_frame-wal.auto.log s.value s.table_after s.log_after
 
 pub shape_of-table : goal.shape_of-table
 shape_of-table c = c.loop-page.invariant.table

@@ -14,7 +14,7 @@ loop-i-init c =
     let t = a.table.now in
     let l = a.log.now in
     let m = a.main.now in
-    (c.min-end.ensures, (omega arith, (omega arith, (count_none a.t1 g t l m, marks-none a.t1 g t l m))))
+    (c.min-end.ensures, (omega arith, (omega arith, (count_none a.staged g t l m, marks-none a.staged g t l m))))
 
 pub bounds-staged-i : goal.bounds-staged-i
 bounds-staged-i c = omega arith
@@ -36,7 +36,7 @@ loop-i-smaller c = omega arith
 
 pub loop-i-preserved : goal.loop-i-preserved
 loop-i-preserved c =
-    let s = c.args.t1 in
+    let s = c.args.staged in
     let g = c.args.staging.now in
     let t = c.args.table.now in
     let l = c.args.log.now in
@@ -54,7 +54,7 @@ loop-i-preserved c =
 
 pub returns : goal.returns
 returns c =
-    let s = c.args.t1 in
+    let s = c.args.staged in
     let g = c.args.staging.now in
     let t = c.args.table.now in
     let l = c.args.log.now in

@@ -26,7 +26,7 @@ loop-i-smaller c = omega arith
 
 pub loop-i-preserved : goal.loop-i-preserved
 loop-i-preserved c =
-    let s = c.args.t1 in
+    let s = c.args.staged in
     let t = c.args.table.now in
     let i = c.loop-i.i in
     let v = c.loop-i.invariant in
@@ -39,7 +39,7 @@ loop-i-preserved c =
 
 pub returns : goal.returns
 returns c =
-    let s = c.args.t1 in
+    let s = c.args.staged in
     let v = c.loop-i.invariant in
     let z : length s.pages ≡ staged_limit = slots s _ c.well_formed.0 in
     let y : length (staged_pages s) ≡ min s.count staged_limit = length-take s.count s.pages ∙ ap (min s.count) z in

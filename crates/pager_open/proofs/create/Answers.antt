@@ -34,7 +34,7 @@ clear_table-requires c =
     (sizes).table
 
 pub shape_of-main : goal.shape_of-main
-shape_of-main c = c.store_pages.auto.0
+shape_of-main c = c.store_pages.auto.main
 
 pub returns : goal.returns
 unfolding first_header created_pager empty_wal

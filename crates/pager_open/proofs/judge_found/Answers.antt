@@ -3,7 +3,7 @@ use Rattle.wal.proofs.Opening.{known_behind}
 use Rattle.pager_state.specs.Opening.{opened_answer}
 use Rattle.pager_open.specs.Given.{how_of}
 use Rattle.pager_open.specs.Judging.{opened_with}
-use Rattle.pager_open.proofs.Judged.{found-opens}
+use Rattle.pager_open.proofs.Judged.{found-as, found-opens}
 use Rattle.pager_open.proofs.judge_found.Goals as goal
 
 pub header_by-requires : goal.header_by-requires
@@ -21,4 +21,7 @@ returns-in-Header c =
     c.kept.ensures)
 
 pub returns-in-Refused : goal.returns-in-Refused
-returns-in-Refused c = decided c c.in-Refused.is c.refused.ensures
+returns-in-Refused c =
+    let a = c.args in
+    c.refused.ensures
+    ∙ ap opened_answer (found-as (how_of a.options) a.main_len a.main_header a.file.now c.header_by.ensures c.in-Refused.is)

@@ -1,4 +1,8 @@
-use mathlib.Core.Path.{sym, ◌∙◌}
+use mathlib.Core.Path.{sym, ap, ◌∙◌}
+use Rattle.pager_state.specs.Opening.{found_in, opened_answer}
+use Rattle.pager_open.specs.Given.{how_of}
+use Rattle.pager_open.specs.Judging.{judged_found}
+use Rattle.pager_open.proofs.Judged.{log-judged}
 use Rattle.wal.proofs.Opening.{open-known}
 use Rattle.pager_open.proofs.judge_log.Goals as goal
 
@@ -8,7 +12,13 @@ judge_found-requires c =
     (k.known, k.long, c.requires)
 
 pub returns-in-Opened : goal.returns-in-Opened
-returns-in-Opened c = decided c c.in-Opened.is c.judge_found.ensures
+returns-in-Opened c =
+    let a = c.args in
+    let rest = judged_found (how_of a.options) a.main_len a.main_header (found_in a.options.clean a.file.now) in
+    c.judge_found.ensures ∙ ap opened_answer (log-judged a.file.now rest c.requires c.open.ensures c.in-Opened.is)
 
 pub returns-in-Refused : goal.returns-in-Refused
-returns-in-Refused c = decided c c.in-Refused.is c.refused.ensures
+returns-in-Refused c =
+    let a = c.args in
+    let rest = judged_found (how_of a.options) a.main_len a.main_header (found_in a.options.clean a.file.now) in
+    c.refused.ensures ∙ ap opened_answer (log-judged a.file.now rest c.requires c.open.ensures c.in-Refused.is)

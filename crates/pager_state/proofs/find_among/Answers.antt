@@ -6,4 +6,4 @@ use Rattle.pager_state.proofs.find_among.Goals as goal
 pub returns : goal.returns
 returns c =
     let a = c.args in
-    record { value = c.min.ensures ∙ ap (min a.n) c.find.ensures ∙ sym (find-take a.s.now a.n a.p); s_len = c.find-arg-1.given.0 }
+    record { value = c.min.ensures ∙ ap (min a.n) c.find.ensures ∙ sym (find-take a.s.now a.n a.p); s_len = c.find-arg-1.given }
