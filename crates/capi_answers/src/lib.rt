@@ -1,5 +1,6 @@
 // The answers of the store's calls in numbers: document 01's refusal or 0, what the call gives, and the store after it.
 #![tactic(auto)]
+
 ghost use Rattle.std.specs.Prelude.{◌≡◌};
 ghost use Rattle.capi_answers.specs.Answers.{flag_in, flag_of, reply, refused_as, mode_in, created_as, opened_as, header_as, number_reply, mode_of, mode_as, clock_as, observed_as, page, found_as, place, recovered_as, staged_as, cleared_as, appended_as, commit_begun_as, checkpoint_begun_as, committed_as, written_as, preview_reply, preview_refused, previewed_as, file_number, step_stored, no_step, stepped_as};
 

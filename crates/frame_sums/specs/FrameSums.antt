@@ -6,7 +6,7 @@ use Rattle.le.specs.Le.{field}
 use Rattle.checksum.specs.Checksum.{sum_step}
 use Rattle.frame.specs.Frame.{frame_size, frame_at, checksum_of, intact_at}
 use Rattle.wal.specs.Header.{wal_header_in}
-use Rattle.wal.specs.Recovery.{chunk_at, Recovered, recovered, good_end_of}
+use Rattle.wal.specs.Recovery.{chunk_at, recovered, good_end_of}
 
 -- "for each of .. bytes": the sum s carried over the n bytes that lie in l from `at` on, one after another
 unfoldable pub sum_places : List ℕ → ℕ → ℕ → ℕ → ℕ

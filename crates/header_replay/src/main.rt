@@ -1,7 +1,8 @@
 // Replays the list of main headers (compare/README.md).
 #![tactic(auto)]
+
 use replay_lists::List;
 
-fn main() {
-    replay_lists::run(List::Headers);
+fn main(rt: HostRuntime) {
+    replay_lists::run(&rt, List::Headers);
 }

@@ -8,7 +8,7 @@ use native.Mathlib.Omega.{arith}
 use Rattle.refusal.specs.declared.Refusal.TheVariants as refusal
 use Rattle.refusal.proofs.Judged.{met}
 use Rattle.pager_state.specs.World.{World, busy, with_job}
-use Rattle.pager_state.specs.Stores.{disk_of, stored}
+use Rattle.pager_state.specs.Stores.{disk_of}
 use Rattle.pager_state.specs.Checkpoint.{checkpoint_todo}
 use Rattle.pager_state.specs.Commit.{commit_todo}
 use Rattle.pager_state.specs.Steps.{nothing_to_checkpoint, checkpoint_refusal, checkpoint_count, begin_checkpoint, todo, step_fine, steps, most_steps, on_store, checkpoint_world}

@@ -5,7 +5,6 @@ use mathlib.Core.List.{List, [], ◌∷◌}
 use mathlib.Core.Logic.{◌⊎◌, inl, inr}
 use mathlib.Core.Option.{Option, none, some}
 use Prim.Native.Nat.{ℕ, zero, suc, ◌+◌, ◌-◌, ◌*◌, ◌/◌, ◌%◌, ◌≤◌, ◌<◌}
-use native.Mathlib.Nat.{suc-add}
 use native.Mathlib.Omega.{arith}
 use borrow.Author.Tests.{le-leb, lt-leb, lt-ltb, leb-true, ltb-true, eqb-true, eqb-false, ne_eqb, not-true}
 use lib.Dec.{leb, ltb, eqb}
@@ -22,23 +21,17 @@ use Rattle.header.proofs.Encoding.{length-encode_header}
 use Rattle.wal.specs.Write.{empty_wal, truncated_header}
 use Rattle.pager_state.specs.World.{World, main_area_size, staged_limit, page_limit, count_of, header_of, with_job}
 use Rattle.pager_state.specs.Overlay.{page_from, frame_of, in_log, on_main, log_bytes}
-use Rattle.pager_state.specs.Stores.{File, disk_of, Act, grown, put_file, len_file}
+use Rattle.pager_state.specs.Stores.{File, disk_of, grown, put_file, len_file}
 use Rattle.pager_state.specs.Pages.{pages_from, in_checkpoint_by, in_checkpoint}
-use Rattle.pager_state.specs.Checkpoint.{checkpointed_from, page_stored, main_header_stored, main_length_stored, log_length_stored, checkpointed, pages_todo, checkpoint_todo, checkpoint_advance, pages_advance}
-use Rattle.pager_state.specs.Commit.{commit_todo, commit_advance}
-use Rattle.pager_state.specs.Steps.{nothing_to_checkpoint, checkpoint_refusal, checkpoint_start, checkpoint_begins, checkpoint_count, begin_checkpoint, todo, done, stepped, steps, most_steps, on_store, checkpoint_answer, checkpoint_world}
-use Rattle.pager_state.specs.declared.Job.{Job}
+use Rattle.pager_state.specs.Checkpoint.{checkpointed_from, page_stored, main_header_stored, main_length_stored, log_length_stored, checkpointed}
+use Rattle.pager_state.specs.Steps.{nothing_to_checkpoint, checkpoint_refusal, checkpoint_start, checkpoint_begins, checkpoint_count, begin_checkpoint, most_steps, on_store, checkpoint_answer, checkpoint_world}
 use Rattle.pager_state.specs.declared.Job.TheVariants as job
 use Rattle.pager_state.specs.declared.CheckpointStart.TheVariants as checkpoint
 use Rattle.pager_state.specs.declared.CheckpointAnswer.TheVariants as answer
 use Rattle.pager_state.proofs.Searches.{First, first, pages-none, pages-length}
-use Rattle.pager_state.proofs.Stored.{Lies, AllInside, length-grown, put-lies}
+use Rattle.pager_state.proofs.Stored.{Lies, length-grown, put-lies}
 use Rattle.pager_state.proofs.Entries.{part-before, checkpointed-none}
-use Rattle.pager_state.proofs.Inside.{checkpoint-stores-inside}
 use Rattle.pager_state.proofs.Made.{Fine, ReadyOf, ready-fine}
-use Rattle.pager_state.proofs.Next.{todo-by, advance-by}
-use Rattle.pager_state.proofs.Steps.{step_keeps}
-use Rattle.pager_state.proofs.Runs.{steps-add, idle-stays}
 use Rattle.pager_state.proofs.Begun.{off, begun-checkpoint, checkpoint-ready}
 use Rattle.pager_state.proofs.CheckpointEnd.{Leaves, pages_world, end_world, paged-left, pages-leave, end_is, checkpoint-run}
 use Rattle.history.proofs.Files.{page-other, page-same}

@@ -2,7 +2,7 @@
 use mathlib.Core.Path.{◌≡◌, ◌∙◌}
 use mathlib.Core.List.{List}
 use mathlib.Core.Option.{none}
-use Prim.Native.Nat.{ℕ, ◌+◌, ◌%◌, ◌^◌, ◌≤◌, ◌<◌}
+use Prim.Native.Nat.{ℕ, ◌+◌, ◌≤◌, ◌<◌}
 use native.Mathlib.Omega.{arith}
 use lib.ListN.{length}
 use Rattle.header.specs.declared.DbHeader.{DbHeader}
@@ -12,7 +12,6 @@ use Rattle.pager_state.specs.Commit.{checkpoint_frames}
 use Rattle.pager_state.specs.Steps.{differing, commit_refusal, commit_answer, commit_world}
 use Rattle.pager_state.specs.declared.Job.TheVariants as job
 use Rattle.pager_state.proofs.Searches.{pages-length}
-use Rattle.pager_state.proofs.CheckpointEnd.{pages_world}
 use Rattle.pager_state.proofs.CommitEnd.{committed, committed-is, frames_then, commit-frame-idle, ends-behind, ends-checkpointed}
 use Rattle.history.specs.Guards.{LongerBy, Empty, Ends}
 use Rattle.history.proofs.GuardCheckpoint.{end_empty}

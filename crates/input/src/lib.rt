@@ -1,6 +1,9 @@
 // Reading an input to its end, where a read that fails is told apart from the end.
 #![tactic(auto)]
+
 ghost use Rattle.input.specs.Input.{Within};
+
+use std::io::Read;
 
 #[derive(Clone, Copy)]
 pub enum Input {
@@ -11,20 +14,16 @@ pub enum Input {
 }
 
 // Reads until the buffer is full, the input ends or a read fails.
-pub fn read_full(fd: i32, buf: &mut [u8]) -> Input
+pub fn read_full(reader: &mut impl Read, buf: &mut [u8]) -> Input
     ensures { Within buf.new result }
 {
     let mut done = 0;
     while done < buf.len() {
-        let got = libc::read(fd, &mut buf[done..]);
-        if got < 0 {
-            return Input::Failed;
+        match reader.read(&mut buf[done..]) {
+            Ok(0) => return Input::Bytes(done),
+            Ok(more) => done += more,
+            Err(_) => return Input::Failed,
         }
-        let more = io::count(got, &buf[done..]);
-        if more == 0 {
-            return Input::Bytes(done);
-        }
-        done += more;
     }
     Input::Bytes(done)
 }

@@ -1,6 +1,7 @@
 // The listing of a log: document 01's lines for it, written into a lent buffer.
 // The lines are put one behind the other; each function adds a piece at a place and answers where the next one goes.
 #![tactic(auto)]
+
 ghost use Rattle.std.specs.Prelude.{◌≡◌, ◌+◌, ◌≤◌, length};
 ghost use Rattle.frame.specs.Frame.{frame_at};
 ghost use Rattle.wal.specs.Recovery.{recovered, frame_count_of, wal_of};

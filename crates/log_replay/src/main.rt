@@ -1,7 +1,8 @@
 // Replays the list of logs (compare/README.md).
 #![tactic(auto)]
+
 use replay_lists::List;
 
-fn main() {
-    replay_lists::run(List::Logs);
+fn main(rt: HostRuntime) {
+    replay_lists::run(&rt, List::Logs);
 }

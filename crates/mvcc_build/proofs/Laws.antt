@@ -4,7 +4,7 @@ use mathlib.Core.Bool.{Bool, true, false, not}
 use mathlib.Core.List.{List, [], ◌∷◌, ◌++◌, append_assoc, append-nil}
 use Prim.Native.Nat.{ℕ, zero, suc, ◌+◌, ◌-◌, ◌*◌, ◌/◌, ◌%◌, ◌^◌, ◌≤◌, ◌<◌}
 use native.Mathlib.Omega.{arith}
-use borrow.Author.Tests.{not-false, leb-true, eq-eqb, ne_eqb, ltb-true, le-ltb}
+use borrow.Author.Tests.{leb-true, eq-eqb, ne_eqb, ltb-true, le-ltb}
 use lib.Dec.{leb, eqb, T}
 use lib.Ieee.{Float, nan, inf, fin, eq, is_nan, level, up, down}
 use lib.ListN.{length, take, drop, set, replicate, length-append, length-replicate, replicate-append-replicate}
@@ -34,8 +34,8 @@ use Rattle.mvcc_build.specs.declared.Added.TheVariants.{Done, Refused}
 -- ---- tests
 
 -- what a test that was passed says
-pub within : {r : Bool} (n : ℕ) → r ≡ leb n 4096 → not r ≡ false → n ≤ 4096
-within {r} n e f = leb-true n 4096 (sym e ∙ not-false r f)
+pub within : {r : Bool} (n : ℕ) → r ≡ leb n 4096 → r ≡ true → n ≤ 4096
+within n e f = leb-true n 4096 (sym e ∙ f)
 
 -- ---- signed numbers
 

@@ -9,9 +9,6 @@ use native.Mathlib.Omega.{arith}
 use borrow.Author.Tests.{lt-ltb, le-ltb}
 use lib.ListN.{length, take, drop, get_or, set, length-append}
 use lib.Seq.{take-take}
-use types.Run.{OneOf, miss}
-use denote.Enum.Declared.{tag_of}
-use Rattle.mvcc.specs.contracts.Value.{the_type}
 use Rattle.le.specs.Choice.{pick}
 use Rattle.le.specs.Le.{Bytes, field, put}
 use Rattle.le.proofs.Fields.{part-part, field-one}
@@ -276,14 +273,14 @@ module _ (out : List ℕ) (v : Value) (end : ℕ) {b : Bool} (e : v ≡ value.Bo
   value_none h = rw (e, le-ltb 0 end h)
 
 -- a value that is no bool, as a match tells it
-pub value-other : (out : List ℕ) (v : Value) (end : ℕ) → OneOf (0 ∷ 1 ∷ 2 ∷ 3 ∷ 4 ∷ 6 ∷ []) (tag_of the_type v) → out ≡ fix_value v end out
+pub value-other : (out : List ℕ) (v : Value) (end : ℕ) → ((b : Bool) → v ≡ value.Bool b → ⊥) → out ≡ fix_value v end out
 unfolding fix_value
 value-other out value.Null end k = refl
 value-other out (value.Integer z) end k = refl
 value-other out (value.Real x) end k = refl
 value-other out (value.Nan n) end k = refl
 value-other out (value.Text p) end k = refl
-value-other out (value.Bool b) end k = absurd (miss (0 ∷ 1 ∷ 2 ∷ 3 ∷ 4 ∷ 6 ∷ []) 5 tt k)
+value-other out (value.Bool b) end k = absurd (k b refl)
 value-other out (value.Vector start n) end k = refl
 
 pub column-did : (c : Column) (next : ℕ) (m : List ℕ) {l : List ℕ} → l ≡ fix_value c.value next m → l ≡ column_step c next m

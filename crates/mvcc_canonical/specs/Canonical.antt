@@ -1,5 +1,5 @@
 -- What writing a body's canonical form answers and leaves, and the walk that sets its bools.
-use Rattle.std.specs.Prelude.{◌≡◌, Bool, List, [], ◌∷◌, ℕ, zero, suc, ◌+◌, ◌-◌, ◌≤◌, ◌<◌, leb, ltb, eqb, length, get_or}
+use Rattle.std.specs.Prelude.{◌≡◌, List, [], ◌∷◌, ℕ, zero, suc, ◌+◌, ◌-◌, ◌≤◌, ◌<◌, leb, ltb, eqb, length, get_or}
 use Rattle.std.proofs.Math.Option.{Option}
 use Rattle.mvcc.specs.Batch.{body_size}
 use Rattle.le.specs.Choice.{pick}

@@ -1,6 +1,7 @@
 // A batch's body and a cursor in it, kept together: a thin reader over the plain functions of `mvcc`.
 // Every public function is total.
 #![tactic(auto)]
+
 ghost use Rattle.std.specs.Prelude.{◌≡◌};
 ghost use Rattle.mvcc.specs.Batch.{heading_size};
 ghost use Rattle.mvcc.specs.Fields.{record_answer};

@@ -4,8 +4,6 @@ use mathlib.Core.Bool.{Bool, true, false}
 use mathlib.Core.List.{List, [], ◌∷◌, append-nil}
 use Prim.Native.Nat.{ℕ, suc, ◌+◌, ◌-◌, ◌<◌}
 use native.Mathlib.Omega.{arith}
-use types.Run.{OneOf, miss}
-use denote.Enum.Declared.{tag_of}
 use Rattle.le.specs.Choice.{both}
 use Rattle.le.proofs.Compare.{no_test}
 use Rattle.refusal.specs.declared.Refusal.TheVariants as refusal
@@ -21,17 +19,15 @@ use Rattle.pager_state.proofs.Begun.{not-busy}
 use Rattle.pager_state.proofs.Runs.{idle-stays}
 use Rattle.pager_checkpoint.specs.CheckpointStep.{checkpoint_step_answer, checkpoint_stepped}
 use Rattle.pager_commit.specs.CommitStep.{commit_step_answer, commit_stepped}
+use Rattle.pager_commit.proofs.Step.{NoCommit}
 use Rattle.pager.specs.Jobs.{is_commit_job}
 
 -- ---- which of the two
 
 -- the kinds but Commit
-abbrev others : List ℕ
-others = 0 ∷ 2 ∷ 3 ∷ 4 ∷ 5 ∷ []
-
-pub no-commit : (j : Job) → OneOf others (tag_of J.the_type j) → false ≡ is_commit_job j
+pub no-commit : (j : Job) → NoCommit j → false ≡ is_commit_job j
 no-commit job.Idle k = refl
-no-commit (job.Commit h salt page answer) k = absurd (miss others 1 tt k)
+no-commit (job.Commit h salt page answer) k = absurd (k h salt page answer refl)
 no-commit (job.Checkpoint salt page answer) k = refl
 no-commit (job.MainLength salt answer) k = refl
 no-commit (job.LogLength salt answer) k = refl

@@ -5,8 +5,6 @@ use mathlib.Core.List.{List, [], ◌∷◌}
 use mathlib.Core.Option.{Option, none, some}
 use Prim.Native.Nat.{ℕ, ◌+◌, ◌-◌, ◌≤◌}
 use native.Mathlib.Omega.{arith}
-use types.Run.{OneOf, miss}
-use denote.Enum.Declared.{tag_of}
 use Rattle.le.specs.Choice.{pick, both}
 use Rattle.refusal.specs.Refusal.{accepts, answered}
 use Rattle.refusal.specs.declared.Refusal.{Refusal}
@@ -89,13 +87,10 @@ begun-by none true k = let z : ◌≡◌ {A = ℕ} 0 1 = cc in absurd (omega ari
 begun-by none false k = refl
 begun-by (some r) e k = let z : ◌≡◌ {A = ℕ} 0 1 = cc in absurd (omega arith)
 
--- the places of the answers but Begun
-abbrev others : List ℕ
-others = 1 ∷ 2 ∷ []
-
-others_by : (v : Option Refusal) (e : Bool) → OneOf others (tag_of S.the_type (started v e)) → both (accepts v) (not e) ≡ false
+-- the answers but Begun
+others_by : (v : Option Refusal) (e : Bool) → (started v e ≡ checkpoint.Begun → ⊥) → both (accepts v) (not e) ≡ false
 others_by none true k = refl
-others_by none false k = absurd (miss others 0 tt k)
+others_by none false k = absurd (k refl)
 others_by (some r) e k = refl
 
 module _ (g : List ℕ) (w : World) (salt : ℕ) {b : CheckpointStarted} (k : b ≡ begin_checkpoint g w salt) where
@@ -110,7 +105,7 @@ module _ (g : List ℕ) (w : World) (salt : ℕ) {b : CheckpointStarted} (k : b 
       λ (z : checkpoint_begins g w ≡ true). a ∙ ap (λ (x : CheckpointStarted). answer_of x.pager.job) k ∙ checkpoint-answer g w salt z in
       e ∙ rw checkpoint-is (written-by (checkpoint_refusal g w) (nothing_to_checkpoint w) m (checkpoint_count w) n)
 
-  pub checkpoint-refused : OneOf others (tag_of S.the_type b.answer) → on_store w b.pager ≡ checkpoint_world g w salt
+  pub checkpoint-refused : (b.answer ≡ checkpoint.Begun → ⊥) → on_store w b.pager ≡ checkpoint_world g w salt
   unfolding checkpoint_world begin_checkpoint
   checkpoint-refused o = let n = others_by (checkpoint_refusal g w) (nothing_to_checkpoint w) (rw checkpoint-is at o) in rw (k, n)
 

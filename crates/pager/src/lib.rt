@@ -1,6 +1,7 @@
 // Commit and checkpoint of the store: the next step, and either in one call, its steps run to the end.
 // A step does one store and names it, for a host to carry to the disk. Every public function is total.
 #![tactic(auto)]
+
 ghost use Rattle.std.specs.Prelude.{◌≡◌, true, ◌-◌};
 ghost use Rattle.pager_state.specs.World.{world};
 ghost use Rattle.pager_state.specs.Steps.{answer_of, step_answer, stepped, steps, most_steps, commit_answer, commit_world, checkpoint_answer, checkpoint_world};

@@ -4,7 +4,6 @@ use mathlib.Core.Bool.{Bool, true, false}
 use mathlib.Core.List.{List, [], ◌∷◌}
 use Prim.Native.Nat.{ℕ, suc, ◌+◌, ◌*◌, ◌<◌}
 use native.Mathlib.Numerals.{add-one}
-use types.Run.{OneOf, miss}
 use denote.Enum.Declared.{tag_of}
 use lib.Dec.{leb}
 use lib.ListN.{length}
@@ -172,10 +171,6 @@ module _ (g : List ℕ) (h : DbHeader) (salt answer page : ℕ) (w : World) wher
         inside-step frame-act (checkpoint_todo committed.pager.job committed) commit-frame-next (commit-frame-room ∙ o) (j ∙ commit-frame-told) (committed-through er et el ∙ sym (advance-is [] e))
 
 -- ---- by the job that is part done
-
--- the places of the jobs but a commit's
-abbrev others : List ℕ
-others = 0 ∷ 2 ∷ 3 ∷ 4 ∷ 5 ∷ []
 
 -- the job is no commit's
 abbrev pub NoCommit : Job → Type 0

@@ -1,6 +1,7 @@
 // What a caller adds to the open store between commits: staged pages, and batches in the log.
 // Every public function is total; a refusal changes neither the store nor an area.
 #![tactic(auto)]
+
 ghost use Rattle.std.specs.Prelude.{◌≡◌, not, eqb};
 ghost use Rattle.pager_state.specs.World.{with_wal};
 ghost use Rattle.pager_state.specs.Overlay.{slots};

@@ -2,6 +2,7 @@
 // A list has one case a line, its bytes in hexadecimal digits; an answer is a line of text.
 // Every public function is total: a case or a text that finds no room is cut or left out.
 #![tactic(auto)]
+
 ghost use Rattle.std.specs.Prelude.{◌≡◌, [], ◌∷◌, ◌+◌, ◌<◌, min, max, length, drop, replicate};
 ghost use Rattle.le.specs.Le.{store};
 ghost use Rattle.replay.specs.Cases.{line_of, digit_of, hex_bytes, case_at, Copied, Next};
@@ -10,6 +11,13 @@ ghost use Rattle.replay.specs.Drawn.{next_number, shape_of, drawn, drawn_body};
 
 // Room for the longest list of cases.
 pub const LIST_SIZE: usize = 524_288;
+
+// That room, all zeros. The contract gives the length alone, which lending the array as a slice needs.
+pub fn list_room() -> [u8; LIST_SIZE]
+    ensures { 524288 ≡ length result }
+{
+    [0; LIST_SIZE]
+}
 
 // The place of the end of the line that starts at `at`.
 fn line_end(list: &[u8], at: usize) -> usize
@@ -44,6 +52,7 @@ pub fn next_case(list: &[u8], at: usize) -> usize
 }
 
 // The value of a hexadecimal digit.
+#[tactic(auto, unfolding(crate::specs::Cases::digit_of))]
 fn digit_of(b: u8) -> u8
     ensures { (result ≡ digit_of b) × (result < 16) }
 {
@@ -94,6 +103,7 @@ pub fn fill(out: &mut [u8], b: u8)
 }
 
 // Makes the body of a kind and a seed out of a page's zeros (compare/README.md, checksum_replay).
+#[tactic(auto, unfolding(crate::specs::Drawn::drawn_body))]
 pub fn draw_body(body: &mut [u8], kind: u8, seed: u32)
     ensures { body.new ≡ drawn_body kind seed body.old }
 {
@@ -133,6 +143,7 @@ fn next(x: u32) -> u32
 }
 
 // The body's byte for a number's top byte.
+#[tactic(auto, unfolding(crate::specs::Drawn::shape_of))]
 fn shape(kind: u8, top: u8) -> u8
     ensures { result ≡ shape_of kind top }
 {
@@ -145,6 +156,7 @@ fn shape(kind: u8, top: u8) -> u8
 }
 
 // Adds a text to a line at `at`, and answers where the next one goes.
+#[tactic(auto, unfolding(le::specs::Le::store))]
 pub fn add_text(line: &mut [u8], at: usize, text: &[u8]) -> usize
     ensures value { result ≡ line_end line.old at (length text.now) }
     ensures line_after { line.new ≡ store line.old at text.now }
@@ -157,6 +169,7 @@ pub fn add_text(line: &mut [u8], at: usize, text: &[u8]) -> usize
 }
 
 // Adds a number in decimal digits.
+#[tactic(auto, using(crate::proofs::Lines::spelt))]
 pub fn add_decimal(line: &mut [u8], at: usize, n: u64) -> usize
     ensures { Spelt 10 1 n line.old at line.new result }
 {
@@ -166,6 +179,7 @@ pub fn add_decimal(line: &mut [u8], at: usize, n: u64) -> usize
 }
 
 // Adds a number in hexadecimal digits, `width` of them or more.
+#[tactic(auto, using(crate::proofs::Lines::spelt))]
 pub fn add_hex(line: &mut [u8], at: usize, n: u64, width: usize) -> usize
     ensures { Spelt 16 (min (max width 1) 16) n line.old at line.new result }
 {

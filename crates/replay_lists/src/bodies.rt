@@ -4,70 +4,75 @@ use super::print;
 use mvcc::{BatchDecoded, MvccCommitBatch};
 
 // Makes the body of a case, and answers for it: 0 as it is, 1 cut at every length, 2 with each byte of its front damaged.
-pub fn answer(case: &[u8]) {
+pub fn answer(rt: &impl Print, case: &[u8]) {
     if case.len() < 3 {
-        print::wrong();
+        print::wrong(rt);
         return;
     }
     let len = le::read_u16(case, 1) as usize;
     let front = le::part(case, 3, len);
-    let mut space = io::large_buffer();
+    let mut space = [0u8; 65_536];
     le::write_bytes(&mut space, 0, front);
     match case[0] {
-        0 => report(le::part(&space, 0, len)),
-        1 => report_cuts(le::part(&space, 0, len)),
-        2 => report_damages(&mut space, len, front.len()),
-        _ => print::wrong(),
+        0 => report(rt, le::part(&space, 0, len)),
+        1 => report_cuts(rt, le::part(&space, 0, len)),
+        2 => report_damages(rt, &mut space, len, front.len()),
+        _ => print::wrong(rt),
     }
 }
 
 // Answers for every beginning of a body, the shortest first.
-fn report_cuts(body: &[u8]) {
+fn report_cuts(rt: &impl Print, body: &[u8]) {
     let mut n: usize = 0;
     while n < body.len() {
-        report(le::part(body, 0, n));
+        report(rt, le::part(body, 0, n));
         n += 1;
     }
-    report(body);
+    report(rt, body);
 }
 
 // Answers for a body with one of its first n bytes damaged, each in three ways.
-fn report_damages(space: &mut [u8], len: usize, n: usize) {
+fn report_damages(rt: &impl Print, space: &mut [u8], len: usize, n: usize) {
     let mut i: usize = 0;
     while i < n {
-        report_damaged(space, len, i, 0x01);
-        report_damaged(space, len, i, 0x80);
-        report_damaged(space, len, i, 0xff);
+        report_damaged(rt, space, len, i, 0x01);
+        report_damaged(rt, space, len, i, 0x80);
+        report_damaged(rt, space, len, i, 0xff);
         i += 1;
     }
 }
 
 // Answers for the body with the bits of a mask turned in one byte, which it then has back.
-fn report_damaged(space: &mut [u8], len: usize, i: usize, mask: u8) {
+fn report_damaged(rt: &impl Print, space: &mut [u8], len: usize, i: usize, mask: u8) {
     if i < space.len() {
         let byte = space[i];
         space[i] = byte ^ mask;
-        report(le::part(space, 0, len));
+        report(rt, le::part(space, 0, len));
         space[i] = byte;
     }
 }
 
 // Answers with what decoding a body reports.
-fn report(body: &[u8]) {
+fn report(rt: &impl Print, body: &[u8]) {
     let report = MvccCommitBatch::decode(body);
     let items = report.items;
     let answer = report.answer;
     match answer {
-        BatchDecoded::Batch(batch) => print_report(b"end ", batch.end as u64, items),
-        BatchDecoded::Refused(row) => print_report(b"refused ", refusal::number(row) as u64, items),
+        BatchDecoded::Batch(batch) => print_report(rt, b"end ", batch.end as u64, items),
+        BatchDecoded::Refused(row) => print_report(
+            rt,
+            b"refused ",
+            refusal::number(row) as u64,
+            items,
+        ),
     }
 }
 
-fn print_report(word: &[u8], n: u64, items: usize) {
+fn print_report(rt: &impl Print, word: &[u8], n: u64, items: usize) {
     let mut line = [0u8; 64];
     let told = replay::add_text(&mut line, 0, word);
     let counted = replay::add_decimal(&mut line, told, n);
     let at = replay::add_text(&mut line, counted, b" items ");
     let end = replay::add_decimal(&mut line, at, items as u64);
-    print::line(&mut line, end);
+    print::line(rt, &mut line, end);
 }

@@ -10,14 +10,14 @@ const AT: usize = 32;
 const LOG_SIZE: usize = 4200;
 
 // Stores the frame of a case, and answers what the log then has.
-pub fn answer(case: &[u8]) {
+pub fn answer(rt: &impl Print, case: &[u8]) {
     if case.len() != 17 {
-        print::wrong();
+        print::wrong(rt);
         return;
     }
     let kind = case[12];
     if 5 < kind {
-        print::wrong();
+        print::wrong(rt);
         return;
     }
     let page_num = le::read_u32(case, 0);
@@ -27,21 +27,21 @@ pub fn answer(case: &[u8]) {
     replay::draw_body(&mut body, kind, le::read_u32(case, 13));
     let mut log = [0x5au8; LOG_SIZE];
     match frame::write_frame(&mut log, AT, page_num, count, salt, &body) {
-        Stored::Done => check(&log, page_num, count, salt),
-        Stored::Area => print::wrong(),
+        Stored::Done => check(rt, &log, page_num, count, salt),
+        Stored::Area => print::wrong(rt),
     }
 }
 
 // Answers the checksum, where the log gives the frame back.
-fn check(log: &[u8], page_num: u32, count: u32, salt: u32) {
+fn check(rt: &impl Print, log: &[u8], page_num: u32, count: u32, salt: u32) {
     let h = frame::read_frame_header(log, AT);
     if !frame::is_intact(log, AT, salt) {
-        print::wrong();
+        print::wrong(rt);
         return;
     }
     if h.page_num != page_num || h.commit_page_count != count || h.salt != salt {
-        print::wrong();
+        print::wrong(rt);
         return;
     }
-    print::sum(h.checksum);
+    print::sum(rt, h.checksum);
 }

@@ -4,40 +4,40 @@ use super::print;
 use header::{DbHeader, HeaderDecoded, HeaderEncoded};
 
 // Makes the buffer of a case, and answers what decoding makes of it.
-pub fn answer(case: &[u8]) {
+pub fn answer(rt: &impl Print, case: &[u8]) {
     if case.len() < 3 {
-        print::wrong();
+        print::wrong(rt);
         return;
     }
     let len = le::read_u16(case, 0) as usize;
-    let mut buf = io::large_buffer();
+    let mut buf = [0u8; 65_536];
     replay::fill(&mut buf, case[2]);
     le::write_bytes(&mut buf, 0, le::part(case, 3, case.len()));
     match header::decode_header(le::part(&buf, 0, len)) {
-        HeaderDecoded::Header(h) => accepted(h),
-        HeaderDecoded::Refused(row) => refused(refusal::number(row) as u64),
+        HeaderDecoded::Header(h) => accepted(rt, h),
+        HeaderDecoded::Refused(row) => refused(rt, refusal::number(row) as u64),
     }
 }
 
 // Answers a refusal by document 01's number.
-fn refused(number: u64) {
+fn refused(rt: &impl Print, number: u64) {
     let mut line = [0u8; 32];
     let at = replay::add_text(&mut line, 0, b"refused ");
     let end = replay::add_decimal(&mut line, at, number);
-    print::line(&mut line, end);
+    print::line(rt, &mut line, end);
 }
 
 // Encodes what was decoded, and answers both.
-fn accepted(h: DbHeader) {
+fn accepted(rt: &impl Print, h: DbHeader) {
     let mut page = [0xeeu8; page::PAGE_SIZE];
     match header::encode_header(h, &mut page) {
-        HeaderEncoded::Done => print_header(h, &page),
-        HeaderEncoded::Refused(_) => print::wrong(),
+        HeaderEncoded::Done => print_header(rt, h, &page),
+        HeaderEncoded::Refused(_) => print::wrong(rt),
     }
 }
 
 // Answers a header, the bytes it is encoded in, and how many of those behind are not zero.
-fn print_header(h: DbHeader, page: &[u8]) {
+fn print_header(rt: &impl Print, h: DbHeader, page: &[u8]) {
     let mut line = [0u8; 160];
     let mut at = replay::add_text(&mut line, 0, b"ok ");
     at = add_number(&mut line, at, h.page_count as u64);
@@ -48,7 +48,7 @@ fn print_header(h: DbHeader, page: &[u8]) {
     at = replay::add_text(&mut line, at, b" ");
     let nonzero = count_nonzero(le::part(page, 32, page.len()));
     at = replay::add_decimal(&mut line, at, nonzero as u64);
-    print::line(&mut line, at);
+    print::line(rt, &mut line, at);
 }
 
 // Adds a number and a space.

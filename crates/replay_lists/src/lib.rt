@@ -1,5 +1,6 @@
 // Test support: the lists of cases that the test programs replay, each its own (compare/README.md), and their one main.
 #![tactic(auto)]
+
 mod bodies;
 mod frames;
 mod headers;
@@ -9,6 +10,7 @@ mod sums;
 mod texts;
 
 use input::Input;
+use std::rt::Runtime;
 
 // A list of cases, by what its cases are; beside it the program that replays it.
 #[derive(Clone, Copy)]
@@ -28,61 +30,61 @@ pub enum List {
 }
 
 // Replays a list: reads it from standard input, and answers every case of it on standard output.
-pub fn run(list: List) {
-    let mut space = [0u8; replay::LIST_SIZE];
-    match input::read_full(0, &mut space) {
+pub fn run(rt: &impl Runtime, list: List) {
+    let mut space = replay::list_room();
+    match input::read_full(&mut rt.reader(), &mut space) {
         Input::Bytes(n) => {
-            answer_preamble(list);
-            answer_all(list, le::part(&space, 0, n));
+            answer_preamble(rt, list);
+            answer_all(rt, list, le::part(&space, 0, n));
         }
-        Input::Failed => not_read(list),
+        Input::Failed => not_read(rt, list),
     }
 }
 
 // Says that the list could not be read.
-fn not_read(list: List) {
+fn not_read(rt: &impl Eprint, list: List) {
     match list {
-        List::Bodies => print_error(b"items_replay"),
-        List::Frames => print_error(b"checksum_replay"),
-        List::Headers => print_error(b"header_replay"),
-        List::Logs => print_error(b"log_replay"),
-        List::Sums => print_error(b"sum_replay"),
-        List::Texts => print_error(b"utf8_replay"),
+        List::Bodies => print_error(rt, "items_replay"),
+        List::Frames => print_error(rt, "checksum_replay"),
+        List::Headers => print_error(rt, "header_replay"),
+        List::Logs => print_error(rt, "log_replay"),
+        List::Sums => print_error(rt, "sum_replay"),
+        List::Texts => print_error(rt, "utf8_replay"),
     }
-    print_error(b": reading standard input failed\n");
+    print_error(rt, ": reading standard input failed\n");
 }
 
-fn print_error(text: &[u8]) {
-    io::write_all(2, text);
+fn print_error(rt: &impl Eprint, text: &str) {
+    let _ = rt.eprint(text);
 }
 
 // Answers what no case of the list asks for.
-fn answer_preamble(list: List) {
+fn answer_preamble(rt: &impl Print, list: List) {
     match list {
-        List::Texts => texts::answer_short(),
+        List::Texts => texts::answer_short(rt),
         _ => {}
     }
 }
 
 // Answers every case of the list.
-fn answer_all(list: List, cases: &[u8]) {
+fn answer_all(rt: &impl Print, list: List, cases: &[u8]) {
     let mut at = 0;
     while at < cases.len() {
-        let mut case = io::buffer();
+        let mut case = [0u8; 4_096];
         let n = replay::read_case(cases, at, &mut case);
-        answer(list, le::part(&case, 0, n));
+        answer(rt, list, le::part(&case, 0, n));
         at = replay::next_case(cases, at);
     }
 }
 
 // Answers one case of the list.
-fn answer(list: List, case: &[u8]) {
+fn answer(rt: &impl Print, list: List, case: &[u8]) {
     match list {
-        List::Bodies => bodies::answer(case),
-        List::Frames => frames::answer(case),
-        List::Headers => headers::answer(case),
-        List::Logs => logs::answer(case),
-        List::Sums => sums::answer(case),
-        List::Texts => texts::answer(case),
+        List::Bodies => bodies::answer(rt, case),
+        List::Frames => frames::answer(rt, case),
+        List::Headers => headers::answer(rt, case),
+        List::Logs => logs::answer(rt, case),
+        List::Sums => sums::answer(rt, case),
+        List::Texts => texts::answer(rt, case),
     }
 }

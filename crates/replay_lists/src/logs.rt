@@ -6,13 +6,13 @@ use log_listing::{LISTING_SIZE, Listed};
 use page::PAGE_SIZE;
 
 // Builds the log of a case, and lists it.
-pub fn answer(case: &[u8]) {
-    let mut log = io::large_buffer();
+pub fn answer(rt: &impl Print, case: &[u8]) {
+    let mut log = [0u8; 65_536];
     let len = build(case, &mut log);
     let mut out = [0u8; LISTING_SIZE];
     match log_listing::list_log(le::part(&log, 0, len), &mut out) {
-        Listed::Bytes(end) => print::text(le::part(&out, 0, end)),
-        Listed::Refused(_) => print::wrong(),
+        Listed::Bytes(end) => print::text(rt, le::part(&out, 0, end)),
+        Listed::Refused(_) => print::wrong(rt),
     }
 }
 

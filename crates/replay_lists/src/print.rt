@@ -1,23 +1,23 @@
-// Answers on standard output.
+// Answers on standard output. What cannot be written is lost: the list's other answers still follow.
 
-pub fn text(bytes: &[u8]) {
-    io::write_all(1, bytes);
+pub fn text(rt: &impl Print, bytes: &[u8]) {
+    let _ = rt.write_all(bytes);
 }
 
 // Prints the line that ends at `at`, with its end.
-pub fn line(line: &mut [u8], at: usize) {
+pub fn line(rt: &impl Print, line: &mut [u8], at: usize) {
     let end = replay::end_line(line, at);
-    text(le::part(line, 0, end));
+    text(rt, le::part(line, 0, end));
 }
 
 // Prints a sum in 8 hexadecimal digits.
-pub fn sum(sum: u32) {
+pub fn sum(rt: &impl Print, sum: u32) {
     let mut digits = [0u8; 16];
     let at = replay::add_hex(&mut digits, 0, sum as u64, 8);
-    line(&mut digits, at);
+    line(rt, &mut digits, at);
 }
 
 // Prints the answer that no list has.
-pub fn wrong() {
-    text(b"wrong\n");
+pub fn wrong(rt: &impl Print) {
+    text(rt, b"wrong\n");
 }

@@ -4,29 +4,29 @@ use super::print;
 use page::PAGE_SIZE;
 
 // Draws the body of a case, and answers the sum over its part.
-pub fn answer(case: &[u8]) {
+pub fn answer(rt: &impl Print, case: &[u8]) {
     if case.len() != 13 {
-        print::wrong();
+        print::wrong(rt);
         return;
     }
     let kind = case[4];
     if 5 < kind {
-        print::wrong();
+        print::wrong(rt);
         return;
     }
     let mut body = [0u8; PAGE_SIZE];
     replay::draw_body(&mut body, kind, le::read_u32(case, 5));
     let place = le::read_u16(case, 9) as usize;
     let length = le::read_u16(case, 11) as usize;
-    check(le::part(&body, place, length), le::read_u32(case, 0));
+    check(rt, le::part(&body, place, length), le::read_u32(case, 0));
 }
 
 // Answers the sum in blocks, where the serial one is the same.
-fn check(bytes: &[u8], start: u32) {
+fn check(rt: &impl Print, bytes: &[u8], start: u32) {
     let sum = checksum::sum_over(bytes, start);
     if checksum::sum_serial(bytes, start) != sum {
-        print::wrong();
+        print::wrong(rt);
         return;
     }
-    print::sum(sum);
+    print::sum(rt, sum);
 }

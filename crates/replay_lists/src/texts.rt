@@ -6,38 +6,38 @@ use super::print;
 use text::Utf8;
 
 // Answers one case; 19 is document 01's number for bytes that are no text.
-pub fn answer(case: &[u8]) {
+pub fn answer(rt: &impl Print, case: &[u8]) {
     match text::from_utf8(case) {
-        Utf8::WellFormed(chars) => print_chars(chars),
-        Utf8::IllFormed => print::text(b"refused 19\n"),
+        Utf8::WellFormed(chars) => print_chars(rt, chars),
+        Utf8::IllFormed => print::text(rt, b"refused 19\n"),
     }
 }
 
 // Answers with a text's number.
-fn print_chars(chars: usize) {
+fn print_chars(rt: &impl Print, chars: usize) {
     let mut line = [0u8; 40];
     let at = replay::add_text(&mut line, 0, b"chars ");
     let end = replay::add_decimal(&mut line, at, chars as u64);
-    print::line(&mut line, end);
+    print::line(rt, &mut line, end);
 }
 
 // A line for single bytes, and one for each first byte of two.
-pub fn answer_short() {
-    print_numbers(b"");
+pub fn answer_short(rt: &impl Print) {
+    print_numbers(rt, b"");
     for a in 0..=255 {
         let first = [a];
-        print_numbers(&first);
+        print_numbers(rt, &first);
     }
 }
 
 // Answers with a number for each last byte behind `front`, two of them in each of 128 hexadecimal digits.
-fn print_numbers(front: &[u8]) {
+fn print_numbers(rt: &impl Print, front: &[u8]) {
     let mut line = [0u8; 144];
     let mut at = 0;
     for k in 0..128 {
         at = replay::add_hex(&mut line, at, digit(front, 2 * k), 1);
     }
-    print::line(&mut line, at);
+    print::line(rt, &mut line, at);
 }
 
 // The numbers of two last bytes from `b` on, the first one in the higher bits.

@@ -1,7 +1,8 @@
 // Replays the list of texts (compare/README.md).
 #![tactic(auto)]
+
 use replay_lists::List;
 
-fn main() {
-    replay_lists::run(List::Texts);
+fn main(rt: HostRuntime) {
+    replay_lists::run(&rt, List::Texts);
 }

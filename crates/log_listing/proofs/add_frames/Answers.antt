@@ -1,6 +1,6 @@
 use native.Mathlib.Omega.{arith}
 use mathlib.Core.Path.{sym, ◌∙◌}
-use Prim.Native.Nat.{◌-◌, ◌≤◌, ◌<◌}
+use Prim.Native.Nat.{◌≤◌, ◌<◌}
 use Rattle.log_listing.proofs.Lines.{counted-fits, unreadable-last, lines_start, few-frames, lines-room, lines_more, lines_end}
 use Rattle.wal.specs.Recovery.{recovered, frame_count_of}
 use Rattle.log_listing.proofs.add_frames.Goals as goal

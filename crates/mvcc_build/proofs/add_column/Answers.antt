@@ -71,9 +71,6 @@ overflow_add-result-4 c =
     within _ c.fits.ensures c.if-not-fits.false in
     omega (arith, room)
 
-pub overflow_add-result-5 : goal.overflow_add-result-5
-overflow_add-result-5 c = add-write-u16 c
-
 pub returns : goal.returns
 returns c =
     let a = c.args in

@@ -1,5 +1,4 @@
 -- `mvcc_build::is_full` meets its contract. Assumes nothing.
-use Rattle.mvcc_build.specs.Build.{is_full}
 use Rattle.mvcc_build.proofs.is_full.Goals as goal
 
 pub returns-in-Closed : goal.returns-in-Closed

@@ -2,8 +2,8 @@
 use native.Mathlib.Omega.{arith}
 use mathlib.Core.Path.{◌≡◌, refl, sym, ◌∙◌}
 use Prim.Native.Nat.{suc, ◌+◌, ◌-◌, ◌%◌}
-use lib.ListN.{length, length-set}
-use Rattle.le.specs.Le.{le_bytes, put}
+use lib.ListN.{length-set}
+use Rattle.le.specs.Le.{le_bytes}
 use Rattle.le.proofs.Fields.{le_bytes-mod}
 use Rattle.le.proofs.Stores.{put-none}
 use Rattle.mvcc_build.proofs.Laws.{number_more}

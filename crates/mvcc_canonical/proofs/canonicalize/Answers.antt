@@ -1,8 +1,16 @@
 -- `mvcc_canonical::canonicalize` meets its contract. Assumes nothing.
 use native.Mathlib.Omega.{arith}
-use mathlib.Core.Path.{◌≡◌}
+use mathlib.Core.Path.{◌≡◌, sym, ◌∙◌}
+use mathlib.Core.List.{List}
+use Prim.Native.Nat.{ℕ, ◌-◌, ◌≤◌}
+use lib.ListN.{length, take, replicate}
+use Rattle.le.specs.Le.{Bytes, store}
+use Rattle.mvcc.specs.Decode.{batch_of}
+use Rattle.mvcc.specs.declared.BatchDecoded.{BatchDecoded}
+use Rattle.mvcc.specs.declared.BatchDecoded.TheVariants.{Batch}
+use Rattle.mvcc.specs.declared.MvccCommitBatch.{MvccCommitBatch}
 use Rattle.mvcc.proofs.Parts.{report-answer}
-use Rattle.mvcc_canonical.proofs.Whole.{Copy, count-is, end_is, fits, walk, copied, whole, copy_is, way_out, way_long, way-refused, way-done}
+use Rattle.mvcc_canonical.proofs.Whole.{Decoded, Copy, count-is, end_is, fits, walk, copied, whole, copy_is, way_out, way_long, way-refused, way-done}
 use Rattle.mvcc_canonical.proofs.canonicalize.Goals as goal
 
 pub returns-then-out-ne-BATCH_BODY_SIZE : goal.returns-then-out-ne-BATCH_BODY_SIZE
@@ -21,45 +29,53 @@ returns-in_default c =
     let both = way-refused a.body.now a.out.now c.if-out-ne-BATCH_BODY_SIZE.false c.if-body-gt-BATCH_BODY_SIZE.false (report-answer a.body.now c.decode-d.ensures.value) c.in_default.is c.canonical_answer.ensures in
     record { value = both.0; out_after = both.1 }
 
+-- the body, once it is decoded
+known : (s : List ℕ) {d : BatchDecoded} {b : MvccCommitBatch} → Bytes s → length s ≤ 4096 → d ≡ batch_of s → d ≡ Batch b → Decoded s b
+known s sb m e f = record { bytes = sb; small = m; is = sym e ∙ f }
+
 pub overflow_sub-end : goal.overflow_sub-end
 overflow_sub-end c =
     let s = c.args.body.now in
-    let f = fits s (known c) in
-    let h = (known c).small in
-    rw (end_is s (known c)) (omega arith)
+    let k = known s (λ i. (c.type_inv.body i).fits) c.if-body-gt-BATCH_BODY_SIZE.false (report-answer s c.decode-d.ensures.value) c.in-Batch.is in
+    let f = fits s k in
+    let h = k.small in
+    rw (end_is s k) (omega arith)
 
 pub top_bool-requires : goal.top_bool-requires
 top_bool-requires c =
     let s = c.args.body.now in
-    rw (end_is s (known c)) (fits s (known c))
+    let k = known s (λ i. (c.type_inv.body i).fits) c.if-body-gt-BATCH_BODY_SIZE.false (report-answer s c.decode-d.ensures.value) c.in-Batch.is in
+    rw (end_is s k) (fits s k)
+
+-- what both stores leave
+laid : (s : List ℕ) {b : MvccCommitBatch} (k : Decoded s b) (out : List ℕ) {p c1 c2 : List ℕ} → length out ≡ 4096 → p ≡ take b.end s → c1 ≡ store out 0 p
+    → c2 ≡ store c1 b.end (replicate (4096 - b.end) 0) → c2 ≡ Copy s k
+laid s k out full ep e1 e2 =
+    let e = end_is s k in
+    copied s k out full (rw (ep, e) at e1) (rw e at e2)
 
 pub returns-then-top_bool-le1 : goal.returns-then-top_bool-le1
 returns-then-top_bool-le1 c =
-    let laid : c.write_zeros.new.buf ≡ Copy c.args.body.now (known) =
-    let s = c.args.body.now in
-    let e = end_is s (known) in
-    let c1 = rw (c.part.ensures, e) at c.write_bytes.ensures.1 in
-    let c2 = rw e at c.write_zeros.ensures.1 in
-    copied s (known) c.args.out.now c.if-out-ne-BATCH_BODY_SIZE.false c1 c2 in
     let a = c.args in
     let s = a.body.now in
-    let both = way-done s a.out.now c.if-out-ne-BATCH_BODY_SIZE.false (known c) (copy_is s (known c) (laid) c.top_bool.ensures c.if-top_bool-le1.true) in
+    let full = c.if-out-ne-BATCH_BODY_SIZE.false in
+    let k = known s (λ i. (c.type_inv.body i).fits) c.if-body-gt-BATCH_BODY_SIZE.false (report-answer s c.decode-d.ensures.value) c.in-Batch.is in
+    let l = laid s k a.out.now full c.part.ensures c.write_bytes.ensures.1 c.write_zeros.ensures.1 in
+    let both = way-done s a.out.now full k (copy_is s k l c.top_bool.ensures c.if-top_bool-le1.true) in
     record { value = both.0; out_after = both.1 }
 
 pub fix_records-requires : goal.fix_records-requires
 fix_records-requires c =
     let s = c.args.body.now in
-    rw (count-is s (known c)) (walk s (known c))
+    let k = known s (λ i. (c.type_inv.body i).fits) c.if-body-gt-BATCH_BODY_SIZE.false (report-answer s c.decode-d.ensures.value) c.in-Batch.is in
+    rw (count-is s k) (walk s k)
 
 pub returns : goal.returns
 returns c =
-    let laid : c.write_zeros.new.buf ≡ Copy c.args.body.now (known) =
-    let s = c.args.body.now in
-    let e = end_is s (known) in
-    let c1 = rw (c.part.ensures, e) at c.write_bytes.ensures.1 in
-    let c2 = rw e at c.write_zeros.ensures.1 in
-    copied s (known) c.args.out.now c.if-out-ne-BATCH_BODY_SIZE.false c1 c2 in
     let a = c.args in
     let s = a.body.now in
-    let both = way-done s a.out.now c.if-out-ne-BATCH_BODY_SIZE.false (known c) (whole s (known c) (rw (count-is s (known c), laid) at c.fix_records.ensures)) in
+    let full = c.if-out-ne-BATCH_BODY_SIZE.false in
+    let k = known s (λ i. (c.type_inv.body i).fits) c.if-body-gt-BATCH_BODY_SIZE.false (report-answer s c.decode-d.ensures.value) c.in-Batch.is in
+    let l = laid s k a.out.now full c.part.ensures c.write_bytes.ensures.1 c.write_zeros.ensures.1 in
+    let both = way-done s a.out.now full k (whole s k (rw (count-is s k, l) at c.fix_records.ensures)) in
     record { value = both.0; out_after = both.1 }

@@ -32,9 +32,8 @@ loop-left-preserved c =
 pub shape_of-out : goal.shape_of-out
 shape_of-out c = c.loop-left.invariant.1.1
 
--- by hand
-returns-2 : tie.Need-returns-2 invariant-loop decreases-loop
-returns-2 c = (
-  sym (end-done (column_at c.before.before.before.before.args.body.now) column_step c.before.loop.left c.before.loop.at c.loop-test.false) ∙ c.before.loop.invariant.0,
-  sym (fix-done (column_at c.before.before.before.before.args.body.now) column_step c.before.loop.left c.before.loop.at c.before.loop.out c.loop-test.false) ∙ c.before.loop.invariant.1.0,
-)
+pub returns : goal.returns
+returns c = record {
+  value = sym (end-done (column_at c.args.body.now) column_step c.loop-left.left c.loop-left.at c.loop-left-test.false) ∙ c.loop-left.invariant.0;
+  out_after = sym (fix-done (column_at c.args.body.now) column_step c.loop-left.left c.loop-left.at c.loop-left.out c.loop-left-test.false) ∙ c.loop-left.invariant.1.0;
+}

@@ -1,6 +1,5 @@
 -- `mvcc_canonical::fix_columns` meets its contract. Assumes nothing.
 use mathlib.Core.Path.{◌≡◌}
-use Prim.Native.Nat.{◌-◌}
 use lib.ListN.{length}
 use Rattle.mvcc.specs.Decode.{column_at}
 use Rattle.mvcc.specs.Answer.{many}

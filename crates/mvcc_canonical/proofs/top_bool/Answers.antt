@@ -1,6 +1,5 @@
 -- `mvcc_canonical::top_bool` meets its contract. Assumes nothing.
 use native.Mathlib.Omega.{arith}
-use Prim.Native.Nat.{◌-◌}
 use Rattle.mvcc_canonical.proofs.Bools.{bools-on, bools-less}
 use Rattle.mvcc_canonical.proofs.top_bool.Goals as goal
 

@@ -8,7 +8,7 @@ returns-in_default c =
     let g = c.args.staging.now in
     let w = world c.args.pager c.args.table.now c.args.log.now c.args.main.now in
     let k = c.begin_checkpoint-begun.ensures in
-    record { answer_value = checkpoint-told g w c.args.salt k c.answer_of.ensures c.written_as-answer.ensures; later_after = checkpoint-refused g w c.args.salt k c.in_default.keys2 }
+    record { answer_value = checkpoint-told g w c.args.salt k c.answer_of.ensures c.written_as-answer.ensures; later_after = checkpoint-refused g w c.args.salt k c.in_default.not-Begun }
 
 pub returns : goal.returns
 returns c =

@@ -34,10 +34,10 @@ overflow_add-run c =
     omega (arith, pages-few c.args.staging.now w c.args.new_header c.args.salt e.answer_value e.pages_value e.later_after)
 
 pub shape_of-table : goal.shape_of-table
-shape_of-table c = c.run_steps-end.auto.1.1.0 ∙ c.commit_frames-run.auto.1.0
+shape_of-table c = c.run_steps-end.auto.table ∙ c.commit_frames-run.auto.table
 
 pub shape_of-log : goal.shape_of-log
-shape_of-log c = c.run_steps-end.auto.1.1.1.0 ∙ c.commit_frames-run.auto.1.1.0
+shape_of-log c = c.run_steps-end.auto.log ∙ c.commit_frames-run.auto.log
 
 pub returns : goal.returns
 returns c =

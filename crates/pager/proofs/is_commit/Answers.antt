@@ -7,4 +7,4 @@ pub returns-in-Commit : goal.returns-in-Commit
 returns-in-Commit c = sym (ap is_commit_job c.in-Commit.is)
 
 pub returns-in_default : goal.returns-in_default
-returns-in_default c = no-commit c.args.job c.in_default.keys2
+returns-in_default c = no-commit c.args.job c.in_default.not-Commit

@@ -3,13 +3,13 @@ use mathlib.Core.Bool.{true}
 use Prim.Native.Nat.{◌-◌}
 use Rattle.pager_state.specs.World.{world, fine}
 use Rattle.pager_state.specs.Steps.{step_fine}
-use Rattle.pager.proofs.Steps.{no_step, by-commit, by-checkpoint}
+use Rattle.pager.proofs.Steps.{no-step, by-commit, by-checkpoint}
 use Rattle.pager.proofs.next_step.Goals as goal
 
 pub returns-then-not-are_fine : goal.returns-then-not-are_fine
 unfolding fine
 returns-then-not-are_fine c =
-    let both = no_step c.args.staging.now (world c.args.pager c.args.table.now c.args.log.now c.args.main.now) (sym c.are_fine.ensures ∙ c.if-not-are_fine.true) in
+    let both = no-step c.args.staging.now (world c.args.pager c.args.table.now c.args.log.now c.args.main.now) (sym c.are_fine.ensures ∙ c.if-not-are_fine.true) in
     record { answer_value = both.0; later_after = both.1 }
 
 pub returns-then-is_commit : goal.returns-then-is_commit

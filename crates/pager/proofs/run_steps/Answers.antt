@@ -36,10 +36,10 @@ loop-k-preserved c =
     let v : World = world c.loop-k.p c.loop-k.table c.loop-k.log c.loop-k.main in
     let t = c.loop-k-test.true in
     let r = c.next_step-r in (
-      r.auto.1.0 ∙ c.loop-k.invariant.0,
+      r.auto.table ∙ c.loop-k.invariant.0,
       (
-        r.auto.1.1.0 ∙ c.loop-k.invariant.1.0,
-        (r.auto.1.1.1.0 ∙ c.loop-k.invariant.1.1.0, c.loop-k.invariant.1.1.1 ∙ one_more g c.loop-k.k v _ t r.ensures.later_after),
+        r.auto.log ∙ c.loop-k.invariant.1.0,
+        (r.auto.main ∙ c.loop-k.invariant.1.1.0, c.loop-k.invariant.1.1.1 ∙ one_more g c.loop-k.k v _ t r.ensures.later_after),
       ),
     )
 

@@ -8,7 +8,8 @@ end_of-requires c =
     let a = c.args in
     let w = world a.pager a.table.now a.log.now a.main.now in
     let j = c.judge-judged.ensures in
-    begun-fits c.args.staging.now w c.args.new_header (j.answer_value, j.pages_value) c.in-Begun.is
+    let fits = begun-fits c.args.staging.now w c.args.new_header (j.answer_value, j.pages_value) c.in-Begun.is in
+    record { pages_bound = fits.0; page_count_le_page_limit = fits.1 }
 
 pub returns-in-Begun : goal.returns-in-Begun
 returns-in-Begun c =

@@ -1,12 +1,10 @@
-use mathlib.Core.Path.{◌≡◌}
-use Prim.Native.Nat.{◌-◌, ◌≤◌}
-use lib.ListN.{length, take}
-use Rattle.replay.specs.Cases.{hex_bytes}
+use Rattle.std.proofs.Common.{◌≡◌, ◌-◌, ◌≤◌, take}
 use Rattle.le.specs.Le.{put}
+use Rattle.replay.specs.Cases.{hex_bytes}
 use Rattle.replay.proofs.decode.Given as goal
 
 abbrev pub invariant-loop-i : goal.invariant-loop-i
-invariant-loop-i l = (l.i ≤ l.n) × (l.out ≡ put l.initial.out 0 (take l.i (hex_bytes l.line))) × (length l.out ≡ length l.initial.out)
+invariant-loop-i l = (l.i ≤ l.n) × (l.out ≡ put l.fn.out 0 (take l.i (hex_bytes l.line)))
 
 abbrev pub decreases-loop-i : goal.decreases-loop-i
 decreases-loop-i l = l.n - l.i
