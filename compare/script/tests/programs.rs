@@ -20,10 +20,10 @@ const PROGRAMS: [&[&str]; 9] = [
     &["log_replay"],
 ];
 
-/// Where `rt check` leaves a program.
+/// Where `rt run` leaves a program.
 fn path(name: &str) -> String {
-    let path = format!("{}/../../target/bin/{name}", env!("CARGO_MANIFEST_DIR"));
-    assert!(Path::new(&path).is_file(), "rt check {name} makes {path}");
+    let path = format!("{}/../../crates/{name}/out/{name}", env!("CARGO_MANIFEST_DIR"));
+    assert!(Path::new(&path).is_file(), "rt run in crates/{name} makes {path}");
     path
 }
 

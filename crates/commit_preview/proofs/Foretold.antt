@@ -1,6 +1,6 @@
 -- A preview of a commit, and the run behind that commit. Assumes nothing.
 use mathlib.Core.Path.{◌≡◌, refl, sym, ap, ◌∙◌}
-use mathlib.Core.Bool.{Bool, true, false}
+use mathlib.Core.Bool.{false}
 use mathlib.Core.List.{List, [], ◌++◌}
 use mathlib.Core.Logic.{◌⊎◌, inl, inr}
 use mathlib.Core.Option.{Option, none, some}
@@ -24,9 +24,8 @@ use Rattle.pager_preview.specs.Preview.{preview_commit}
 use Rattle.pager_preview.specs.Closed.{frames_after, end_of}
 use Rattle.pager_preview.specs.declared.Preview.{Preview}
 use Rattle.pager_preview.proofs.Closed.{seen_end, closed, refused}
-use Rattle.history.specs.Calls.{Query, Ask, Commit, refused_by, stores_of, world_after}
-use Rattle.history.specs.Model.{model_stores}
-use Rattle.history.specs.Run.{Run, kept_after, whole}
+use Rattle.history.specs.Calls.{Commit, refused_by, world_after}
+use Rattle.history.specs.Run.{Run, whole}
 use Rattle.history.specs.Guards.{Accepted}
 use Rattle.history.proofs.Refused.{refused-stays}
 use Rattle.history.proofs.GuardModel.{world-after, commit-batches, commit-drops}

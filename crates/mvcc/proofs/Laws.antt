@@ -23,7 +23,6 @@ use Rattle.refusal.specs.declared.Refusal.{Refusal}
 use Rattle.refusal.specs.declared.Refusal.TheVariants.{Short, Magic, Truncated, Text}
 use Rattle.mvcc.specs.Answer.{Answer, taken, refused, then, many, why}
 use Rattle.mvcc.specs.Decode.{fits_in, num_at, text_of, text_at, signed, record_at, batch_magic, records_at, batch_end, heading_refusal, batch_of}
-use Rattle.mvcc.specs.declared.VersionPayload.TheVariants as payload
 use Rattle.mvcc.specs.declared.TextPlace.{TextPlace}
 use Rattle.mvcc.specs.declared.MvccLogRecord.{MvccLogRecord}
 use Rattle.mvcc.specs.declared.BatchDecoded.TheVariants as batch

@@ -1,7 +1,7 @@
 -- A step of a commit or of a checkpoint is the step; what the loop over steps keeps.
 use mathlib.Core.Path.{◌≡◌, refl, sym}
 use mathlib.Core.Bool.{Bool, true, false}
-use mathlib.Core.List.{List, [], ◌∷◌, append-nil}
+use mathlib.Core.List.{List, [], append-nil}
 use Prim.Native.Nat.{ℕ, suc, ◌+◌, ◌-◌, ◌<◌}
 use native.Mathlib.Omega.{arith}
 use Rattle.le.specs.Choice.{both}
@@ -14,7 +14,6 @@ use Rattle.pager_state.specs.Steps.{step_fine, todo, advance, step_answer, stepp
 use Rattle.pager_state.specs.declared.Job.{Job}
 use Rattle.pager_state.specs.declared.Job.TheVariants as job
 use Rattle.pager_state.specs.declared.StepAnswer.TheVariants as step
-use Rattle.pager_state.specs.contracts.Job as J
 use Rattle.pager_state.proofs.Begun.{not-busy}
 use Rattle.pager_state.proofs.Runs.{idle-stays}
 use Rattle.pager_checkpoint.specs.CheckpointStep.{checkpoint_step_answer, checkpoint_stepped}

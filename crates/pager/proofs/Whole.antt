@@ -1,7 +1,7 @@
 -- A commit or checkpoint in one call: what its start comes to, refused or run to the end. Assumes nothing.
 use mathlib.Core.Path.{◌≡◌, refl, sym, ap, ◌∙◌}
 use mathlib.Core.Bool.{Bool, true, false, not}
-use mathlib.Core.List.{List, [], ◌∷◌}
+use mathlib.Core.List.{List}
 use mathlib.Core.Option.{Option, none, some}
 use Prim.Native.Nat.{ℕ, ◌+◌, ◌-◌, ◌≤◌}
 use native.Mathlib.Omega.{arith}
@@ -21,7 +21,6 @@ use Rattle.pager_state.specs.declared.CheckpointStart.TheVariants as checkpoint
 use Rattle.pager_state.specs.declared.CheckpointStarted.{CheckpointStarted}
 use Rattle.pager_state.specs.declared.CheckpointAnswer.{CheckpointAnswer}
 use Rattle.pager_state.specs.declared.CheckpointAnswer.TheVariants as written
-use Rattle.pager_state.specs.contracts.CheckpointStart as S
 use Rattle.pager_state.proofs.Searches.{pages-length}
 use Rattle.pager_state.proofs.Runs.{steps-add}
 use Rattle.pager_state.proofs.Answers.{checkpoint-answer}

@@ -4,7 +4,6 @@ use mathlib.Core.Bool.{Bool, true, false}
 use mathlib.Core.List.{List, [], ◌∷◌}
 use Prim.Native.Nat.{ℕ, suc, ◌+◌, ◌*◌, ◌<◌}
 use native.Mathlib.Numerals.{add-one}
-use denote.Enum.Declared.{tag_of}
 use lib.Dec.{leb}
 use lib.ListN.{length}
 use Rattle.le.specs.Choice.{pick}
@@ -28,7 +27,6 @@ use Rattle.pager_state.specs.declared.Pager.{Pager}
 use Rattle.pager_state.specs.declared.Place.{Place}
 use Rattle.pager_state.specs.declared.StepAnswer.{StepAnswer}
 use Rattle.pager_state.specs.declared.StepAnswer.TheVariants as step
-use Rattle.pager_state.specs.contracts.Job as J
 use Rattle.pager_state.proofs.Stored.{put-end}
 use Rattle.pager_differing.specs.declared.Slot.{Slot}
 use Rattle.pager_commit.specs.CommitStep.{commit_step_answer, commit_stepped}

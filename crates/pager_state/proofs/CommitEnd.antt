@@ -8,11 +8,10 @@ use native.Mathlib.Nat.{suc-add}
 use native.Mathlib.Omega.{arith}
 use borrow.Author.Tests.{le-leb, lt-leb}
 use lib.ListN.{length}
-use Rattle.page.specs.Page.{page_size}
 use Rattle.header.specs.declared.DbHeader.{DbHeader}
 use Rattle.frame.specs.Frame.{frame_size}
 use Rattle.wal.specs.Write.{longer}
-use Rattle.pager_state.specs.World.{World, staged_limit, count_of, header_of, with_job}
+use Rattle.pager_state.specs.World.{World, staged_limit, header_of, with_job}
 use Rattle.pager_state.specs.Overlay.{is_staged, committed_in}
 use Rattle.pager_state.specs.Stores.{Act}
 use Rattle.pager_state.specs.Pages.{pages_from, differs_in, differs, in_checkpoint}

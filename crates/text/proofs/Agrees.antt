@@ -6,13 +6,13 @@ use mathlib.Core.Bool.{Bool, true, false, ◌&&◌, ◌||◌, and-eq-true_iff, f
 use mathlib.Core.Logic.{◌⊎◌, inl, inr, ⊎_elim}
 use native.Mathlib.Numerals.{sub-one}
 use native.Mathlib.Omega.{arith}
-use borrow.Author.Tests.{lt-ltb, le-ltb, le-leb, lt-leb, leb-true, ltb-true}
+use borrow.Author.Tests.{le-leb, lt-leb, leb-true, ltb-true}
 use lib.Dec.{leb, ltb}
 use lib.ListN.{length, drop}
 use Rattle.le.specs.Choice.{pick}
 use Rattle.le.proofs.Tests.{le-or-lt}
 use Rattle.text.specs.Utf8.{continues, pair, two, three, four, size, then_byte, formed_behind, well_formed, chars_behind, chars}
-use Rattle.text.specs.Table.{In, Sequence, row1, row2, row3, row4, row5, row6, row7, row8, row9, Sequences, none, more}
+use Rattle.text.specs.Table.{In, row1, row2, row3, row4, row5, row6, row7, row8, row9, Sequences, none, more}
 use Rattle.text.specs.Agrees.{outside, Agrees}
 use Rattle.text.proofs.Sequences.{Scalar, is-two, is-three, is-four}
 use Rattle.text.proofs.Laws.{behind, found, full, size-one, size-two, size-three, size-four}

@@ -1,4 +1,4 @@
-use Rattle.std.proofs.Common.{◌-◌, ◌<◌, ◌≤◌, length, take, refl, arith, length-drop, length-take}
+use Rattle.std.proofs.Common.{◌-◌, ◌<◌, ◌≤◌, length, refl, arith, length-drop, length-take}
 use Rattle.checksum.specs.Checksum.{sum_from}
 use Rattle.checksum.proofs.Sums.{sum_from-front, sum_from-rest}
 use Rattle.checksum.proofs.sum_over.Goals as goal

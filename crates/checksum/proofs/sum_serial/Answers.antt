@@ -1,4 +1,4 @@
-use Rattle.std.proofs.Common.{◌-◌, ◌<◌, ◌≤◌, length, refl, arith, take_all}
+use Rattle.std.proofs.Common.{◌<◌, ◌≤◌, length, refl, arith, take_all}
 use Rattle.checksum.specs.Checksum.{sum_from}
 use Rattle.checksum.proofs.Sums.{sum_from-more}
 use Rattle.checksum.proofs.sum_serial.Goals as goal

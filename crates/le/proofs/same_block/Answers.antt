@@ -1,8 +1,6 @@
 use mathlib.Core.Path.{◌≡◌, ◌∙◌}
-use Prim.Native.Nat.{◌-◌}
 use native.Mathlib.Nat.{add-zero}
 use native.Mathlib.Omega.{arith}
-use Rattle.le.specs.Choice.{both}
 use Rattle.le.specs.Le.{Bytes}
 use Rattle.le.proofs.Compare.{same_more}
 use Rattle.le.proofs.same_block.Goals as goal

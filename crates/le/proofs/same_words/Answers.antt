@@ -1,5 +1,4 @@
 use mathlib.Core.Path.{refl, sym, ◌∙◌}
-use Prim.Native.Nat.{◌-◌}
 use native.Mathlib.Omega.{arith}
 use Rattle.le.specs.Le.{Bytes}
 use Rattle.le.proofs.Compare.{same-on, same-off}

@@ -1,7 +1,5 @@
 use mathlib.Core.Path.{refl}
-use Prim.Native.Nat.{◌-◌}
 use native.Mathlib.Omega.{arith}
-use Rattle.mvcc.specs.Answer.{many}
 use Rattle.mvcc.specs.Fields.{num_answer, column_answer}
 use Rattle.mvcc.specs.Decode.{column_at}
 use Rattle.mvcc.specs.Items.{present_items}

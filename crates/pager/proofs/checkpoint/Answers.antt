@@ -1,4 +1,3 @@
-use Prim.Native.Nat.{◌-◌}
 use Rattle.pager_state.specs.World.{world}
 use Rattle.pager.proofs.Whole.{checkpoint-told, checkpoint-refused, checkpoint-run}
 use Rattle.pager.proofs.checkpoint.Goals as goal

@@ -1,6 +1,5 @@
 use mathlib.Core.Path.{◌≡◌, sym, ◌∙◌}
 use mathlib.Core.Bool.{true}
-use Prim.Native.Nat.{◌-◌}
 use Rattle.pager_state.specs.World.{world, fine}
 use Rattle.pager_state.specs.Steps.{step_fine}
 use Rattle.pager.proofs.Steps.{no-step, by-commit, by-checkpoint}

@@ -1,6 +1,5 @@
 use mathlib.Core.Path.{◌≡◌, sym, ◌∙◌}
 use mathlib.Core.Bool.{true}
-use Prim.Native.Nat.{◌-◌}
 use Rattle.pager_state.specs.World.{world, fine}
 use Rattle.pager_state.specs.Steps.{step_fine, nothing_to_checkpoint}
 use Rattle.pager_checkpoint.proofs.Checkpointing.{start_area, start-busy, start-read-only, start-nothing, start-begun}

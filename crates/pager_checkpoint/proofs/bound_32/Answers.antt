@@ -1,4 +1,3 @@
-use Prim.Native.Nat.{◌-◌}
 use native.Mathlib.Omega.{arith}
 use Rattle.pager_checkpoint.proofs.Blocks.{bound-more}
 use Rattle.pager_checkpoint.proofs.bound_32.Goals as goal

@@ -1,7 +1,6 @@
 use native.Mathlib.Omega.{arith}
 use mathlib.Core.Path.{◌≡◌, refl, ◌∙◌}
-use Prim.Native.Nat.{◌-◌}
-use lib.ListN.{length, set, length-set}
+use lib.ListN.{set, length-set}
 use Rattle.pager_checkpoint.proofs.Table.{first-checkpointed, first_any, entry-checkpointed}
 use Rattle.pager_checkpoint.proofs.checkpoint_front.Goals as goal
 

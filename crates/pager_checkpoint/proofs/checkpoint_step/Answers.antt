@@ -1,7 +1,6 @@
 use native.Mathlib.Omega.{arith}
 use mathlib.Core.Path.{◌≡◌, sym, ◌∙◌}
 use mathlib.Core.Bool.{true}
-use Prim.Native.Nat.{◌-◌}
 use Rattle.pager_state.specs.World.{world, fine}
 use Rattle.pager_state.proofs.Made.{fine-parts}
 use Rattle.pager_checkpoint.proofs.Checkpointing.{not-fine, at-idle, at-commit, at-checkpoint, at_length, at-empty, at_last}

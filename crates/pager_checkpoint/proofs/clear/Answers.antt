@@ -1,9 +1,7 @@
 use native.Mathlib.Omega.{arith}
 use mathlib.Core.Path.{◌≡◌, refl, sym}
-use Prim.Native.Nat.{◌-◌}
-use lib.ListN.{length, length-set}
+use lib.ListN.{length-set}
 use Rattle.le.proofs.Stores.{put-none, put-zero}
-use Rattle.le.specs.Le.{put}
 use Rattle.pager_checkpoint.proofs.clear.Goals as goal
 
 pub loop-i-init : goal.loop-i-init

@@ -1,6 +1,5 @@
 use native.Mathlib.Omega.{arith}
 use mathlib.Core.Path.{ap, ◌∙◌}
-use Prim.Native.Nat.{◌-◌}
 use lib.ListN.{length}
 use Rattle.pager_state.specs.Pages.{in_checkpoint_by}
 use Rattle.pager_state.proofs.Walks.{tally-step}

@@ -1,4 +1,3 @@
-use Prim.Native.Nat.{◌-◌}
 use Rattle.pager_checkpoint.proofs.Areas.{grow-none, grow-more}
 use Rattle.pager_checkpoint.proofs.grow.Goals as goal
 

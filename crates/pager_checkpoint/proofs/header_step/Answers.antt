@@ -1,5 +1,4 @@
 use mathlib.Core.Path.{◌∙◌}
-use Prim.Native.Nat.{◌-◌}
 use Rattle.header.proofs.Encoding.{length-encode_header}
 use Rattle.pager_checkpoint.proofs.header_step.Goals as goal
 

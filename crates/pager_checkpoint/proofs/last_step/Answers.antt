@@ -1,6 +1,6 @@
 use native.Mathlib.Omega.{arith}
 use mathlib.Core.Path.{◌≡◌, ◌∙◌}
-use Prim.Native.Nat.{ℕ, ◌-◌}
+use Prim.Native.Nat.{ℕ}
 use Rattle.wal.specs.Write.{empty_wal, truncated_header}
 use Rattle.wal.proofs.Encoding.{length-encode_wal_header}
 use Rattle.pager_checkpoint.proofs.Checkpointing.{truncated-as, truncated-log}

@@ -1,4 +1,3 @@
-use Prim.Native.Nat.{◌-◌}
 use native.Mathlib.Omega.{arith}
 use Rattle.pager_checkpoint.proofs.Blocks.{low-more}
 use Rattle.pager_checkpoint.proofs.look_from.Goals as goal

@@ -1,7 +1,6 @@
 use native.Mathlib.Omega.{arith}
 use native.Mathlib.Numerals.{add-one}
 use mathlib.Core.Path.{sym, ap, ◌∙◌}
-use Prim.Native.Nat.{◌-◌}
 use Rattle.pager_state.specs.Pages.{pages_from, first_of}
 use Rattle.pager_state.specs.Pages.{in_checkpoint_by}
 use Rattle.pager_state.proofs.Searches.{pages-hit, pages-miss}

@@ -1,6 +1,5 @@
 use native.Mathlib.Omega.{arith}
 use mathlib.Core.Path.{sym, ◌∙◌}
-use Prim.Native.Nat.{◌-◌}
 use Rattle.pager_checkpoint.proofs.Table.{no-log-step, no-log-not, no-log-end, no-log-past}
 use Rattle.pager_checkpoint.proofs.no_log_pages.Goals as goal
 

@@ -1,5 +1,4 @@
 use borrow.Author.Tests.{eq-eqb, ne_eqb}
-use Prim.Native.Nat.{◌-◌}
 use Rattle.pager_checkpoint.proofs.nothing_to_checkpoint.Goals as goal
 
 pub returns-then-frames-ne0 : goal.returns-then-frames-ne0

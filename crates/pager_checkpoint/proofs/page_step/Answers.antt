@@ -1,6 +1,6 @@
 use native.Mathlib.Omega.{arith}
 use mathlib.Core.Path.{◌∙◌}
-use Prim.Native.Nat.{◌-◌, ◌≤◌}
+use Prim.Native.Nat.{◌≤◌}
 use lib.ListN.{length}
 use Rattle.pager_checkpoint.proofs.Checkpointing.{body-of-page, length-page}
 use Rattle.pager_checkpoint.proofs.page_step.Goals as goal

@@ -1,5 +1,4 @@
 use mathlib.Core.Path.{◌∙◌}
-use Prim.Native.Nat.{◌-◌}
 use Rattle.pager_state.specs.World.{world}
 use Rattle.pager_checkpoint.proofs.Checkpointing.{some-pages, no-pages, last-is, page-told, page-done, head-told, head_done, paged-by, headed-by}
 use Rattle.pager_checkpoint.proofs.pages_step.Goals as goal

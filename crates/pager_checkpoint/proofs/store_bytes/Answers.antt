@@ -1,4 +1,3 @@
-use Prim.Native.Nat.{◌-◌}
 use Rattle.pager_checkpoint.proofs.Areas.{bytes-stored}
 use Rattle.pager_checkpoint.proofs.store_bytes.Goals as goal
 

@@ -1,5 +1,4 @@
 use native.Mathlib.Omega.{arith}
-use Prim.Native.Nat.{◌-◌}
 use lib.ListN.{length-take}
 use Rattle.pager_checkpoint.proofs.Areas.{header-stored}
 use Rattle.pager_checkpoint.proofs.store_header.Goals as goal

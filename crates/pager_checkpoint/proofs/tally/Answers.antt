@@ -1,4 +1,3 @@
-use Prim.Native.Nat.{◌-◌}
 use Rattle.pager_checkpoint.proofs.tally.Goals as goal
 
 pub returns-then-yes : goal.returns-then-yes

@@ -1,5 +1,4 @@
 use mathlib.Core.Path.{sym, ◌∙◌}
-use Prim.Native.Nat.{◌-◌}
 use Rattle.pager_commit.proofs.commit_frame_answer.Goals as goal
 
 pub returns-then-is_busy : goal.returns-then-is_busy

@@ -1,5 +1,4 @@
 use mathlib.Core.Path.{◌∙◌}
-use Prim.Native.Nat.{◌-◌}
 use Rattle.pager_commit.proofs.commit_frame_step.Goals as goal
 
 pub store_commit_frame-wal-requires : goal.store_commit_frame-wal-requires

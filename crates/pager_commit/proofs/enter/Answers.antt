@@ -1,4 +1,3 @@
-use Prim.Native.Nat.{◌-◌}
 use Rattle.pager_commit.proofs.enter.Goals as goal
 
 pub returns : goal.returns

@@ -1,5 +1,4 @@
 use native.Mathlib.Omega.{arith}
-use Prim.Native.Nat.{◌-◌}
 use Rattle.pager_commit.proofs.entry_at.Goals as goal
 
 pub returns-then-on_main : goal.returns-then-on_main

@@ -1,5 +1,4 @@
 use mathlib.Core.Path.{◌∙◌}
-use Prim.Native.Nat.{◌-◌}
 use Rattle.pager_commit.proofs.frame_step.Goals as goal
 
 pub store_frame-wal-requires : goal.store_frame-wal-requires

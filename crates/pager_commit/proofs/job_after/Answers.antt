@@ -1,5 +1,4 @@
 use borrow.Author.Tests.{le-leb, lt-leb}
-use Prim.Native.Nat.{◌-◌}
 use Rattle.pager_commit.proofs.job_after.Goals as goal
 
 pub returns-then-wal-ge-AUTO_CHECKPOINT_THRESHOLD_FRAMES : goal.returns-then-wal-ge-AUTO_CHECKPOINT_THRESHOLD_FRAMES

@@ -1,5 +1,4 @@
 use native.Mathlib.Omega.{arith}
-use Prim.Native.Nat.{◌-◌}
 use lib.ListN.{take}
 use Rattle.pager_state.proofs.Searches.{First, lowest, pages-end}
 use Rattle.pager_state.proofs.Walks.{none_found}

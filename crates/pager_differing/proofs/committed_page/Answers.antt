@@ -1,4 +1,4 @@
-use Rattle.std.proofs.Common.{◌-◌, sym, ◌∙◌}
+use Rattle.std.proofs.Common.{sym, ◌∙◌}
 use Rattle.pager_differing.proofs.Committed.{body-of-page, main-of-page, no-page}
 use Rattle.pager_differing.proofs.committed_page.Goals as goal
 

@@ -1,4 +1,4 @@
-use Rattle.std.proofs.Common.{◌≡◌, ◌-◌, ◌<◌, ◌≤◌, min, max, sym, ap, ◌∙◌, arith}
+use Rattle.std.proofs.Common.{◌≡◌, ◌<◌, ◌≤◌, min, max, sym, ap, ◌∙◌, arith}
 use Rattle.pager_state.specs.World.{page_limit}
 use Rattle.pager_state.specs.Pages.{pages_from, first_of, lacks}
 use Rattle.pager_differing.proofs.Differing.{without-slot, with-slot, lack-start, lack-here, lack-past, lack-end}

@@ -1,7 +1,6 @@
 use Rattle.std.proofs.Common.{◌≡◌, ◌-◌, ◌≤◌, min, max}
 use Rattle.pager_state.specs.World.{page_limit, staged_limit}
 use Rattle.pager_state.specs.Pages.{pages_from, lacks}
-use Rattle.pager_state.proofs.Held.{slots}
 use Rattle.pager_differing.proofs.first_lacking.Given as goal
 
 abbrev pub invariant-loop-p : goal.invariant-loop-p

@@ -1,4 +1,4 @@
-use Rattle.std.proofs.Common.{◌-◌, le-ltb, lt-ltb, eq-eqb, ne_eqb}
+use Rattle.std.proofs.Common.{le-ltb, lt-ltb, eq-eqb, ne_eqb}
 use Rattle.pager_state.specs.World.{page_limit}
 use Rattle.pager_differing.specs.Differing.{counts_at}
 use Rattle.pager_differing.proofs.is_counted.Goals as goal

@@ -1,4 +1,4 @@
-use Rattle.std.proofs.Common.{◌-◌, sym, ◌∙◌}
+use Rattle.std.proofs.Common.{sym, ◌∙◌}
 use borrow.Author.Tests.{not-true}
 use Rattle.le.proofs.Compare.{differ-part}
 use Rattle.pager_differing.specs.Differing.{slot_differs}

@@ -1,4 +1,4 @@
-use Rattle.std.proofs.Common.{◌≡◌, ◌-◌, ◌<◌, min, length, ◌∙◌, arith}
+use Rattle.std.proofs.Common.{◌≡◌, ◌<◌, min, length, ◌∙◌, arith}
 use Rattle.pager_differing.proofs.Least.{least-none, least_step, least-page}
 use Rattle.pager_differing.proofs.lowest.Goals as goal
 

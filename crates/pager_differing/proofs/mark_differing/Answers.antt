@@ -1,4 +1,4 @@
-use Rattle.std.proofs.Common.{◌≡◌, ◌-◌, ◌<◌, min, length, ◌∙◌, arith, length-take}
+use Rattle.std.proofs.Common.{◌≡◌, ◌<◌, min, length, ◌∙◌, arith, length-take}
 use Rattle.le.specs.Choice.{pick}
 use Rattle.pager_state.specs.World.{staged_limit}
 use Rattle.pager_state.specs.Overlay.{staged_pages}

@@ -1,4 +1,4 @@
-use Rattle.std.proofs.Common.{◌-◌, ◌<◌, sym, refl, ap, ◌∙◌, arith}
+use Rattle.std.proofs.Common.{◌<◌, sym, refl, ap, ◌∙◌, arith}
 use Rattle.pager_state.specs.World.{page_limit, staged_limit}
 use Rattle.pager_state.specs.Pages.{first_of, differs_in}
 use Rattle.pager_differing.proofs.Differing.{place-within, found-staged, none-differs, staged-from, differs-here, same_here}

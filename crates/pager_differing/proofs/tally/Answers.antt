@@ -1,4 +1,3 @@
-use Rattle.std.proofs.Common.{◌-◌}
 use Rattle.pager_differing.proofs.tally.Goals as goal
 
 pub returns-then-yes : goal.returns-then-yes

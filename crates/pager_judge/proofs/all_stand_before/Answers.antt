@@ -1,8 +1,8 @@
 use native.Mathlib.Omega.{arith}
 use native.Mathlib.Numerals.{add-one}
 use mathlib.Core.Path.{◌≡◌, refl, ap, ◌∙◌}
-use Prim.Native.Nat.{◌-◌, ◌<◌, min}
-use lib.ListN.{length, take, get_or, length-take}
+use Prim.Native.Nat.{◌<◌, min}
+use lib.ListN.{length, get_or, length-take}
 use lib.Seq.{get_or-take, take_all}
 use Rattle.pager_state.specs.World.{staged_limit}
 use Rattle.pager_state.specs.Overlay.{staged_pages}

@@ -1,5 +1,4 @@
 use borrow.Author.Tests.{le-leb, lt-leb}
-use Prim.Native.Nat.{◌-◌}
 use Rattle.pager_judge.proofs.is_header_good.Goals as goal
 
 pub returns-then-header-lt1 : goal.returns-then-header-lt1

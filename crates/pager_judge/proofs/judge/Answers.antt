@@ -1,7 +1,7 @@
 use native.Mathlib.Omega.{arith}
 use mathlib.Core.Path.{◌≡◌, sym, ◌∙◌}
 use mathlib.Core.Bool.{true, false}
-use Prim.Native.Nat.{◌-◌, ◌≤◌}
+use Prim.Native.Nat.{◌≤◌}
 use Rattle.pager_state.specs.World.{world, fine, busy, read_only, staged_limit}
 use Rattle.pager_state.specs.Steps.{step_fine, table_fits, header_good}
 use Rattle.pager_state.proofs.Made.{ready-fine}

@@ -2,7 +2,6 @@ use mathlib.Core.Path.{ap, ◌∙◌}
 use Rattle.wal.proofs.Opening.{known_behind}
 use Rattle.pager_state.specs.Opening.{opened_answer}
 use Rattle.pager_open.specs.Given.{how_of}
-use Rattle.pager_open.specs.Judging.{opened_with}
 use Rattle.pager_open.proofs.Judged.{found-as, found-opens}
 use Rattle.pager_open.proofs.judge_found.Goals as goal
 

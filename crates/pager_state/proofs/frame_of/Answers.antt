@@ -1,4 +1,3 @@
-use Prim.Native.Nat.{◌-◌}
 use lib.ListN.{get_or-eq_default}
 use Rattle.pager_state.specs.Overlay.{frame_of}
 use Rattle.pager_state.proofs.frame_of.Goals as goal

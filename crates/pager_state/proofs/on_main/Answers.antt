@@ -1,5 +1,4 @@
 use mathlib.Core.Path.{refl}
-use Prim.Native.Nat.{◌-◌}
 use lib.ListN.{get_or-eq_default}
 use Rattle.pager_state.specs.Overlay.{on_main}
 use Rattle.pager_state.proofs.on_main.Goals as goal

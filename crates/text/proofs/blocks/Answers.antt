@@ -1,7 +1,7 @@
 use native.Mathlib.Omega.{arith}
 use borrow.Author.Rules.{rules}
 use borrow.Author.Tests.{not-true, not-false}
-use Prim.Native.Nat.{◌+◌, ◌-◌}
+use Prim.Native.Nat.{◌+◌}
 use Rattle.text.specs.Windows.{Judges}
 use Rattle.text.proofs.Judging.{judges-on, judges-not}
 use Rattle.text.proofs.blocks.Goals as goal

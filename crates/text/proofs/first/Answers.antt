@@ -1,7 +1,6 @@
 use native.Mathlib.Omega.{arith}
 use mathlib.Core.Path.{sym, ◌∙◌}
 use borrow.Author.Rules.{rules}
-use Prim.Native.Nat.{◌-◌}
 use lib.ListN.{drop}
 use Rattle.text.proofs.Laws.{stay, then, over-sequence, no-sequence, size_few}
 use Rattle.text.proofs.Judging.{first-over, first_next, first-shut, judges}

@@ -1,8 +1,7 @@
 use native.Mathlib.Omega.{arith}
 use mathlib.Core.Path.{◌≡◌, sym, ◌∙◌}
-use mathlib.Core.Bool.{false}
 use borrow.Author.Rules.{rules}
-use Prim.Native.Nat.{◌+◌, ◌-◌}
+use Prim.Native.Nat.{◌+◌}
 use Rattle.le.proofs.Compare.{both_true, no_test}
 use Rattle.text.proofs.Judging.{begun-none, begun_more, fit-more, fits-none}
 use Rattle.text.proofs.judge_block.Goals as goal

@@ -1,5 +1,4 @@
 use mathlib.Core.Path.{◌∙◌}
-use Prim.Native.Nat.{◌-◌}
 use Rattle.text.proofs.Laws.{cut, full, size-one, size-two, size-three, size-four}
 use borrow.Author.Rules.{rules}
 use Rattle.text.proofs.sequence.Goals as goal

@@ -1,4 +1,4 @@
-use Rattle.std.proofs.Common.{◌≡◌, ◌-◌, refl, ap, ◌∙◌, arith}
+use Rattle.std.proofs.Common.{◌≡◌, refl, ap, ◌∙◌, arith}
 use Rattle.frame.specs.Frame.{frame_at}
 use Rattle.frame.specs.declared.FrameHeader.{FrameHeader}
 use Rattle.wal.specs.Recovery.{chunk_at, page_of}

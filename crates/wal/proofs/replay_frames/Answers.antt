@@ -1,4 +1,4 @@
-use Rattle.std.proofs.Common.{◌≡◌, ◌+◌, ◌-◌, ◌<◌, ◌≤◌, true, length, sym, ap, ◌∙◌, arith, rules}
+use Rattle.std.proofs.Common.{◌≡◌, ◌+◌, ◌<◌, ◌≤◌, true, length, sym, ap, ◌∙◌, arith, rules}
 use Rattle.frame.specs.Frame.{frame_at, intact_at}
 use Rattle.frame.specs.declared.FrameHeader.{FrameHeader}
 use Rattle.wal.specs.Header.{wal_header_in}

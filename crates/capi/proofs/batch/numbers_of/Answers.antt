@@ -1,5 +1,3 @@
-use mir.ValLaws.{to_z-of_z}
-use mir.Syntax.{w64}
 use Rattle.capi.proofs.batch.numbers_of.Goals as goal
 
 pub returns-in-Null : goal.returns-in-Null

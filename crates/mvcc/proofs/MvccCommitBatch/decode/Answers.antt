@@ -2,7 +2,6 @@ use mathlib.Core.Path.{◌≡◌, refl, sym, ◌∙◌}
 use Prim.Native.Nat.{◌+◌, ◌≤◌}
 use native.Mathlib.Omega.{arith}
 use lib.ListN.{length}
-use Rattle.mvcc.specs.Answer.{many}
 use Rattle.mvcc.specs.Fields.{row_answer, payload_answer, items_in}
 use Rattle.mvcc.specs.Decode.{record_at, batch_magic}
 use Rattle.mvcc.specs.Items.{record_items}
