@@ -1,6 +1,6 @@
 -- Names and texts of batches carry their numbers of scalar values, of any body and in any history. Assumes nothing.
 use mathlib.Core.Path.{◌≡◌, refl, sym, ap, ◌∙◌}
-use mathlib.Core.Bool.{true, not}
+use mathlib.Core.Bool.{true}
 use mathlib.Core.List.{List, [], ◌∷◌, ◌++◌, map}
 use Prim.Native.Nat.{ℕ, zero, suc, ◌+◌, ◌*◌, ◌^◌, ◌<◌}
 use lib.Dec.{eqb}
@@ -12,11 +12,10 @@ use Rattle.text.specs.Utf8.{well_formed, chars}
 use Rattle.text.proofs.Agrees.{agrees}
 use Rattle.mvcc.specs.Answer.{Answer, taken, refused, then, many, items}
 use Rattle.mvcc.specs.Batch.{heading_size, all, encode_batch, Each}
-use Rattle.mvcc.specs.Decode.{fits_in, num_at, place_of, text_of, text_at, signed, real_of, integer_at, real_at, bool_at, text_value_at, vector_at, tagged_at, value_at, column_at, present_at, judged_at, record_at, records_at}
+use Rattle.mvcc.specs.Decode.{fits_in, num_at, place_of, text_of, text_at, real_of, integer_at, real_at, bool_at, text_value_at, vector_at, tagged_at, value_at, column_at, present_at, judged_at, record_at, records_at}
 use Rattle.mvcc.specs.Seen.{bytes_of, seen, seen_column, seen_row, seen_record, records, canonical}
 use Rattle.mvcc.specs.declared.TextPlace.{TextPlace}
 use Rattle.mvcc.specs.declared.Value.{Value}
-use Rattle.mvcc.specs.declared.Value.TheVariants as value
 use Rattle.mvcc.specs.declared.Column.{Column}
 use Rattle.mvcc.specs.declared.MvccLogRecord.{MvccLogRecord}
 use Rattle.mvcc.proofs.Sound.{When, then-when, pick-test}

@@ -1,11 +1,10 @@
 -- A preview of a commit, and the run behind that commit. Assumes nothing.
-use mathlib.Core.Path.{◌≡◌, refl, sym, ap, subst, ◌∙◌}
+use mathlib.Core.Path.{◌≡◌, refl, sym, ap, ◌∙◌}
 use mathlib.Core.Bool.{Bool, true, false}
 use mathlib.Core.List.{List, [], ◌++◌}
 use mathlib.Core.Logic.{◌⊎◌, inl, inr}
 use mathlib.Core.Option.{Option, none, some}
 use Prim.Native.Nat.{ℕ, ◌≤◌, ◌<◌}
-use native.Mathlib.Omega.{arith}
 use borrow.Author.Tests.{le-leb, lt-leb, ne_eqb}
 use lib.Dec.{eqb}
 use lib.ListN.{length}
@@ -21,11 +20,9 @@ use Rattle.pager_state.specs.Steps.{differing, commit_refusal, commit_answer, co
 use Rattle.pager_state.specs.declared.CommitAnswer.TheVariants as committed
 use Rattle.pager_state.proofs.CommitEnd.{commit-frame-idle, commit-frame-checkpoints}
 use Rattle.pager_state.proofs.Done.{commit-done}
-use Rattle.pager_preview.specs.Preview.{seen, preview_commit}
-use Rattle.pager_preview.specs.Closed.{frames_after, longer_by, emptied_to, end_of}
+use Rattle.pager_preview.specs.Preview.{preview_commit}
+use Rattle.pager_preview.specs.Closed.{frames_after, end_of}
 use Rattle.pager_preview.specs.declared.Preview.{Preview}
-use Rattle.pager_preview.specs.declared.PreviewAnswer.{PreviewAnswer}
-use Rattle.pager_preview.specs.declared.PreviewAnswer.TheVariants as preview
 use Rattle.pager_preview.proofs.Closed.{seen_end, closed, refused}
 use Rattle.history.specs.Calls.{Query, Ask, Commit, refused_by, stores_of, world_after}
 use Rattle.history.specs.Model.{model_stores}

@@ -5,4 +5,4 @@ use Rattle.capi.proofs.batch.lateenbael_mvcc_add_vector.Goals as goal
 pub returns : goal.returns
 returns c =
     let h = rw c.builder_in.ensures at c.add_vector.ensures in
-    record { value = c.added_numbers.ensures ∙ ap added_numbers h.0; body_after = h.1 }
+    record { value = c.added_numbers.ensures ∙ ap added_numbers h.value; body_after = h.body_after }

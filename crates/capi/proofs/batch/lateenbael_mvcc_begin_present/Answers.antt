@@ -8,4 +8,4 @@ pub returns : goal.returns
 returns c =
     let f = to_z-of_z w64 c.args.rowid c.ranges.rowid in
     let h = rw (c.builder_in.ensures, f) at c.begin_present.ensures in
-    record { value = c.added_numbers.ensures ∙ ap added_numbers h.0; body_after = h.1 }
+    record { value = c.added_numbers.ensures ∙ ap added_numbers h.value; body_after = h.body_after }

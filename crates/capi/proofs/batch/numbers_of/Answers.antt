@@ -5,9 +5,6 @@ use Rattle.capi.proofs.batch.numbers_of.Goals as goal
 pub returns-in-Null : goal.returns-in-Null
 returns-in-Null c = rw (c.in-Null.is, c.value_numbers.ensures, c.no_place.ensures)
 
-pub returns-in-Integer : goal.returns-in-Integer
-returns-in-Integer c = rw (c.in-Integer.is, c.value_numbers-in-Integer.ensures, c.no_place-in-Integer.ensures, to_z-of_z w64 c.in-Integer.n (record { sfits = c.known_told-1.given.0.1 }))
-
 pub returns-in-Real : goal.returns-in-Real
 returns-in-Real c = rw (c.in-Real.is, c.value_numbers-in-Real.ensures, c.no_place-in-Real.ensures, c.bits_of.ensures)
 

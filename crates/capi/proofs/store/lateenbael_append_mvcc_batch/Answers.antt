@@ -8,5 +8,5 @@ use Rattle.capi.proofs.store.lateenbael_append_mvcc_batch.Goals as goal
 pub returns : goal.returns
 returns c =
     let a = c.args in
-    let both = by-with (λ (x : PagerAppended). appended_as x.answer x.pager) (λ (p : Pager). append_batch p a.log.now a.body.now) (λ (p : Pager). append_after p a.log.now a.body.now) c.pager_in.ensures c.append_mvcc_batch.ensures c.appended_as.ensures in
+    let both = by-with (λ (x : PagerAppended). appended_as x.answer x.pager) (λ (p : Pager). append_batch p a.log.now a.body.now) (λ (p : Pager). append_after p a.log.now a.body.now) c.pager_in.ensures (c.append_mvcc_batch.ensures.value, c.append_mvcc_batch.ensures.log_after) c.appended_as.ensures in
     record { result_value = both.0; log_after = both.1 }

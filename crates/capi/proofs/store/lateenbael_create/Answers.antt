@@ -2,5 +2,10 @@ use Rattle.capi.proofs.store.lateenbael_create.Goals as goal
 
 pub returns : goal.returns
 returns c =
-    let both = (rw c.create.ensures.value at c.created_as.ensures, c.create.ensures) in
-    record { result_value = both.0; table_after = both.1.0; log_after = both.1.1.0; main_after = both.1.1.1 }
+    let made = c.create.ensures in
+    record {
+      result_value = rw made.value at c.created_as.ensures;
+      table_after = made.table_after;
+      log_after = made.log_after;
+      main_after = made.main_after;
+    }

@@ -8,5 +8,5 @@ use Rattle.capi.proofs.store.lateenbael_stage_page.Goals as goal
 pub returns : goal.returns
 returns c =
     let a = c.args in
-    let both = by-with (λ (x : PageStaged). staged_as x.answer x.pager) (λ (p : Pager). stage_page p a.staging.now a.page_num a.bytes.now) (λ (p : Pager). stage_after p a.staging.now a.page_num a.bytes.now) c.pager_in.ensures c.stage_page.ensures c.staged_as.ensures in
+    let both = by-with (λ (x : PageStaged). staged_as x.answer x.pager) (λ (p : Pager). stage_page p a.staging.now a.page_num a.bytes.now) (λ (p : Pager). stage_after p a.staging.now a.page_num a.bytes.now) c.pager_in.ensures (c.stage_page.ensures.value, c.stage_page.ensures.staging_after) c.staged_as.ensures in
     record { result_value = both.0; staging_after = both.1 }
