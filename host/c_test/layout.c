@@ -146,7 +146,7 @@ PLACE(building, counted, 8);
 PLACE(building, records, 12);
 PLACE(building, columns, 14);
 
-_Static_assert(LATEENBAEL_VERSION == 5000, "0.5.0 as one number");
+_Static_assert(LATEENBAEL_VERSION == 4000, "0.4.0 as one number");
 
 /* Header and archive belong together, and every refusal has its name. */
 static void names(void) {

@@ -44,17 +44,6 @@ module _ (g : List ℕ) (w : World) (h : DbHeader) (salt : ℕ) (slots : length 
         folded = λ b k. closed g w h salt slots b ∙ rw (le-leb checkpoint_frames (frames_after (differing g w) w.pager.wal) k);
       }
 
--- ---- calls that leave the run
-
--- a query
-pub asked : (q : Query) (r : Run) → whole (Ask q) r ≡ r
-unfolding whole stores_of world_after model_stores kept_after
-asked q r = go (eqb (refused_by (Ask q) r.world r.staging) 0) refl
-  where
-    go : (t : Bool) → eqb (refused_by (Ask q) r.world r.staging) 0 ≡ t → whole (Ask q) r ≡ r
-    go true e = rw e
-    go false e = rw e
-
 -- ---- a commit behind its preview
 
 module _ (r : Run) (slots : length r.world.pager.staged.pages ≡ staged_limit) (h : DbHeader) (salt : ℕ) where

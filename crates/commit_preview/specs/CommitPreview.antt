@@ -18,7 +18,7 @@ use Rattle.pager_preview.specs.Closed.{frames_after, longer_by, emptied_to}
 use Rattle.pager_preview.specs.declared.Preview.{Preview}
 use Rattle.pager_preview.specs.declared.PreviewAnswer.{PreviewAnswer}
 use Rattle.pager_preview.specs.declared.PreviewAnswer.TheVariants as preview
-use Rattle.history.specs.Calls.{PreviewCommit, Ask, Commit, refused_by}
+use Rattle.history.specs.Calls.{Commit, refused_by}
 use Rattle.history.specs.Run.{Run, whole}
 use Rattle.history.specs.Guards.{Always, Accepted}
 
@@ -55,7 +55,3 @@ pub record CommitPreview : Type 0 where
   pub told : (g : List ℕ) (w : World) (h : DbHeader) (salt : ℕ) → length w.pager.staged.pages ≡ staged_limit → Told g w h salt
   -- in any history, cuts and refused calls included: as it was told, so the commit does, whatever salt it is given
   pub foretold : Always (λ (r : Run). (h : DbHeader) (salt other : ℕ) → CommitsSo (preview_commit r.staging r.world h other) h salt r)
-  -- "and alter nothing": store, areas, files and plain book are as they were, wherever a preview comes, refused or not
-  pub unaltered : (h : DbHeader) (r : Run) → whole (Ask (PreviewCommit h)) r ≡ r
-  -- it is refused where the commit would be
-  pub refusals : (h : DbHeader) (salt : ℕ) (r : Run) → refused_by (Ask (PreviewCommit h)) r.world r.staging ≡ refused_by (Commit h salt) r.world r.staging

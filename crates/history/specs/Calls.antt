@@ -33,7 +33,6 @@ pub data Query : Type 0 where
   ReadClock : Query
   ReadPage : ℕ → Query
   ReadBatch : ℕ → Query
-  PreviewCommit : DbHeader → Query  -- document 02, P5
 
 pub data Call : Type 0 where
   Ask : Query → Call
@@ -129,7 +128,6 @@ query_refusal ReadMode w g = number_of (busy_refusal w.pager)
 query_refusal ReadClock w g = number_of (busy_refusal w.pager)
 query_refusal (ReadPage n) w g = number_of (read_refusal w g)
 query_refusal (ReadBatch i) w g = number_of (recovered_refusal w.pager w.log)
-query_refusal (PreviewCommit h) w g = number_of (commit_refusal g w h)
 
 abbrev pub effect : Call → Effect
 effect (Ask q) = query (query_refusal q)

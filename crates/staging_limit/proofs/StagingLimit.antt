@@ -31,7 +31,7 @@ use Rattle.pager_state.proofs.Counts.{without, one_out, few-among, many-among}
 use Rattle.pager_state.proofs.Searches.{pages-same}
 use Rattle.pager_state.proofs.Slots.{find-length}
 use Rattle.history.specs.Model.{Model}
-use Rattle.history.specs.Calls.{Query, ReadHeader, ReadMode, ReadClock, ReadPage, ReadBatch, PreviewCommit, Call, Ask, Open, Stage, Clear, Append, Observe, Commit, Checkpoint, BeginCommit, BeginCheckpoint, Step, refused_by}
+use Rattle.history.specs.Calls.{Query, ReadHeader, ReadMode, ReadClock, ReadPage, ReadBatch, Call, Ask, Open, Stage, Clear, Append, Observe, Commit, Checkpoint, BeginCommit, BeginCheckpoint, Step, refused_by}
 use Rattle.history.specs.Run.{Run, Event, start}
 use Rattle.history.specs.Demand3.{AllTyped}
 use Rattle.history.specs.Guards.{Joined, BegunGuard, LogFullGuard, after}
@@ -186,9 +186,8 @@ module _ (g : List ℕ) (no : Wrong g) where
   other_length = ne_eqb (length g) staging_area no
 
   area-query : (q : Query) → asks_staging q ≡ true → (w : World) → refused_by (Ask q) w g ≡ 1
-  unfolding refused_by read_refusal commit_refusal
+  unfolding refused_by read_refusal
   area-query (ReadPage n) e w = rw (other_length, no_both (fine w))
-  area-query (PreviewCommit h) e w = rw (other_length, no_both (fine w))
   area-query ReadHeader e w = no_test e
   area-query ReadMode e w = no_test e
   area-query ReadClock e w = no_test e

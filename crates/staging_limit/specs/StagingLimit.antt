@@ -13,7 +13,7 @@ use Rattle.pager_state.specs.Opening.{How, open_pager, open_refusal, create_refu
 use Rattle.pager_state.specs.Steps.{header_good, lacking, commit_fine, commit_start}
 use Rattle.pager_state.specs.declared.CommitStart.TheVariants as commit
 use Rattle.history.specs.Model.{Model}
-use Rattle.history.specs.Calls.{Query, ReadHeader, ReadMode, ReadClock, ReadPage, ReadBatch, PreviewCommit, Call, Ask, Open, Stage, Clear, Append, Observe, Commit, Checkpoint, BeginCommit, BeginCheckpoint, Step, refused_by}
+use Rattle.history.specs.Calls.{Query, ReadHeader, ReadMode, ReadClock, ReadPage, ReadBatch, Call, Ask, Open, Stage, Clear, Append, Observe, Commit, Checkpoint, BeginCommit, BeginCheckpoint, Step, refused_by}
 use Rattle.history.specs.Run.{Run}
 use Rattle.history.specs.Guards.{Always}
 
@@ -47,7 +47,6 @@ asks_staging ReadMode = false
 asks_staging ReadClock = false
 asks_staging (ReadPage n) = true
 asks_staging (ReadBatch i) = false
-asks_staging (PreviewCommit h) = true
 
 abbrev pub lent_staging : Call → Bool
 lent_staging (Ask q) = asks_staging q

@@ -17,7 +17,7 @@
 #![warn(missing_docs)]
 
 /// The version of these declarations, major * 1,000,000 + minor * 1,000 + patch; [`lateenbael_version`] is the archive's.
-pub const VERSION: u32 = 5000;
+pub const VERSION: u32 = 4000;
 /// A page's bytes.
 pub const PAGE_SIZE: usize = 4096;
 /// A page's frame in the log: 16 bytes of heading, and the page.
