@@ -1,7 +1,7 @@
 #!/usr/bin/env python3
 """Respells this repository's own definitions and lemmas after port.py: words in snake case, facts in camel case.
 
-usage: python3 tools/respell_names.py        once, at the top of the repository, after port.py
+usage: python3 tools/respell_names.py        once, at the top of the repository, after port.py; a second run spoils names
 
 A name such as walOf becomes wal_of, each part between dashes by itself. Functions of src/, exported names, strings and
 file names have no such names, and so keep theirs.
@@ -10,18 +10,18 @@ file names have no such names, and so keep theirs.
 import os
 import re
 
-# Where the plain spelling is the name of a field or a parameter, which a clause would then take for the definition; and a fact.
+# Where the plain spelling is the name of a field or a parameter, which a clause would then take for the definition; a fact; and what is
+# left of the kit's own getD, in a name.
 OTHERWISE = {
     "clockHighWater": "clock_high_water_of",
     "commitTs": "commit_ts_of",
     "frameCount": "frame_count_of",
+    "getD": "get_or",
     "goodEnd": "good_end_of",
     "hasRoomFor": "HasRoomFor",
     "lastCommit": "last_commit_of",
-    "logLen": "log_len_of",
     "mainArea": "main_area_size",
     "mainHeader": "main_header_of",
-    "mainLen": "main_len_of",
 }
 
 # Lemmas whose dash port.py made an underscore, so that they would fall together with a definition's new name: their old names.

@@ -45,12 +45,12 @@ unfolding checkpointed_from
 length-checkpointed count p [] = refl
 length-checkpointed count p (a ∷ t) = ap suc (length-checkpointed count (suc p) t)
 
-get_d-checkpointed : (count p : ℕ) (t : List ℕ) (i : ℕ) → i < length t → get_or (checkpointed_from count p t) i 0 ≡ checkpointed_entry count (p + i) (get_or t i 0)
+get_or-checkpointed : (count p : ℕ) (t : List ℕ) (i : ℕ) → i < length t → get_or (checkpointed_from count p t) i 0 ≡ checkpointed_entry count (p + i) (get_or t i 0)
 unfolding checkpointed_from
-get_d-checkpointed count p [] i h = absurd (omega arith)
-get_d-checkpointed count p (a ∷ t) zero h = simp unary_clauses
-get_d-checkpointed count p (a ∷ t) (suc i) h =
-    get_d-checkpointed count (suc p) t i (omega arith) ∙ ap (λ (n : ℕ). checkpointed_entry count n (get_or t i 0)) {x = suc p + i} {y = p + suc i} (omega arith)
+get_or-checkpointed count p [] i h = absurd (omega arith)
+get_or-checkpointed count p (a ∷ t) zero h = simp unary_clauses
+get_or-checkpointed count p (a ∷ t) (suc i) h =
+    get_or-checkpointed count (suc p) t i (omega arith) ∙ ap (λ (n : ℕ). checkpointed_entry count n (get_or t i 0)) {x = suc p + i} {y = p + suc i} (omega arith)
 
 -- the entries below end, one by one
 
@@ -62,7 +62,7 @@ module _ (end : ℕ) (old : List ℕ) where
   one_more p {t} {x} h e f =
       let m = length-checkpointed end 0 old in
       let g : get_or new p 0 ≡ checkpointed_entry end p (get_or old p 0) =
-      get_d-checkpointed end 0 old p h ∙ ap (λ (k : ℕ). checkpointed_entry end k (get_or old p 0)) {x = 0 + p} {y = p} (omega arith) in
+      get_or-checkpointed end 0 old p h ∙ ap (λ (k : ℕ). checkpointed_entry end k (get_or old p 0)) {x = 0 + p} {y = p} (omega arith) in
       let i : x ≡ get_or new p 0 = f ∙ rw (e, get_d_front old new p (omega arith)) (sym g) in
       rw (i, e, add-one p) (front-suc old new p h (omega arith))
 

@@ -14,4 +14,4 @@ how_of o = how o.clean o.access_mode o.log_exists o.salt
 
 -- the two files, each with its area and length
 abbrev pub files : List ℕ → ℕ → List ℕ → ℕ → Disk
-files main main_len_of log log_len_of = record { main = record { area = main; len = main_len_of }; log = record { area = log; len = log_len_of } }
+files main main_len log log_len = record { main = record { area = main; len = main_len }; log = record { area = log; len = log_len } }
