@@ -1,7 +1,7 @@
 -- A preview of a commit, and the run behind that commit. Assumes nothing.
 use mathlib.Core.Path.{◌≡◌, refl, sym, ap, ◌∙◌}
 use mathlib.Core.Bool.{false}
-use mathlib.Core.List.{List, [], ◌++◌}
+use mathlib.Core.List.{List, [], ◌∷◌, ◌++◌}
 use mathlib.Core.Logic.{◌⊎◌, inl, inr}
 use mathlib.Core.Option.{Option, none, some}
 use Prim.Native.Nat.{ℕ, ◌≤◌, ◌<◌}
@@ -18,7 +18,9 @@ use Rattle.pager_state.specs.World.{World, staged_limit, count_of}
 use Rattle.pager_state.specs.Commit.{checkpoint_frames}
 use Rattle.pager_state.specs.Steps.{differing, commit_refusal, commit_answer, commit_world}
 use Rattle.pager_state.specs.declared.CommitAnswer.TheVariants as committed
+use Rattle.pager_state.specs.Commit.{page_frame_stored}
 use Rattle.pager_state.proofs.CommitEnd.{commit-frame-idle, commit-frame-checkpoints}
+use Rattle.pager_state.proofs.CommitEnd.{frames_world as frames_behind}
 use Rattle.pager_state.proofs.Done.{commit-done}
 use Rattle.pager_preview.specs.Preview.{preview_commit}
 use Rattle.pager_preview.specs.Closed.{frames_after, end_of}
@@ -28,6 +30,7 @@ use Rattle.history.specs.Calls.{Commit, refused_by, world_after}
 use Rattle.history.specs.Run.{Run, whole}
 use Rattle.history.specs.Guards.{Accepted}
 use Rattle.history.proofs.Refused.{refused-stays}
+use Rattle.history.proofs.GuardCommit.{frames_world}
 use Rattle.history.proofs.GuardModel.{world-after, commit-batches, commit-drops}
 use Rattle.commit_preview.specs.CommitPreview.{Told, Foretold, CommitsSo}
 
@@ -44,6 +47,12 @@ module _ (g : List ℕ) (w : World) (h : DbHeader) (salt : ℕ) (slots : length 
       }
 
 -- ---- a commit behind its preview
+
+-- the world behind a commit's frames, as the end of a commit and as histories have it
+same-frames : (g : List ℕ) (h : DbHeader) (salt answer : ℕ) (ns : List ℕ) (w : World) → frames_behind g h salt answer ns w ≡ frames_world g h salt answer ns w
+unfolding frames_behind frames_world
+same-frames g h salt answer [] w = refl
+same-frames g h salt answer (n ∷ ns) w = same-frames g h salt answer ns (page_frame_stored g h salt answer n w)
 
 module _ (r : Run) (slots : length r.world.pager.staged.pages ≡ staged_limit) (h : DbHeader) (salt : ℕ) where
   abbrev g : List ℕ
@@ -84,8 +93,8 @@ module _ (r : Run) (slots : length r.world.pager.staged.pages ≡ staged_limit) 
     batches-by : (checkpoint_frames ≤ frames_after (differing g w) w.pager.wal) ⊎ (frames_after (differing g w) w.pager.wal < checkpoint_frames)
         → (whole (Commit h salt) r).model.committed ≡ pick end.checkpointed [] (r.model.committed ++ r.model.waiting)
     unfolding end_of
-    batches-by (inl k) = rw (le-leb checkpoint_frames _ k) (commit-drops h salt r accepted 0 (differing g w) (commit-frame-checkpoints g w h salt slots b k))
-    batches-by (inr k) = rw (lt-leb checkpoint_frames _ k) (commit-batches h salt r accepted (commit-frame-idle g w h salt slots b k))
+    batches-by (inl k) = rw (le-leb checkpoint_frames _ k) (commit-drops h salt r accepted 0 (differing g w) (rw (same-frames g h salt (differing g w)) at (commit-frame-checkpoints g w h salt slots b k)))
+    batches-by (inr k) = rw (lt-leb checkpoint_frames _ k) (commit-batches h salt r accepted (rw (same-frames g h salt (differing g w)) at (commit-frame-idle g w h salt slots b k)))
 
     ended : Foretold end h r (whole (Commit h salt) r)
     unfolding commit_answer end_of

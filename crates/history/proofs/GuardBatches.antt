@@ -36,7 +36,7 @@ use Rattle.history.specs.Run.{Run, whole, Whole, next, start}
 use Rattle.history.specs.Demand3.{Demand3}
 use Rattle.history.specs.Guards.{new_store, GoodHeader, Joined, Unrefused, UnrefusedBatch, LongerBy, Empty, Ends, after, Accepted, committed_batch, frames_after, Returned, Recovers, Filled}
 use Rattle.history.proofs.GuardRefusals.{told-full, none-begun, unrefused, unrefused-batch, batch-told-full}
-use Rattle.history.proofs.GuardCommit.{commit-idle, commit-ends}
+use Rattle.history.proofs.GuardCommit.{commit-frame-idle, commit-ends}
 use Rattle.history.proofs.GuardNew.{fine-create, none-staged, none_differ, new-unrefused, new-made, new-count, new_none, new-len, new-frames}
 use Rattle.history.proofs.GuardHistories.{made-history}
 use Rattle.history.proofs.GuardModel.{world-after, staging-after, append-model, open-model, commit-batches}
@@ -64,7 +64,7 @@ module _ (d : Demand3) (t l m g : List ℕ) (salt : ℕ) (f : create_fine t l m 
     all-committed =
         let u = reached-made reached-appended (new-made t l m g salt f) in
         let e = accepted (commit_refusal appended.staging appended.world h) c in
-        commit-batches h next appended c (commit-idle appended.staging appended.world h next u.slots (omega arith) e few)
+        commit-batches h next appended c (commit-frame-idle appended.staging appended.world h next u.slots (omega arith) e few)
         ∙ rw (append-model body r a)
 
     pub returned : Returned r body h next

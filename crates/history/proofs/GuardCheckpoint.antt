@@ -5,6 +5,7 @@ use mathlib.Core.List.{List, [], ◌∷◌}
 use mathlib.Core.Logic.{◌⊎◌, inl, inr}
 use mathlib.Core.Option.{Option, none, some}
 use Prim.Native.Nat.{ℕ, zero, suc, ◌+◌, ◌-◌, ◌*◌, ◌/◌, ◌%◌, ◌≤◌, ◌<◌}
+use native.Mathlib.Nat.{suc-add}
 use native.Mathlib.Omega.{arith}
 use borrow.Author.Tests.{le-leb, lt-leb, lt-ltb, leb-true, ltb-true, eqb-true, eqb-false, ne_eqb, not-true}
 use lib.Dec.{leb, ltb, eqb}
@@ -21,19 +22,24 @@ use Rattle.header.proofs.Encoding.{length-encode_header}
 use Rattle.wal.specs.Write.{empty_wal, truncated_header}
 use Rattle.pager_state.specs.World.{World, main_area_size, staged_limit, page_limit, count_of, header_of, with_job}
 use Rattle.pager_state.specs.Overlay.{page_from, frame_of, in_log, on_main, log_bytes}
-use Rattle.pager_state.specs.Stores.{File, disk_of, grown, put_file, len_file}
+use Rattle.pager_state.specs.Stores.{File, disk_of, Act, grown, put_file, len_file}
 use Rattle.pager_state.specs.Pages.{pages_from, in_checkpoint_by, in_checkpoint}
-use Rattle.pager_state.specs.Checkpoint.{checkpointed_from, page_stored, main_header_stored, main_length_stored, log_length_stored, checkpointed}
-use Rattle.pager_state.specs.Steps.{nothing_to_checkpoint, checkpoint_refusal, checkpoint_start, checkpoint_begins, checkpoint_count, begin_checkpoint, most_steps, on_store, checkpoint_answer, checkpoint_world}
+use Rattle.pager_state.specs.Checkpoint.{checkpointed_from, page_stored, main_header_stored, main_length_stored, log_length_stored, checkpointed, pages_todo, checkpoint_todo, checkpoint_advance, pages_advance}
+use Rattle.pager_state.specs.Commit.{commit_todo, commit_advance}
+use Rattle.pager_state.specs.Steps.{nothing_to_checkpoint, checkpoint_refusal, checkpoint_start, checkpoint_begins, checkpoint_count, begin_checkpoint, todo, done, stepped, steps, most_steps, on_store, checkpoint_answer, checkpoint_world}
+use Rattle.pager_state.specs.declared.Job.{Job}
 use Rattle.pager_state.specs.declared.Job.TheVariants as job
 use Rattle.pager_state.specs.declared.CheckpointStart.TheVariants as checkpoint
 use Rattle.pager_state.specs.declared.CheckpointAnswer.TheVariants as answer
 use Rattle.pager_state.proofs.Searches.{First, first, pages-none, pages-length}
-use Rattle.pager_state.proofs.Stored.{Lies, length-grown, put-lies}
+use Rattle.pager_state.proofs.Stored.{Lies, AllInside, length-grown, put-lies}
 use Rattle.pager_state.proofs.Entries.{part-before, checkpointed-none}
+use Rattle.pager_state.proofs.Inside.{checkpoint-stores-inside}
 use Rattle.pager_state.proofs.Made.{Fine, ReadyOf, ready-fine}
+use Rattle.pager_state.proofs.Next.{todo-by, advance-by}
+use Rattle.pager_state.proofs.Steps.{step_keeps}
+use Rattle.pager_state.proofs.Runs.{steps-add, idle-stays}
 use Rattle.pager_state.proofs.Begun.{off, begun-checkpoint, checkpoint-ready}
-use Rattle.pager_state.proofs.CheckpointEnd.{Leaves, pages_world, end_world, paged-left, pages-leave, end_is, checkpoint-run}
 use Rattle.history.proofs.Files.{page-other, page-same}
 use Rattle.history.specs.Guards.{FramesInside, Empty, CheckpointedTo}
 
@@ -67,11 +73,116 @@ module _ (f : File) (s : Lies main_area_size f) where
           inside = omega (arith, h.inside);
         }
 
--- ---- what the stores of a checkpoint leave
+-- ---- the worlds of a checkpoint
 
-module _ (salt answer : ℕ) where
+module _ (g : List ℕ) (salt answer : ℕ) where
+  -- after these pages
+  unfoldable pub pages_world : List ℕ → World → World
+  pages_world [] w = w
+  pages_world (n ∷ ns) w = pages_world ns (page_stored salt answer n w)
+
+  -- and after the four stores behind them
+  abbrev pub end_world : World → World
+  end_world w = checkpointed salt (log_length_stored salt answer (main_length_stored salt answer (main_header_stored salt answer w)))
+
+  -- ---- one step
+
+  module _ {P : ℕ → Bool} (w : World) (r : ReadyOf P g w) where
+    checkpoint-step : (j : Job) (a : Act) (rest : List Act) → w.pager.job ≡ j → todo g w ≡ checkpoint_todo j w → checkpoint_todo j w ≡ a ∷ rest
+        → stepped g w ≡ checkpoint_advance j (commit_advance g j w)
+    unfolding stepped done
+    checkpoint-step j a rest e t f =
+        let i : AllInside (a ∷ rest) = rw f at (checkpoint-stores-inside j w (ready-fine g w r.right).0.count) in
+        rw (r.right, t, f, i.0) (advance-by g w j e)
+
+    page-step : (p n : ℕ) (ns : List ℕ) → w.pager.job ≡ job.Checkpoint salt p answer → pages_from (in_checkpoint w) p ≡ n ∷ ns → stepped g w ≡ page_stored salt answer n w
+    unfolding commit_todo commit_advance checkpoint_todo checkpoint_advance pages_todo
+    page-step p n ns j e =
+        let k : Job = job.Checkpoint salt p answer in
+        checkpoint-step k _ _ j (todo-by g w k j) (ap (λ (l : List ℕ). pages_todo salt answer l w) e) ∙ ap (λ (l : List ℕ). pages_advance salt answer l w) e
+
+    header-step : (p : ℕ) → w.pager.job ≡ job.Checkpoint salt p answer → pages_from (in_checkpoint w) p ≡ [] → stepped g w ≡ main_header_stored salt answer w
+    unfolding commit_todo commit_advance checkpoint_todo checkpoint_advance pages_todo
+    header-step p j e =
+        let k : Job = job.Checkpoint salt p answer in
+        checkpoint-step k _ _ j (todo-by g w k j) (ap (λ (l : List ℕ). pages_todo salt answer l w) e) ∙ ap (λ (l : List ℕ). pages_advance salt answer l w) e
+
+    length-step : w.pager.job ≡ job.MainLength salt answer → stepped g w ≡ main_length_stored salt answer w
+    unfolding commit_todo commit_advance checkpoint_todo checkpoint_advance
+    length-step j = checkpoint-step (job.MainLength salt answer) _ _ j (todo-by g w (job.MainLength salt answer) j) refl
+
+    empty-step : w.pager.job ≡ job.LogLength salt answer → stepped g w ≡ log_length_stored salt answer w
+    unfolding commit_todo commit_advance checkpoint_todo checkpoint_advance
+    empty-step j = checkpoint-step (job.LogLength salt answer) _ _ j (todo-by g w (job.LogLength salt answer) j) refl
+
+    last_step : w.pager.job ≡ job.LogHeader salt answer → stepped g w ≡ checkpointed salt w
+    unfolding commit_todo commit_advance checkpoint_todo checkpoint_advance
+    last_step j = checkpoint-step (job.LogHeader salt answer) _ _ j (todo-by g w (job.LogHeader salt answer) j) refl
+
+  -- ---- all of them
+
+  next-ready : {P : ℕ → Bool} (w v : World) → stepped g w ≡ v → ReadyOf P g w → ReadyOf P g v
+  next-ready w v e r = rw e at (step_keeps g w r)
+
+  end-run : {P : ℕ → Bool} (w : World) (p : ℕ) → w.pager.job ≡ job.Checkpoint salt p answer → pages_from (in_checkpoint w) p ≡ [] → ReadyOf P g w → steps g 4 w ≡ end_world w
+  unfolding steps main_header_stored main_length_stored log_length_stored
+  end-run {P} w p j e r =
+      let w₁ : World = main_header_stored salt answer w in
+      let w₂ : World = main_length_stored salt answer w₁ in
+      let w₃ : World = log_length_stored salt answer w₂ in
+      let a : stepped g w ≡ w₁ = header-step w r p j e in
+      let s : ReadyOf P g w₁ = next-ready w w₁ a r in
+      let b : stepped g w₁ ≡ w₂ = length-step w₁ s refl in
+      let t : ReadyOf P g w₂ = next-ready w₁ w₂ b s in
+      let c : stepped g w₂ ≡ w₃ = empty-step w₂ t refl in
+      let u : ReadyOf P g w₃ = next-ready w₂ w₃ c t in
+      rw (a, b, c) (last_step w₃ u refl)
+
+  paged-job : (n : ℕ) (w : World) → (page_stored salt answer n w).pager.job ≡ job.Checkpoint salt (suc n) answer
+  unfolding page_stored
+  paged-job n w = refl
+
+  paged-left : (w : World) (p n : ℕ) (ns : List ℕ) → pages_from (in_checkpoint w) p ≡ n ∷ ns → pages_from (in_checkpoint (page_stored salt answer n w)) (suc n) ≡ ns
+  unfolding page_stored in_checkpoint_by
+  paged-left w p n ns e =
+      let s = (first (in_checkpoint w) p n ns e).split in
+      cc
+
+  one_more : (k : ℕ) (w v u : World) → stepped g w ≡ v → steps g k v ≡ u → steps g (suc k) w ≡ u
+  unfolding steps
+  one_more k w v u a e = ap (steps g k) a ∙ e
+
+  pages-run : {P : ℕ → Bool} (l : List ℕ) (w : World) (p : ℕ) → w.pager.job ≡ job.Checkpoint salt p answer → pages_from (in_checkpoint w) p ≡ l → ReadyOf P g w
+      → steps g (length l + 4) w ≡ end_world (pages_world l w)
+  unfolding pages_world
+  pages-run [] w p j e r = end-run w p j e r
+  pages-run (n ∷ ns) w p j e r =
+      let v : World = page_stored salt answer n w in
+      let a : stepped g w ≡ v = page-step w r p n ns j e in
+      rw suc-add (one_more (length ns + 4) w v (end_world (pages_world ns v)) a (pages-run ns v (suc n) (paged-job n w) (paged-left w p n ns e) (next-ready w v a r)))
+
+  -- in as many steps or more
+  pub checkpoint-run : {P : ℕ → Bool} (k : ℕ) (w : World) → w.pager.job ≡ job.Checkpoint salt 0 answer → ReadyOf P g w → length (pages_from (in_checkpoint w) 0) + 4 ≤ k
+      → steps g k w ≡ end_world (pages_world (pages_from (in_checkpoint w) 0) w)
+  unfolding checkpointed
+  checkpoint-run k w j r h =
+      let l : List ℕ = pages_from (in_checkpoint w) 0 in
+      let e : length l + 4 + (k - (length l + 4)) ≡ k = omega arith in
+      ap (λ (n : ℕ). steps g n w) (sym e) ∙ steps-add g (length l + 4) (k - (length l + 4)) w
+      ∙ ap (steps g (k - (length l + 4))) (pages-run l w 0 j refl r) ∙ idle-stays g (k - (length l + 4)) (end_world (pages_world l w)) refl
+
+  -- ---- what the pages' stores leave
+
   abbrev main_of : World → File
   main_of w = (disk_of w).main
+
+  pub record Paged (w v : World) : Type 0 where
+    pub table : v.table ≡ w.table
+    pub log : v.log ≡ w.log
+    pub wal : v.pager.wal ≡ w.pager.wal
+    pub staged : v.pager.staged ≡ w.pager.staged
+    pub header : header_of v.pager ≡ header_of w.pager
+    pub lies : Lies main_area_size (main_of v)
 
   -- every frame that the table names has a whole page
   abbrev Wholes : World → Type 0
@@ -120,19 +231,22 @@ module _ (salt answer : ℕ) where
     unfolding page_stored
     behind-wholes = k
 
-  pages-lie : (l : List ℕ) (w : World) (p : ℕ) → pages_from (in_checkpoint w) p ≡ l → Wholes w → Lies main_area_size (main_of w) → Lies main_area_size (main_of (pages_world salt answer l w))
+  -- they leave table, log and header
+  pages-keep : (l : List ℕ) (w : World) (p : ℕ) → pages_from (in_checkpoint w) p ≡ l → Wholes w → Lies main_area_size (main_of w) → Paged w (pages_world l w)
   unfolding pages_world page_stored
-  pages-lie [] w p e k s = s
-  pages-lie (n ∷ ns) w p e k s =
-      pages-lie ns (page_stored salt answer n w) (suc n) (paged-left salt answer w p n ns e) (behind-wholes w p n ns e k s) (behind-lies w p n ns e k s)
+  pages-keep [] w p e k s = record { table = refl; log = refl; wal = refl; staged = refl; header = refl; lies = s }
+  pages-keep (n ∷ ns) w p e k s =
+      let v : World = page_stored salt answer n w in
+      let i = pages-keep ns v (suc n) (paged-left w p n ns e) (behind-wholes w p n ns e k s) (behind-lies w p n ns e k s) in
+      record { table = i.table; log = i.log; wal = i.wal; staged = i.staged; header = i.header; lies = i.lies }
 
   -- every page that they are not of stays
   pages-kept : (l : List ℕ) (w : World) (p : ℕ) → pages_from (in_checkpoint w) p ≡ l → Wholes w → Lies main_area_size (main_of w)
-      → (m : ℕ) (x : List ℕ) → (m < p) ⊎ (in_checkpoint w m ≡ false) → Has m x (main_of w) → Has m x (main_of (pages_world salt answer l w))
+      → (m : ℕ) (x : List ℕ) → (m < p) ⊎ (in_checkpoint w m ≡ false) → Has m x (main_of w) → Has m x (main_of (pages_world l w))
   unfolding pages_world page_stored in_checkpoint_by
   pages-kept [] w p e k s m x h y = y
   pages-kept (n ∷ ns) w p e k s m x h y =
-      pages-kept ns (page_stored salt answer n w) (suc n) (paged-left salt answer w p n ns e) (behind-wholes w p n ns e k s) (behind-lies w p n ns e k s) m x
+      pages-kept ns (page_stored salt answer n w) (suc n) (paged-left w p n ns e) (behind-wholes w p n ns e k s) (behind-lies w p n ns e k s) m x
       (still h) (behind-other w p n ns e k s m x h y)
     where
       still : (m < p) ⊎ (in_checkpoint w m ≡ false) → (m < suc n) ⊎ (in_checkpoint (page_stored salt answer n w) m ≡ false)
@@ -141,20 +255,20 @@ module _ (salt answer : ℕ) where
 
   -- and each of theirs is there
   pages-brought : (l : List ℕ) (w : World) (p : ℕ) → pages_from (in_checkpoint w) p ≡ l → Wholes w → Lies main_area_size (main_of w)
-      → (m : ℕ) → p ≤ m → m < page_limit → in_checkpoint w m ≡ true → Has m (log_bytes w.table w.log m) (main_of (pages_world salt answer l w))
+      → (m : ℕ) → p ≤ m → m < page_limit → in_checkpoint w m ≡ true → Has m (log_bytes w.table w.log m) (main_of (pages_world l w))
   unfolding pages_world page_stored in_checkpoint_by
   pages-brought [] w p e k s m a b t = no_test (sym (pages-none (in_checkpoint w) p e m a b) ∙ t)
   pages-brought (n ∷ ns) w p e k s m a b t =
       let v : World = page_stored salt answer n w in
-      let x = paged-left salt answer w p n ns e in
+      let x = paged-left w p n ns e in
       let y = behind-wholes w p n ns e k s in
       let z = behind-lies w p n ns e k s in
       go (eq-or-not m n) (pages-kept ns v (suc n) x y z n (log_bytes w.table w.log n) (inl (omega arith)) (behind-own w p n ns e k s))
       (λ h. pages-brought ns v (suc n) x y z m h b t)
     where
-      go : (m ≡ n) ⊎ (m ≡ n → ⊥) → Has n (log_bytes w.table w.log n) (main_of (pages_world salt answer ns (page_stored salt answer n w)))
-          → (suc n ≤ m → Has m (log_bytes w.table w.log m) (main_of (pages_world salt answer ns (page_stored salt answer n w))))
-          → Has m (log_bytes w.table w.log m) (main_of (pages_world salt answer ns (page_stored salt answer n w)))
+      go : (m ≡ n) ⊎ (m ≡ n → ⊥) → Has n (log_bytes w.table w.log n) (main_of (pages_world ns (page_stored salt answer n w)))
+          → (suc n ≤ m → Has m (log_bytes w.table w.log m) (main_of (pages_world ns (page_stored salt answer n w))))
+          → Has m (log_bytes w.table w.log m) (main_of (pages_world ns (page_stored salt answer n w)))
       go (inl q) own later = rw q own
       go (inr q) own later = later (above (le-or-lt m n))
         where
@@ -178,24 +292,21 @@ module _ (salt answer : ℕ) where
         let l = length-encode_header (header_of v.pager) in
         rw headed-main (put-lies main_area_size (main_of v) (page_size * 0) (encode_header (header_of v.pager)) (omega arith) s)
 
-    end-main : (end_world salt answer v).main ≡ grown (main_of (main_header_stored salt answer v)) (page_size * count_of (header_of v.pager))
+    end-main : (end_world v).main ≡ grown (main_of (main_header_stored salt answer v)) (page_size * count_of (header_of v.pager))
     unfolding checkpointed log_length_stored main_length_stored main_header_stored len_file
     end-main = refl
 
-    end-page : Lies main_area_size (main_of v) → (n : ℕ) (x : List ℕ) → 1 ≤ n → Has n x (main_of v) → page_from (page_size * n) (end_world salt answer v).main ≡ x
+    end-page : Lies main_area_size (main_of v) → (n : ℕ) (x : List ℕ) → 1 ≤ n → Has n x (main_of v) → page_from (page_size * n) (end_world v).main ≡ x
     end-page s n x a h =
         let l = length-encode_header (header_of v.pager) in
         let y : Has n x (main_of (main_header_stored salt answer v)) =
         rw headed-main (put_other (main_of v) s 0 (encode_header (header_of v.pager)) l (omega arith) n x (λ e. omega arith) h) in
         rw end-main (has-grown (main_of (main_header_stored salt answer v)) (headed-lies s) n (page_size * count_of (header_of v.pager)) x y)
 
-  -- the log has its header alone
-  pub end_empty : (l : List ℕ) (w : World) → Empty (end_world salt answer (pages_world salt answer l w))
-  unfolding checkpointed log_length_stored main_length_stored main_header_stored
-  end_empty l w =
-      let e = end_is salt answer l w in
-      let v = pages_world salt answer l w in
-      record { rests = e.rests; log_file = e.log_file; frames = e.frames; none = checkpointed-none (count_of (header_of v.pager)) 0 v.table }
+    -- the log has its header alone
+    pub end_empty : Empty (end_world v)
+    unfolding checkpointed log_length_stored main_length_stored main_header_stored empty_wal
+    end_empty = record { rests = refl; log_file = refl; frames = refl; none = checkpointed-none (count_of (header_of v.pager)) 0 v.table }
 
 -- ---- the table
 
@@ -246,16 +357,13 @@ module _ (g : List ℕ) (w : World) (salt : ℕ) (slots : length w.pager.staged.
   begun-ready : ReadyOf (λ (n : ℕ). false) g begun
   begun-ready = rw begun-is at (checkpoint-ready g w b salt slots)
 
-  abbrev pages : List ℕ
-  pages = pages_from (in_checkpoint begun) 0
-
   -- after the pages
   abbrev written : World
-  written = pages_world salt (checkpoint_count w) pages begun
+  written = pages_world g salt (checkpoint_count w) (pages_from (in_checkpoint begun) 0) begun
 
-  checkpoint-is : checkpoint_world g w salt ≡ end_world salt (checkpoint_count w) written
+  checkpoint-is : checkpoint_world g w salt ≡ end_world g salt (checkpoint_count w) written
   unfolding checkpoint_world
-  checkpoint-is = rw (b, begun-is) (checkpoint-run salt (checkpoint_count w) g most_steps begun refl begun-ready (omega (arith, pages-length (in_checkpoint begun) 0)))
+  checkpoint-is = rw (b, begun-is) (checkpoint-run g salt (checkpoint_count w) most_steps begun refl begun-ready (omega (arith, pages-length (in_checkpoint begun) 0)))
 
   begun-fine : Fine begun
   begun-fine = (ready-fine g begun begun-ready.right).0
@@ -266,11 +374,8 @@ module _ (g : List ℕ) (w : World) (salt : ℕ) (slots : length w.pager.staged.
       length-take page_size (drop (frame_of w.table n + 16) w.log)
       ∙ omega (arith, length-drop (frame_of w.table n + 16) w.log, i n h e, begun-fine.files.log.len, begun-fine.files.log.area)
 
-  left : Leaves begun written
-  left = pages-leave salt (checkpoint_count w) pages begun
-
-  lies : Lies main_area_size (disk_of written).main
-  lies = pages-lie salt (checkpoint_count w) pages begun 0 refl wholes begun-fine.files.main
+  paged-all : Paged g salt (checkpoint_count w) begun written
+  paged-all = pages-keep g salt (checkpoint_count w) (pages_from (in_checkpoint begun) 0) begun 0 refl wholes begun-fine.files.main
 
   begun-checkpoints : (n : ℕ) → 1 ≤ n → n < count_of (header_of w.pager) → in_checkpoint begun n ≡ in_log w.table n
   unfolding in_checkpoint_by
@@ -281,25 +386,25 @@ module _ (g : List ℕ) (w : World) (salt : ℕ) (slots : length w.pager.staged.
       → (page_from (page_size * n) (checkpoint_world g w salt).main ≡ x) × (on_main (checkpoint_world g w salt).table n ≡ true)
   unfolding checkpointed log_length_stored main_length_stored main_header_stored
   settled n x a c z h =
-      let k = left in (
-        rw checkpoint-is (end-page salt (checkpoint_count w) written lies n x a h),
+      let k = paged-all in (
+        rw checkpoint-is (end-page g salt (checkpoint_count w) written k.lies n x a h),
         rw (checkpoint-is, k.header, k.table) (checkpointed-main (count_of (header_of w.pager)) w.table n a c z),
       )
 
   pub checkpoint-leaves : CheckpointedTo w (checkpoint_world g w salt)
   unfolding checkpointed log_length_stored main_length_stored main_header_stored len_file empty_wal truncated_header
   checkpoint-leaves =
-      let k = left in
+      let k = paged-all in
       let most = begun-fine.count in
       record {
-        empty = rw checkpoint-is (end_empty salt (checkpoint_count w) pages begun);
+        empty = rw checkpoint-is (end_empty g salt (checkpoint_count w) written);
         clock = rw (checkpoint-is, k.wal);
         staged = rw checkpoint-is k.staged;
         main_file = rw (checkpoint-is, k.header);
         brought = λ n a c e. settled n (log_bytes w.table w.log n) a c (log-entry w.table n e)
-            (pages-brought salt (checkpoint_count w) pages begun 0 refl wholes begun-fine.files.main n (omega arith) (omega arith) (begun-checkpoints n a c ∙ e));
+            (pages-brought g salt (checkpoint_count w) (pages_from (in_checkpoint begun) 0) begun 0 refl wholes begun-fine.files.main n (omega arith) (omega arith) (begun-checkpoints n a c ∙ e));
         stayed = λ n a c e f h. settled n (page_from (page_size * n) w.main) a c (main-entry w.table n f)
-            (pages-kept salt (checkpoint_count w) pages begun 0 refl wholes begun-fine.files.main n (page_from (page_size * n) w.main)
+            (pages-kept g salt (checkpoint_count w) (pages_from (in_checkpoint begun) 0) begun 0 refl wholes begun-fine.files.main n (page_from (page_size * n) w.main)
             (inr (begun-checkpoints n a c ∙ e)) (record { bytes = refl; inside = h }));
       }
 

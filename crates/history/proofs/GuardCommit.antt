@@ -1,42 +1,189 @@
--- A commit that is begun, in a store whose frame count does not wrap: the log is its frames longer, or a checkpoint has emptied it. Assumes nothing.
-use mathlib.Core.Path.{◌≡◌, ◌∙◌}
-use mathlib.Core.List.{List}
+-- A commit that is begun, run to its end: the log is its frames longer, or a checkpoint has emptied it. Assumes nothing.
+use mathlib.Core.Path.{◌≡◌, refl, sym, ap, ◌∙◌}
+use mathlib.Core.Bool.{Bool}
+use mathlib.Core.List.{List, [], ◌∷◌, append-nil}
 use mathlib.Core.Option.{none}
-use Prim.Native.Nat.{ℕ, ◌+◌, ◌≤◌, ◌<◌}
+use Prim.Native.Nat.{ℕ, suc, ◌+◌, ◌-◌, ◌*◌, ◌^◌, ◌≤◌, ◌<◌}
+use native.Mathlib.Nat.{suc-add}
 use native.Mathlib.Omega.{arith}
+use borrow.Author.Tests.{le-leb, lt-leb}
 use lib.ListN.{length}
 use Rattle.header.specs.declared.DbHeader.{DbHeader}
-use Rattle.pager_state.specs.World.{World, staged_limit}
-use Rattle.pager_state.specs.Pages.{pages_from, differs, in_checkpoint}
-use Rattle.pager_state.specs.Commit.{checkpoint_frames}
-use Rattle.pager_state.specs.Steps.{differing, commit_refusal, commit_answer, commit_world}
+use Rattle.frame.specs.Frame.{frame_size}
+use Rattle.wal.specs.Write.{longer}
+use Rattle.pager_state.specs.World.{World, staged_limit, with_job}
+use Rattle.pager_state.specs.Overlay.{is_staged, committed_in}
+use Rattle.pager_state.specs.Stores.{Act}
+use Rattle.pager_state.specs.Pages.{pages_from, differs_in, differs, in_checkpoint}
+use Rattle.pager_state.specs.Checkpoint.{checkpoint_todo, checkpoint_advance}
+use Rattle.pager_state.specs.Commit.{checkpoint_frames, job_after, page_frame_stored, committed_pager, committed_world, frames_todo, frames_advance, commit_todo, commit_advance}
+use Rattle.pager_state.specs.Steps.{differing, commit_refusal, begin_commit, todo, done, stepped, steps, most_steps, on_store, commit_answer, commit_world}
 use Rattle.pager_state.specs.declared.Job.TheVariants as job
-use Rattle.pager_state.proofs.Searches.{pages-length}
-use Rattle.pager_state.proofs.CommitEnd.{committed, committed-is, frames_then, commit-frame-idle, ends-behind, ends-checkpointed}
+use Rattle.pager_state.proofs.Searches.{first, pages-same, pages-length}
+use Rattle.pager_state.proofs.Stored.{AllInside}
+use Rattle.pager_state.proofs.Made.{AsksOf, ReadyOf, ready-fine}
+use Rattle.pager_state.proofs.Next.{todo-by, advance-by}
+use Rattle.pager_state.proofs.Advance.{framed-differs}
+use Rattle.pager_state.proofs.Steps.{step_keeps}
+use Rattle.pager_state.proofs.Runs.{steps-add, steps-keep, step-inside, idle-stays}
+use Rattle.pager_state.proofs.Begun.{begun-commit, commit-inside, commit-ready}
 use Rattle.history.specs.Guards.{LongerBy, Empty, Ends}
-use Rattle.history.proofs.GuardCheckpoint.{end_empty}
+use Rattle.history.proofs.GuardCheckpoint.{pages_world, checkpoint-run, end_empty}
+
+module _ (g : List ℕ) (h : DbHeader) (salt answer : ℕ) where
+  -- after the frames of these pages
+  unfoldable pub frames_world : List ℕ → World → World
+  frames_world [] w = w
+  frames_world (n ∷ ns) w = frames_world ns (page_frame_stored g h salt answer n w)
+
+  -- ---- one step
+
+  module _ {P : ℕ → Bool} (w : World) (p : ℕ) (j : w.pager.job ≡ job.Commit h salt p answer) (ns : List ℕ) (e : pages_from (differs g w) p ≡ ns) (r : ReadyOf P g w)
+      (i : AllInside (todo g w)) where
+    frames-todo : todo g w ≡ frames_todo g h salt answer ns w
+    unfolding commit_todo checkpoint_todo
+    frames-todo = todo-by g w (job.Commit h salt p answer) j ∙ append-nil _ ∙ ap (λ (l : List ℕ). frames_todo g h salt answer l w) e
+
+    frames-step : (a : Act) (rest : List Act) → frames_todo g h salt answer ns w ≡ a ∷ rest → stepped g w ≡ frames_advance g h salt answer ns w
+    unfolding stepped done commit_advance checkpoint_advance
+    frames-step a rest f =
+        let t = frames-todo ∙ f in
+        let k : AllInside (a ∷ rest) = rw t at i in
+        rw (r.right, t, k.0) (advance-by g w (job.Commit h salt p answer) j ∙ ap (λ (l : List ℕ). frames_advance g h salt answer l w) e)
+
+  -- ---- the frames
+
+  framed-left : {P : ℕ → Bool} (w : World) (p n : ℕ) (ns : List ℕ) → w.pager.job ≡ job.Commit h salt p answer → pages_from (differs g w) p ≡ n ∷ ns → ReadyOf P g w
+      → pages_from (differs g (page_frame_stored g h salt answer n w)) (suc n) ≡ ns
+  framed-left {P} w p n ns j e r =
+      let f = (ready-fine g w r.right).0.files.log in
+      let k : AsksOf P (job.Commit h salt p answer) w = rw j at r.made.asked in
+      let d = pages-same (differs g (page_frame_stored g h salt answer n w)) (differs g w) (suc n) (framed-differs g h salt answer w n k.0 k.1.0 (omega (arith, f.area, f.len))) in
+      let s = (first (differs g w) p n ns e).split in
+      d ∙ cc
+
+  framed-job : (n : ℕ) (w : World) → (page_frame_stored g h salt answer n w).pager.job ≡ job.Commit h salt (suc n) answer
+  unfolding page_frame_stored
+  framed-job n w = refl
+
+  frames-run : {P : ℕ → Bool} (ns : List ℕ) (w : World) (p : ℕ) → w.pager.job ≡ job.Commit h salt p answer → pages_from (differs g w) p ≡ ns → ReadyOf P g w → AllInside (todo g w)
+      → steps g (length ns + 1) w ≡ committed_world h salt answer (frames_world ns w)
+  unfolding frames_world frames_todo steps
+  frames-run [] w p j e r i = frames-step w p j [] e r i _ _ refl
+  frames-run {P} (n ∷ ns) w p j e r i =
+      let v : World = page_frame_stored g h salt answer n w in
+      let a : stepped g w ≡ v = frames-step w p j (n ∷ ns) e r i _ _ refl in
+      let k : AllInside (todo g v) = rw a at (step-inside g w r i) in
+      let s : ReadyOf P g v = rw a at (step_keeps g w r) in
+      rw suc-add (ap (steps g (length ns + 1)) a ∙ frames-run ns v (suc n) (framed-job n w) (framed-left w p n ns j e r) s k)
+
+  -- each is one frame
+  frames-grow : (ns : List ℕ) (w : World) → w.pager.wal.frame_count + length ns < 2 ^ 64
+      → ((frames_world ns w).pager.wal.len ≡ w.pager.wal.len + frame_size * length ns)
+      × ((frames_world ns w).pager.wal.frame_count ≡ w.pager.wal.frame_count + length ns)
+  unfolding frames_world page_frame_stored longer
+  frames-grow [] w k = (omega arith, omega arith)
+  frames-grow (n ∷ ns) w k =
+      let x = frames-grow ns (page_frame_stored g h salt answer n w) (omega arith) in
+      (omega (arith, x.0), omega (arith, x.1))
+
+  frames-opening : (ns : List ℕ) (w : World) → (frames_world ns w).pager.opening ≡ w.pager.opening
+  unfolding frames_world page_frame_stored
+  frames-opening [] w = refl
+  frames-opening (n ∷ ns) w = frames-opening ns (page_frame_stored g h salt answer n w)
+
+  frames-header : (ns : List ℕ) (w : World) → (frames_world ns w).pager.wal.header ≡ w.pager.wal.header
+  unfolding frames_world page_frame_stored longer
+  frames-header [] w = refl
+  frames-header (n ∷ ns) w = frames-header ns (page_frame_stored g h salt answer n w)
+
+-- ---- a commit that is begun
 
 module _ (g : List ℕ) (w : World) (h : DbHeader) (salt : ℕ) (slots : length w.pager.staged.pages ≡ staged_limit)
     (few : w.pager.wal.frame_count ≤ 1024) (b : commit_refusal g w h ≡ none) where
-  unwrapped : frames_then g w h salt slots b ≡ w.pager.wal.frame_count + (differing g w + 1)
-  unfolding differing
-  unwrapped = omega (arith, pages-length (differs g w) 0)
+  abbrev answer : ℕ
+  answer = differing g w
+
+  abbrev pages : List ℕ
+  pages = pages_from (differs g w) 0
+
+  abbrev begun : World
+  begun = on_store w (with_job w.pager (job.Commit h salt 0 answer))
+
+  -- after the commit frame
+  abbrev committed : World
+  committed = committed_world h salt answer (frames_world g h salt answer pages begun)
+
+  begun-is : on_store w (begin_commit g w h salt).pager ≡ begun
+  begun-is = rw (begun-commit g w h b salt)
+
+  begun-ready : ReadyOf (is_staged w.pager.staged) g begun
+  begun-ready = rw begun-is at (commit-ready g w h b salt slots)
+
+  begun-inside : AllInside (todo g begun)
+  begun-inside = rw begun-is at (commit-inside g w h b salt)
+
+  begun-pages : pages_from (differs g begun) 0 ≡ pages
+  unfolding differs_in committed_in
+  begun-pages = refl
+
+  commit-frame-run : steps g (length pages + 1) begun ≡ committed
+  commit-frame-run = frames-run g h salt answer pages begun 0 refl begun-pages begun-ready begun-inside
+
+  commit-frame-ready : ReadyOf (is_staged w.pager.staged) g committed
+  commit-frame-ready = rw commit-frame-run at (steps-keep g (length pages + 1) begun begun-ready)
+
+  -- the steps behind the commit frame
+  commit-is : commit_world g w h salt ≡ steps g (most_steps - (length pages + 1)) committed
+  unfolding commit_world
+  commit-is =
+      let k : length pages + 1 + (most_steps - (length pages + 1)) ≡ most_steps = omega (arith, pages-length (differs g w) 0) in
+      rw (b, begun-is)
+      (ap (λ (n : ℕ). steps g n begun) (sym k) ∙ steps-add g (length pages + 1) (most_steps - (length pages + 1)) begun ∙ ap (steps g (most_steps - (length pages + 1))) commit-frame-run)
+
+  module _ (v : World) (e : v ≡ committed) where
+    commit-frame-len : v.pager.wal.len ≡ w.pager.wal.len + frame_size * (differing g w + 1)
+    unfolding committed_world committed_pager longer differing
+    commit-frame-len = rw e (omega (arith, (frames-grow g h salt answer pages begun (omega (arith, pages-length (differs g w) 0))).0))
+
+    commit-frame-frames : v.pager.wal.frame_count ≡ w.pager.wal.frame_count + (differing g w + 1)
+    unfolding committed_world committed_pager longer differing
+    commit-frame-frames =
+        let x = (frames-grow g h salt answer pages begun (omega (arith, pages-length (differs g w) 0))).1 in
+        rw e (omega (arith, x, pages-length (differs g w) 0))
+
+    commit-frame-unstaged : v.pager.staged.count ≡ 0
+    unfolding committed_world committed_pager
+    commit-frame-unstaged = rw e
+
+    commit-frame-opening : v.pager.opening ≡ w.pager.opening
+    unfolding committed_world committed_pager
+    commit-frame-opening = rw e (frames-opening g h salt answer pages begun)
+
+    commit-frame-header : v.pager.wal.header ≡ w.pager.wal.header
+    unfolding committed_world committed_pager longer
+    commit-frame-header = rw e (frames-header g h salt answer pages begun)
+
+  commit-frame-job : committed.pager.job ≡ job_after committed.pager.wal salt answer
+  unfolding committed_world committed_pager
+  commit-frame-job = refl
 
   -- below 100 frames no checkpoint follows
-  pub commit-idle : w.pager.wal.frame_count + (differing g w + 1) < checkpoint_frames → (committed g w h salt slots b).pager.job ≡ job.Idle
-  commit-idle k = commit-frame-idle g w h salt slots b (omega (arith, unwrapped, k))
+  pub commit-frame-idle : w.pager.wal.frame_count + (differing g w + 1) < checkpoint_frames → committed.pager.job ≡ job.Idle
+  commit-frame-idle k = commit-frame-job ∙ rw (lt-leb checkpoint_frames committed.pager.wal.frame_count (omega (arith, commit-frame-frames committed refl)))
 
   ends-below : w.pager.wal.frame_count + (differing g w + 1) < checkpoint_frames → LongerBy w (commit_world g w h salt) (differing g w + 1)
   ends-below k =
-      let c = committed-is g w h salt slots b in
-      rw (ends-behind g w h salt slots b (omega (arith, unwrapped, k)))
-      (record { rests = commit-idle k; unstaged = c.unstaged; opening = c.opening; header = c.log_header; log_file = c.log_file; frames = c.frames ∙ unwrapped })
+      let j = commit-frame-idle k in
+      let e = commit-is ∙ idle-stays g (most_steps - (length pages + 1)) committed j in
+      record { rests = rw e j; unstaged = commit-frame-unstaged _ e; opening = commit-frame-opening _ e; header = commit-frame-header _ e; log_file = commit-frame-len _ e; frames = commit-frame-frames _ e }
 
   ends_above : checkpoint_frames ≤ w.pager.wal.frame_count + (differing g w + 1) → Empty (commit_world g w h salt)
   ends_above k =
-      let c : World = committed g w h salt slots b in
-      rw (ends-checkpointed g w h salt slots b (omega (arith, unwrapped, k)))
-      (end_empty salt (differing g w) (pages_from (in_checkpoint c) 0) c)
+      let j : committed.pager.job ≡ job.Checkpoint salt 0 answer = commit-frame-job ∙ rw (le-leb checkpoint_frames committed.pager.wal.frame_count (omega (arith, commit-frame-frames committed refl))) in
+      let m : length (pages_from (in_checkpoint committed) 0) + 4 ≤ most_steps - (length pages + 1) = omega (arith, pages-length (differs g w) 0, pages-length (in_checkpoint committed) 0) in
+      rw (commit-is ∙ checkpoint-run g salt answer (most_steps - (length pages + 1)) committed j commit-frame-ready m)
+      (end_empty g salt answer (pages_world g salt answer (pages_from (in_checkpoint committed) 0) committed))
 
   pub commit-ends : Ends g w h salt
   unfolding commit_answer

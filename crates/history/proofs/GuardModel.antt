@@ -21,11 +21,11 @@ use Rattle.pager_state.specs.declared.AccessMode.TheVariants as mode
 use Rattle.pager_state.specs.declared.Job.{Job}
 use Rattle.pager_state.specs.declared.Job.TheVariants as job
 use Rattle.pager_state.proofs.Begun.{begun-commit}
-use Rattle.pager_state.proofs.CommitEnd.{frames_world}
 use Rattle.history.specs.Model.{Model, model_read, model_header, model_stage, model_open, model_wait, batch_in, model_pages, model_commit, model_stores}
 use Rattle.history.specs.Calls.{Lent, ReadMode, Call, Ask, Open, Stage, Append, Commit, Checkpoint, refused_by, stores_of, world_after, staging_after, model_first, body_lent}
 use Rattle.history.specs.Run.{Run, kinds, whole, Left, cut_call, Attempt, cut_opening, cut_openings, reopened, Cut, next}
 use Rattle.history.specs.Guards.{Accepted}
+use Rattle.history.proofs.GuardCommit.{frames_world}
 
 -- a page is entered and not staged
 pub record Shows (b : Model) (n : ℕ) (bytes : List ℕ) : Type 0 where
