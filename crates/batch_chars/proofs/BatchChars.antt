@@ -6,6 +6,8 @@ use Prim.Native.Nat.{ℕ, zero, suc, ◌+◌, ◌*◌, ◌^◌, ◌<◌}
 use lib.Dec.{eqb}
 use lib.ListN.{take, drop}
 use lib.Ieee.{binary64, nan_bits}
+use Rattle.std.specs.Prelude.{Err, None, Ok, Option, Result, Some}
+use Rattle.refusal.specs.declared.Refusal.{Refusal}
 use Rattle.le.specs.Le.{field}
 use Rattle.text.specs.Table.{Sequences}
 use Rattle.text.specs.Utf8.{well_formed, chars}
@@ -20,6 +22,7 @@ use Rattle.mvcc.specs.declared.Column.{Column}
 use Rattle.mvcc.specs.declared.MvccLogRecord.{MvccLogRecord}
 use Rattle.mvcc.proofs.Sound.{When, then-when, pick-test}
 use Rattle.mvcc.proofs.Canonical.{records-encode, canonical-records}
+use Rattle.wal.specs.declared.BatchAt.{BatchAt}
 use Rattle.batch_chars.specs.BatchChars.{value_chars, column_chars, record_chars, batch_chars, carried_by_value, carried_by_column, carried_by_record, carried, carried_at, carried_from, Carries, BatchChars}
 use Rattle.mvcc_build.proofs.Built.{start-built, built-records}
 use Rattle.mvcc_build.proofs.Run.{run-built}
@@ -28,8 +31,6 @@ use Rattle.pager_state.specs.Overlay.{page_from}
 use Rattle.pager_state.specs.Batches.{next_recovered}
 use Rattle.pager_state.specs.Opening.{create_fine}
 use Rattle.pager_state.specs.declared.AccessMode.TheVariants as mode
-use Rattle.pager_state.specs.declared.RecoveredFound.{RecoveredFound}
-use Rattle.pager_state.specs.declared.RecoveredFound.TheVariants as batch
 use Rattle.history.specs.Model.{Batch, batch_in}
 use Rattle.history.specs.Calls.{Lent, Call, Open}
 use Rattle.history.specs.Run.{Run, whole, Attempt, Event, Cut, next, start}
@@ -165,12 +166,12 @@ taken-so P e h = rw e at h
 abbrev row_chars : Batch → List ℕ
 row_chars b = batch_chars b.rows
 
-found-same : (f : RecoveredFound) (l : List ℕ) (numbers : ℕ → List (List ℕ)) (rest : ℕ → List Batch) → ((i : ℕ) → numbers i ≡ map row_chars (rest i))
+found-same : (f : Result (Option BatchAt) Refusal) (l : List ℕ) (numbers : ℕ → List (List ℕ)) (rest : ℕ → List Batch) → ((i : ℕ) → numbers i ≡ map row_chars (rest i))
     → carried_at f l numbers ≡ map row_chars (walked_at f l rest)
 unfolding batch_in
-found-same (batch.Batch i at) l numbers rest h = rw (carried_same (page_from (at + 16) l), h (i + 1))
-found-same batch.Nothing l numbers rest h = refl
-found-same (batch.Refused r) l numbers rest h = refl
+found-same (Ok (Some b)) l numbers rest h = rw (carried_same (page_from (b.offset + 16) l), h (b.index + 1))
+found-same (Ok None) l numbers rest h = refl
+found-same (Err r) l numbers rest h = refl
 
 walked_same : (k : ℕ) (w : World) (i : ℕ) → carried_from k w i ≡ map row_chars (walked k w i)
 unfolding carried_from walked

@@ -1,6 +1,7 @@
 -- Document 02, P6: "The text check now also gives the number of Unicode scalar values; batch names and texts carry it along."
 -- `batch-chars` of proofs/BatchChars.antt proves it. What the text check answers is `agrees` of text.
-use Rattle.std.specs.Prelude.{◌≡◌, true, List, [], ◌∷◌, ◌++◌, map, ℕ, zero, suc, ◌+◌, ◌^◌, ◌<◌, length}
+use Rattle.std.specs.Prelude.{Err, None, Ok, Option, Result, Some, ◌≡◌, true, List, [], ◌∷◌, ◌++◌, map, ℕ, zero, suc, ◌+◌, ◌^◌, ◌<◌, length}
+use Rattle.refusal.specs.declared.Refusal.{Refusal}
 use Rattle.le.specs.Le.{Bytes}
 use Rattle.text.specs.Table.{Sequences}
 use Rattle.text.specs.Utf8.{chars}
@@ -15,6 +16,7 @@ use Rattle.mvcc.specs.declared.Column.{Column}
 use Rattle.mvcc.specs.declared.VersionPayload.{VersionPayload}
 use Rattle.mvcc.specs.declared.VersionPayload.TheVariants as payload
 use Rattle.mvcc.specs.declared.MvccLogRecord.{MvccLogRecord}
+use Rattle.wal.specs.declared.BatchAt.{BatchAt}
 use Rattle.mvcc_build.specs.Build.{started_bytes}
 use Rattle.mvcc_build.specs.Built.{builder_of}
 use Rattle.mvcc_build.specs.Run.{Addition, HeldCall, run_body, run_records}
@@ -22,8 +24,6 @@ use Rattle.pager_state.specs.World.{World}
 use Rattle.pager_state.specs.Overlay.{page_from}
 use Rattle.pager_state.specs.Batches.{next_recovered}
 use Rattle.pager_state.specs.declared.AccessMode.TheVariants as mode
-use Rattle.pager_state.specs.declared.RecoveredFound.{RecoveredFound}
-use Rattle.pager_state.specs.declared.RecoveredFound.TheVariants as batch
 use Rattle.history.specs.Model.{Batch}
 use Rattle.history.specs.Calls.{Lent, Call, Open}
 use Rattle.history.specs.Run.{Run, whole, Attempt, Cut, next}
@@ -76,10 +76,10 @@ carried s = all (carried_by_record s) (items (records_at s))
 
 -- ---- those of an open store's batches, walked from a frame's index on; no log has more than 1,024 frames
 
-abbrev pub carried_at : RecoveredFound → List ℕ → (ℕ → List (List ℕ)) → List (List ℕ)
-carried_at (batch.Batch i at) l rest = carried (page_from (at + 16) l) ∷ rest (i + 1)
-carried_at batch.Nothing l rest = []
-carried_at (batch.Refused r) l rest = []
+abbrev pub carried_at : Result (Option BatchAt) Refusal → List ℕ → (ℕ → List (List ℕ)) → List (List ℕ)
+carried_at (Ok (Some b)) l rest = carried (page_from (b.offset + 16) l) ∷ rest (b.index + 1)
+carried_at (Ok None) l rest = []
+carried_at (Err r) l rest = []
 
 unfoldable pub carried_from : ℕ → World → ℕ → List (List ℕ)
 carried_from zero w i = []

@@ -2,9 +2,9 @@
 use mathlib.Core.Path.{◌≡◌, refl, sym, ap, ◌∙◌}
 use mathlib.Core.Bool.{true}
 use mathlib.Core.List.{List, [], ◌∷◌, map}
-use mathlib.Core.Option.{some}
 use Prim.Native.Nat.{ℕ, zero, suc, ◌+◌, ◌^◌, ◌≤◌, ◌<◌}
 use native.Mathlib.Omega.{arith}
+use Rattle.std.specs.Prelude.{Err, None, Ok, Option, Result, Some}
 use Rattle.refusal.specs.declared.Refusal.{Refusal}
 use Rattle.mvcc.specs.Batch.{Each}
 use Rattle.mvcc.specs.Seen.{heading_refusal, canonical}
@@ -12,6 +12,7 @@ use Rattle.mvcc.specs.Items.{batch_items, rows_items, body_items}
 use Rattle.mvcc.proofs.Canonical.{canonical-decodes, canonical-records}
 use Rattle.mvcc.proofs.Items.{items-most, items-4098}
 use Rattle.mvcc.proofs.Counted.{decoded-items, encoded-items}
+use Rattle.wal.specs.declared.BatchAt.{BatchAt}
 use Rattle.mvcc_build.proofs.Built.{start-built, built-decodes, built-records}
 use Rattle.mvcc_build.proofs.Run.{run-built}
 use Rattle.pager_state.specs.World.{World}
@@ -19,8 +20,6 @@ use Rattle.pager_state.specs.Overlay.{page_from}
 use Rattle.pager_state.specs.Batches.{next_recovered}
 use Rattle.pager_state.specs.Opening.{create_fine}
 use Rattle.pager_state.specs.declared.AccessMode.TheVariants as mode
-use Rattle.pager_state.specs.declared.RecoveredFound.{RecoveredFound}
-use Rattle.pager_state.specs.declared.RecoveredFound.TheVariants as batch
 use Rattle.history.specs.Model.{Batch, batch_in}
 use Rattle.history.specs.Calls.{Lent, Call, Open}
 use Rattle.history.specs.Run.{Run, whole, Attempt, Event, Cut, next, start}
@@ -39,10 +38,10 @@ use Rattle.history.proofs.GuardFound.{Found, opening-found, cut-found}
 
 -- ---- batches of an open store
 
-told-items : (f : RecoveredFound) (l : List ℕ) (rest : ℕ → List ℕ) → items_at f l rest ≡ told_at batch_items f l rest
-told-items (batch.Batch i at) l rest = refl
-told-items batch.Nothing l rest = refl
-told-items (batch.Refused r) l rest = refl
+told-items : (f : Result (Option BatchAt) Refusal) (l : List ℕ) (rest : ℕ → List ℕ) → items_at f l rest ≡ told_at batch_items f l rest
+told-items (Ok (Some b)) l rest = refl
+told-items (Ok None) l rest = refl
+told-items (Err r) l rest = refl
 
 items-walk : (w : World) → Walk batch_items w (λ k i. items_from k w i)
 unfolding items_from
@@ -54,11 +53,11 @@ unfolding Each batch_in
 rows_same [] d = refl
 rows_same (f ∷ fs) d = rw (decoded-items (body_of f) d.0, rows_same fs d.1)
 
-few-found : (f : RecoveredFound) (l : List ℕ) (rest : ℕ → List ℕ) → ((i : ℕ) → Each (λ (n : ℕ). n ≤ body_items) (rest i)) → Each (λ (n : ℕ). n ≤ body_items) (items_at f l rest)
+few-found : (f : Result (Option BatchAt) Refusal) (l : List ℕ) (rest : ℕ → List ℕ) → ((i : ℕ) → Each (λ (n : ℕ). n ≤ body_items) (rest i)) → Each (λ (n : ℕ). n ≤ body_items) (items_at f l rest)
 unfolding Each
-few-found (batch.Batch i at) l rest h = (items-4098 (page_from (at + 16) l) (omega (arith, page-most (at + 16) l)), h (i + 1))
-few-found batch.Nothing l rest h = tt
-few-found (batch.Refused r) l rest h = tt
+few-found (Ok (Some b)) l rest h = (items-4098 (page_from (b.offset + 16) l) (omega (arith, page-most (b.offset + 16) l)), h (b.index + 1))
+few-found (Ok None) l rest h = tt
+few-found (Err r) l rest h = tt
 
 few-from : (k : ℕ) (w : World) (i : ℕ) → Each (λ (n : ℕ). n ≤ body_items) (items_from k w i)
 unfolding items_from Each
@@ -93,7 +92,7 @@ module _ (t l m g : List ℕ) (salt : ℕ) (f : create_fine t l m g ≡ true) (s
       counts (next (Cut c j k attempts lent) r) (cut-found t l m g salt f small es typed c j k attempts lent z)
       (cut-returns demand3 t l m g salt f small here c j k attempts lent z)
 
-no-heading : (s : List ℕ) (r : Refusal) → heading_refusal s ≡ some r → batch_items s ≡ 0
+no-heading : (s : List ℕ) (r : Refusal) → heading_refusal s ≡ Some r → batch_items s ≡ 0
 unfolding batch_items
 no-heading s r e = rw e
 

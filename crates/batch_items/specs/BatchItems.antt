@@ -2,14 +2,14 @@
 -- after its value. The count is that of the format's definition, refused bodies included up to the refusal. Show that no 4,096-byte body
 -- gives more than 1,356, and write one that gives exactly that." `batch-items` of proofs/BatchItems.antt proves it.
 -- The count is `batch_items` of mvcc. A batch of 1,356 items, and that the builder writes it, are rows of `cases`.
-use Rattle.std.specs.Prelude.{◌≡◌, true, List, [], ◌∷◌, ◌++◌, map, ℕ, zero, suc, ◌+◌, ◌-◌, ◌*◌, ◌^◌, ◌≤◌, ◌<◌, leb, length, take, pos}
-use Rattle.std.proofs.Math.Option.{some}
+use Rattle.std.specs.Prelude.{Err, None, Ok, Option, Result, Some, ◌≡◌, true, List, [], ◌∷◌, ◌++◌, map, ℕ, zero, suc, ◌+◌, ◌-◌, ◌*◌, ◌^◌, ◌≤◌, ◌<◌, leb, length, take, pos}
 use Rattle.le.specs.Choice.{pick}
 use Rattle.le.specs.Le.{Bytes}
 use Rattle.refusal.specs.declared.Refusal.{Refusal}
 use Rattle.mvcc.specs.Batch.{body_size, heading_size, Col, Rec, tombstone, present, encode_text, encode_column, encode_record, encode_batch, Each, GoodBatch}
 use Rattle.mvcc.specs.Seen.{heading_refusal, decodes, records, canonical}
 use Rattle.mvcc.specs.Items.{batch_items, rows_items, most_items, body_items}
+use Rattle.wal.specs.declared.BatchAt.{BatchAt}
 use Rattle.mvcc_build.specs.Build.{started_bytes}
 use Rattle.mvcc_build.specs.Built.{builder_of}
 use Rattle.mvcc_build.specs.Run.{Addition, HeldCall, run_body, run_records}
@@ -18,8 +18,6 @@ use Rattle.pager_state.specs.World.{World}
 use Rattle.pager_state.specs.Overlay.{page_from}
 use Rattle.pager_state.specs.Batches.{next_recovered}
 use Rattle.pager_state.specs.declared.AccessMode.TheVariants as mode
-use Rattle.pager_state.specs.declared.RecoveredFound.{RecoveredFound}
-use Rattle.pager_state.specs.declared.RecoveredFound.TheVariants as batch
 use Rattle.history.specs.Model.{Batch}
 use Rattle.history.specs.Calls.{Lent, Call, Open}
 use Rattle.history.specs.Run.{Run, whole, Attempt, Cut, next}
@@ -49,10 +47,10 @@ places_in n (p ∷ ps) = pick (leb p n) 1 0 + places_in n ps
 
 -- ---- those of an open store's batches, walked from a frame's index on; no log has more than 1,024 frames
 
-abbrev pub items_at : RecoveredFound → List ℕ → (ℕ → List ℕ) → List ℕ
-items_at (batch.Batch i at) l rest = batch_items (page_from (at + 16) l) ∷ rest (i + 1)
-items_at batch.Nothing l rest = []
-items_at (batch.Refused r) l rest = []
+abbrev pub items_at : Result (Option BatchAt) Refusal → List ℕ → (ℕ → List ℕ) → List ℕ
+items_at (Ok (Some b)) l rest = batch_items (page_from (b.offset + 16) l) ∷ rest (b.index + 1)
+items_at (Ok None) l rest = []
+items_at (Err r) l rest = []
 
 unfoldable pub items_from : ℕ → World → ℕ → List ℕ
 items_from zero w i = []
@@ -74,7 +72,7 @@ pub record BatchItems : Type 0 where
   -- a body that decodes gives an item for each record and each column ..
   pub bodies : (s : List ℕ) → decodes s ≡ true → batch_items s ≡ rows_items (records s)
   -- .. one that is refused for its heading none ..
-  pub headings : (s : List ℕ) (r : Refusal) → heading_refusal s ≡ some r → batch_items s ≡ 0
+  pub headings : (s : List ℕ) (r : Refusal) → heading_refusal s ≡ Some r → batch_items s ≡ 0
   -- .. and "refused bodies included up to the refusal": a batch cut after any byte gives the items that are whole before the cut
   pub cuts : (t : ℕ) (rs : List Rec) (pad : List ℕ) (n : ℕ) → GoodBatch t rs → n ≤ length (encode_batch t rs ++ pad)
       → batch_items (take n (encode_batch t rs ++ pad)) ≡ places_in n (places_from heading_size rs)

@@ -6,9 +6,9 @@
 
 mod print;
 
-use input::Input;
 use mvcc::BATCH_BODY_SIZE;
 use refusal::Refusal;
+use replay_lists::List;
 use std::rt::{Env, Runtime};
 
 // One byte more than a body has, so that a longer one is noticed.
@@ -16,7 +16,7 @@ const BODY_SIZE: usize = 4_097;
 
 fn main(rt: HostRuntime) {
     if is_replay(&rt) {
-        read_list(&rt);
+        replay_lists::run::<Batches>(&rt);
     } else {
         read_body(&rt);
     }
@@ -25,22 +25,17 @@ fn main(rt: HostRuntime) {
 // Whether the program's first argument is the word `replay`.
 fn is_replay(rt: &impl Env) -> bool {
     let mut word = [0u8; 8];
-    match rt.arg(1, &mut word) {
-        Ok(n) => le::same(&word[..n], b"replay"),
-        Err(_) => false,
-    }
-}
-
-// Says that standard input could not be read.
-fn not_read(rt: &impl Eprint) {
-    let _ = rt.eprint("batchlist: reading standard input failed\n");
+    rt.arg(1, &mut word)
+        .is_ok_and(|n| &word[..n] == b"replay".as_slice())
 }
 
 fn read_body(rt: &impl Runtime) {
     let mut space = [0u8; BODY_SIZE];
     match input::read_full(&mut rt.reader(), &mut space) {
-        Input::Bytes(n) => print_one(rt, le::part(&space, 0, n)),
-        Input::Failed => not_read(rt),
+        Ok(n) => print_one(rt, &space[..n]),
+        Err(e) => {
+            let _ = eprintln!(rt; "batchlist: {e}");
+        }
     }
 }
 
@@ -52,29 +47,17 @@ fn print_one(rt: &impl Print, body: &[u8]) {
     print::print_body(rt, body, true);
 }
 
-fn read_list(rt: &impl Runtime) {
-    let mut space = replay::list_room();
-    match input::read_full(&mut rt.reader(), &mut space) {
-        Input::Bytes(n) => answer_all(rt, le::part(&space, 0, n)),
-        Input::Failed => not_read(rt),
-    }
-}
+// The list of batch bodies.
+struct Batches;
 
-// Answers every case of the list.
-fn answer_all(rt: &impl Print, list: &[u8]) {
-    let mut at = 0;
-    while at < list.len() {
-        let mut case = [0u8; 4_096];
-        let n = replay::read_case(list, at, &mut case);
-        answer(rt, le::part(&case, 0, n));
-        at = replay::next_case(list, at);
-    }
-}
+impl List for Batches {
+    const PROGRAM: &'static str = "batchlist";
 
-// Makes the body of a case, and answers what decoding makes of it.
-fn answer(rt: &impl Print, case: &[u8]) {
-    let len = le::read_u16(case, 0) as usize;
-    let mut space = [0u8; 65_536];
-    le::write_bytes(&mut space, 0, le::part(case, 2, len));
-    print::print_body(rt, le::part(&space, 0, len), false);
+    // Makes the body of a case, and answers what decoding makes of it.
+    fn answer(rt: &impl Print, case: &[u8]) {
+        let len = usize::from(le::read_u16(case, 0));
+        let mut space = [0u8; 65_536];
+        let _ = le::write_bytes(&mut space, 0, le::part(case, 2, len));
+        print::print_body(rt, le::part(&space, 0, len), false);
+    }
 }

@@ -2,8 +2,8 @@
 use mathlib.Core.Path.{◌≡◌, refl, ap, ◌∙◌}
 use mathlib.Core.Bool.{Bool}
 use mathlib.Core.List.{List}
-use mathlib.Core.Option.{Option, none, some}
 use Prim.Native.Nat.{ℕ}
+use Rattle.std.specs.Prelude.{Option, None, Some, Err, Ok}
 use Rattle.refusal.specs.Refusal.{number_of, answered}
 use Rattle.refusal.specs.declared.Refusal.{Refusal}
 use Rattle.pager_state.specs.World.{World, world}
@@ -12,13 +12,11 @@ use Rattle.pager_state.specs.Stores.{Disk}
 use Rattle.pager_open.specs.Given.{how}
 use Rattle.pager_state.specs.declared.AccessMode.{AccessMode}
 use Rattle.pager_state.specs.declared.Pager.{Pager}
-use Rattle.pager_state.specs.declared.PagerOpened.{PagerOpened}
-use Rattle.pager_state.specs.declared.StageAnswer.TheVariants as stage
-use Rattle.capi.specs.Store.{staged_number}
+use Rattle.pager_state.specs.declared.Outcome.{Outcome}
 use Rattle.capi_numbers.specs.Numbers.{pager_in, store_of}
 use Rattle.capi_numbers.specs.declared.Store.{Store}
 use Rattle.capi_numbers.proofs.Back.{store-back}
-use Rattle.capi_answers.specs.Answers.{opened_as}
+use Rattle.capi_answers.specs.Answers.{refusal_number, done_as}
 use Rattle.capi_answers.specs.declared.Answered.{Answered}
 
 -- ---- a call's contract, from those of its parts
@@ -44,19 +42,19 @@ by-world {k = k} {q = q} {t = t} {l = l} {m = m} {t' = t'} {l' = l'} {m' = m'} t
 -- ---- openings
 
 -- m is the access mode taken in, b whether there is a log
-pub by-opening : {b b' : Bool} {m m' : AccessMode} {t' l' : List ℕ} {k : PagerOpened} {r : Answered} (clean : Bool) (salt : ℕ) (t : List ℕ) (d : Disk) (s : List ℕ)
+pub by-opening : {b b' : Bool} {m m' : AccessMode} {t' l' : List ℕ} {k : (Outcome (Unit {0}))} {r : Answered} (clean : Bool) (salt : ℕ) (t : List ℕ) (d : Disk) (s : List ℕ)
     → m ≡ m' → b ≡ b'
     → let h = how clean m b salt in
     let g = how clean m' b' salt in
     (k ≡ opened_answer (open_pager h t d s)) × ((t' ≡ open_table h t d s) × (l' ≡ open_log_area h t d s))
-    → r ≡ opened_as k.answer k.pager
-    → (let a = opened_answer (open_pager g t d s) in r ≡ opened_as a.answer a.pager) × ((t' ≡ open_table g t d s) × (l' ≡ open_log_area g t d s))
+    → r ≡ done_as k.answer k.pager
+    → (let a = opened_answer (open_pager g t d s) in r ≡ done_as a.answer a.pager) × ((t' ≡ open_table g t d s) × (l' ≡ open_log_area g t d s))
 by-opening {b = b} {b' = b'} {m' = m'} clean salt t d s em eb h r =
     let e = ap (λ m. how clean m b salt) em ∙ ap (λ b. how clean m' b salt) eb in
-    (r ∙ ap (λ (x : PagerOpened). opened_as x.answer x.pager) (h.0 ∙ ap (λ x. opened_answer (open_pager x t d s)) e), (h.1.0 ∙ ap (λ x. open_table x t d s) e, h.1.1 ∙ ap (λ x. open_log_area x t d s) e))
+    (r ∙ ap (λ (x : Outcome (Unit {0})). done_as x.answer x.pager) (h.0 ∙ ap (λ x. opened_answer (open_pager x t d s)) e), (h.1.0 ∙ ap (λ x. open_table x t d s) e, h.1.1 ∙ ap (λ x. open_log_area x t d s) e))
 
 -- ---- staging: the answer's number is its judgement's
 
-pub number-told : (v : Option Refusal) → staged_number (answered stage.Refused stage.Staged v) ≡ number_of v
-number-told none = refl
-number-told (some r) = refl
+pub number-told : (v : Option Refusal) → refusal_number (answered Err (Ok tt) v) ≡ number_of v
+number-told None = refl
+number-told (Some r) = refl

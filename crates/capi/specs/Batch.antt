@@ -1,5 +1,5 @@
 -- What the calls of batches answer, in numbers: 0 or document 01's number of the refusal, beside which all else is 0.
-use Rattle.std.specs.Prelude.{Bool, ℕ, ◌%◌, eqb, ℤ, pos}
+use Rattle.std.specs.Prelude.{Bool, ℕ, ◌%◌, eqb, ℤ, pos, Option, Some, None, Result, Ok, Err}
 use Rattle.std.specs.Float.{binary64}
 use Rattle.std.specs.Float.Ieee.{to_bits}
 use Rattle.le.specs.Choice.{pick}
@@ -13,18 +13,11 @@ use Rattle.mvcc.specs.declared.Column.{Column}
 use Rattle.mvcc.specs.declared.VersionPayload.{VersionPayload}
 use Rattle.mvcc.specs.declared.VersionPayload.TheVariants as payload
 use Rattle.mvcc.specs.declared.MvccLogRecord.{MvccLogRecord}
-use Rattle.mvcc.specs.declared.BatchDecoded.{BatchDecoded}
-use Rattle.mvcc.specs.declared.BatchDecoded.TheVariants as batch
 use Rattle.mvcc.specs.declared.DecodeReport.{DecodeReport}
-use Rattle.mvcc.specs.declared.ElementBits.{ElementBits}
-use Rattle.mvcc.specs.declared.ElementBits.TheVariants as bits
-use Rattle.mvcc_build.specs.declared.Last.{Last}
-use Rattle.mvcc_build.specs.declared.Last.TheVariants as last
+use Rattle.mvcc.specs.declared.MvccCommitBatch.{MvccCommitBatch}
 use Rattle.mvcc_build.specs.declared.BatchBuilder.{BatchBuilder}
-use Rattle.mvcc_build.specs.declared.Added.{Added}
-use Rattle.mvcc_build.specs.declared.Added.TheVariants as added
-use Rattle.mvcc_canonical.specs.declared.Canonical.{Canonical}
-use Rattle.mvcc_canonical.specs.declared.Canonical.TheVariants as canonical
+use Rattle.mvcc_build.specs.declared.OpenRecord.{OpenRecord}
+use Rattle.mvcc_build.specs.Build.{Added, taking}
 use Rattle.capi.specs.declared.batch.BatchNumbers.{BatchNumbers}
 use Rattle.capi.specs.declared.batch.RecordNumbers.{RecordNumbers}
 use Rattle.capi.specs.declared.batch.ValueNumbers.{ValueNumbers}
@@ -39,9 +32,9 @@ abbrev pub no_batch : Refusal → ℕ → BatchNumbers
 no_batch r n = record { refusal = number r; commit_ts = 0; records = 0; end = 0; items = n }
 
 -- an answer, when so many items are read
-abbrev pub answer_numbers : BatchDecoded → ℕ → BatchNumbers
-answer_numbers (batch.Batch b) n = record { refusal = 0; commit_ts = b.commit_ts; records = b.records; end = b.end; items = n }
-answer_numbers (batch.Refused r) n = no_batch r n
+abbrev pub answer_numbers : Result MvccCommitBatch Refusal → ℕ → BatchNumbers
+answer_numbers (Ok b) n = record { refusal = 0; commit_ts = b.commit_ts; records = b.records; end = b.end; items = n }
+answer_numbers (Err r) n = no_batch r n
 
 -- what decoding a body reports, "refused bodies included up to the refusal"
 abbrev pub batch_numbers : DecodeReport → BatchNumbers
@@ -113,31 +106,31 @@ column_numbers (taken c at) = record { refusal = 0; next = at; name = c.name; va
 column_numbers (refused k) = record { refusal = number k; next = 0; name = no_place; value = no_value }
 
 -- an element of a vector
-abbrev pub element_numbers : ElementBits → ElementNumbers
-element_numbers (bits.Bits n) = record { found = 1; bits = n }
-element_numbers bits.Beyond = record { found = 0; bits = 0 }
+abbrev pub element_numbers : Option ℕ → ElementNumbers
+element_numbers (Some n) = record { found = 1; bits = n }
+element_numbers None = record { found = 0; bits = 0 }
 
 -- what writing a body's canonical form answers
-abbrev pub canonical_as : Canonical → ℕ
-canonical_as canonical.Done = 0
-canonical_as (canonical.Refused r) = number r
+abbrev pub canonical_as : Result Unit Refusal → ℕ
+canonical_as (Ok u) = 0
+canonical_as (Err r) = number r
 
 -- ---- a batch being built
 
 -- a column count never stands at 0: that is no present record
-abbrev pub last_record_in : Building → Last
-last_record_in b = pick (eqb b.counted 0) last.Closed (last.Open b.counted b.columns)
+abbrev pub last_record_in : Building → Option OpenRecord
+last_record_in b = pick (eqb b.counted 0) None (taking b.counted b.columns)
 
 abbrev pub builder_in : Building → BatchBuilder
 builder_in b = record { at = b.at; records = b.records; last = last_record_in b }
 
-abbrev pub counted_of : Last → ℕ
-counted_of last.Closed = 0
-counted_of (last.Open counted columns) = counted % 4294967296
+abbrev pub counted_of : Option OpenRecord → ℕ
+counted_of None = 0
+counted_of (Some r) = r.counted % 4294967296
 
-abbrev pub columns_of : Last → ℕ
-columns_of last.Closed = 0
-columns_of (last.Open counted columns) = columns
+abbrev pub columns_of : Option OpenRecord → ℕ
+columns_of None = 0
+columns_of (Some r) = r.columns
 
 abbrev pub building_of : BatchBuilder → Building
 building_of b = record { refusal = 0; at = b.at % 4294967296; counted = counted_of b.last; records = b.records; columns = columns_of b.last }
@@ -147,5 +140,5 @@ refused_building r = record { refusal = number r; at = 0; counted = 0; records =
 
 -- what an addition answers: the batch after it, or the number alone, and the caller goes on with the batch before it
 abbrev pub added_numbers : Added → Building
-added_numbers (added.Done b) = building_of b
-added_numbers (added.Refused r) = refused_building r
+added_numbers (Ok b) = building_of b
+added_numbers (Err r) = refused_building r

@@ -1,6 +1,5 @@
 -- The root of the definitions of `capi`.
 pub mod Batch
 pub mod Log
-pub mod Store
 pub mod Text
 pub mod Version

@@ -8,12 +8,8 @@ ghost use Rattle.mvcc_build.specs.Build.{started, started_bytes, record_added, r
 ghost use Rattle.mvcc_canonical.specs.Canonical.{canonicalized, canonical_bytes};
 ghost use Rattle.capi.specs.Batch.{no_batch, batch_numbers, op_number, count_number, first_number, no_place, record_numbers, value_of, no_value, flag_number, value_numbers, value_reply, column_numbers, element_numbers, canonical_as, last_record_in, builder_in, counted_of, columns_of, building_of, refused_building, added_numbers};
 
-use mvcc::{
-    BatchDecoded, ColumnField, ElementBits, MvccCommitBatch, RecordField, TextPlace, Value,
-    ValueField, VersionPayload,
-};
-use mvcc_build::{Added, BatchBuilder, Last};
-use mvcc_canonical::Canonical;
+use mvcc::{MvccCommitBatch, TextPlace, Value, VersionPayload};
+use mvcc_build::{BatchBuilder, OpenRecord};
 use refusal::Refusal;
 
 // A batch: its records start at 18, and decoding ended at `end`. How many items were read is told of a refused body too.
@@ -100,14 +96,14 @@ pub extern "C" fn lateenbael_mvcc_decode(body: &[u8]) -> BatchNumbers
     let items = report.items;
     let answer = report.answer;
     match answer {
-        BatchDecoded::Batch(b) => BatchNumbers {
+        Ok(b) => BatchNumbers {
             refusal: 0,
             commit_ts: b.commit_ts,
             records: b.records,
             end: b.end,
             items,
         },
-        BatchDecoded::Refused(row) => no_batch(row, items),
+        Err(row) => no_batch(row, items),
     }
 }
 
@@ -153,7 +149,7 @@ pub extern "C" fn lateenbael_mvcc_decode_record(body: &[u8], at: usize) -> Recor
     ensures { result ≡ record_numbers (record_at body.now at) }
 {
     match mvcc::decode_record(body, at) {
-        RecordField::Taken(record, next) => {
+        Ok((record, next)) => {
             let row = record.row;
             let table = row.table;
             let payload = record.payload;
@@ -167,7 +163,7 @@ pub extern "C" fn lateenbael_mvcc_decode_record(body: &[u8], at: usize) -> Recor
                 first: first_of(payload),
             }
         }
-        RecordField::Refused(row) => RecordNumbers {
+        Err(row) => RecordNumbers {
             refusal: refusal::number(row),
             op: 0,
             next: 0,
@@ -232,12 +228,12 @@ pub extern "C" fn lateenbael_mvcc_decode_value(body: &[u8], at: usize) -> ValueA
     ensures { result ≡ value_reply (value_at body.now at) }
 {
     match mvcc::decode_value(body, at) {
-        ValueField::Taken(v, next) => ValueAnswer {
+        Ok((v, next)) => ValueAnswer {
             refusal: 0,
             next,
             value: numbers_of(v),
         },
-        ValueField::Refused(row) => ValueAnswer {
+        Err(row) => ValueAnswer {
             refusal: refusal::number(row),
             next: 0,
             value: no_value(),
@@ -250,7 +246,7 @@ pub extern "C" fn lateenbael_mvcc_decode_column(body: &[u8], at: usize) -> Colum
     ensures { result ≡ column_numbers (column_at body.now at) }
 {
     match mvcc::decode_column(body, at) {
-        ColumnField::Taken(c, next) => {
+        Ok((c, next)) => {
             let value = c.value;
             let name = c.name;
             ColumnNumbers {
@@ -260,7 +256,7 @@ pub extern "C" fn lateenbael_mvcc_decode_column(body: &[u8], at: usize) -> Colum
                 value: numbers_of(value),
             }
         }
-        ColumnField::Refused(row) => ColumnNumbers {
+        Err(row) => ColumnNumbers {
             refusal: refusal::number(row),
             next: 0,
             name: no_place(),
@@ -279,8 +275,8 @@ pub extern "C" fn lateenbael_mvcc_vector_bits(
     ensures { result ≡ element_numbers (bits_at body.now start count i) }
 {
     match mvcc::vector_bits(body, start, count, i) {
-        ElementBits::Bits(bits) => ElementNumbers { found: 1, bits },
-        ElementBits::Beyond => ElementNumbers { found: 0, bits: 0 },
+        Some(bits) => ElementNumbers { found: 1, bits },
+        None => ElementNumbers { found: 0, bits: 0 },
     }
 }
 
@@ -290,8 +286,8 @@ pub extern "C" fn lateenbael_mvcc_canonicalize(body: &[u8], out: &mut [u8]) -> u
     ensures out_after { out.new ≡ canonical_bytes body.now out.old }
 {
     match mvcc_canonical::canonicalize(body, out) {
-        Canonical::Done => 0,
-        Canonical::Refused(row) => refusal::number(row),
+        Ok(()) => 0,
+        Err(row) => refusal::number(row),
     }
 }
 
@@ -310,16 +306,16 @@ pub struct Building {
     pub columns: u16,
 }
 
-fn last_in(b: Building) -> Last
+fn last_in(b: Building) -> Option<OpenRecord>
     ensures { result ≡ last_record_in b }
 {
     if b.counted == 0 {
-        return Last::Closed;
+        return None;
     }
-    Last::Open {
+    Some(OpenRecord {
         counted: b.counted as usize,
         columns: b.columns,
-    }
+    })
 }
 
 fn builder_in(b: Building) -> BatchBuilder
@@ -332,28 +328,16 @@ fn builder_in(b: Building) -> BatchBuilder
     }
 }
 
-fn counted_of(last: Last) -> u32
+fn counted_of(last: Option<OpenRecord>) -> u32
     ensures { result ≡ counted_of last }
 {
-    match last {
-        Last::Closed => 0,
-        Last::Open {
-            counted,
-            columns: _,
-        } => (counted % 4294967296) as u32,
-    }
+    last.map_or(0, |record| (record.counted % 4294967296) as u32)
 }
 
-fn columns_of(last: Last) -> u16
+fn columns_of(last: Option<OpenRecord>) -> u16
     ensures { result ≡ columns_of last }
 {
-    match last {
-        Last::Closed => 0,
-        Last::Open {
-            counted: _,
-            columns,
-        } => columns,
-    }
+    last.map_or(0, |record| record.columns)
 }
 
 fn building_of(b: BatchBuilder) -> Building
@@ -381,12 +365,12 @@ fn refused(row: Refusal) -> Building
     }
 }
 
-fn added_numbers(k: Added) -> Building
+fn added_numbers(k: Result<BatchBuilder, Refusal>) -> Building
     ensures { result ≡ added_numbers k }
 {
     match k {
-        Added::Done(b) => building_of(b),
-        Added::Refused(row) => refused(row),
+        Ok(b) => building_of(b),
+        Err(row) => refused(row),
     }
 }
 

@@ -1,6 +1,6 @@
 // The calls of the log alone, and of the two headers.
 ghost use Rattle.std.specs.Prelude.{◌≡◌};
-ghost use Rattle.le.specs.Answers.{stored_refusal, stored_of};
+ghost use Rattle.le.specs.Answers.{stored_of};
 ghost use Rattle.le.specs.Le.{store};
 ghost use Rattle.header.specs.Header.{encode_answer, encode_after, decode_header};
 ghost use Rattle.wal.specs.Header.{encode_wal_header, decode_wal_header};
@@ -10,20 +10,15 @@ ghost use Rattle.wal.specs.Write.{create_answer, create_after, truncate_answer, 
 ghost use Rattle.wal_batch.specs.Batch.{batch_answer, batch_after};
 ghost use Rattle.log_listing.specs.Answer.{listed_answer, listed_after};
 ghost use Rattle.capi_numbers.specs.Numbers.{wal_in};
-ghost use Rattle.capi.specs.Log.{no_wal_header, log_refused, log_given, wal_created_as, wal_opened_as, wal_appended_as, batched_as, truncated_as, wal_clock_as, frame_as, place_as, batch_as, listed_as, wal_header_refused, wal_header_as, encoded_as, header_refused, decoded_header_as};
+ghost use Rattle.capi_answers.specs.Answers.{refusal_number, header_as};
+ghost use Rattle.capi.specs.Log.{no_wal_header, log_refused, log_given, log_as, frame_as, place_as, batch_as, listed_as, wal_header_refused, wal_header_as};
 
 use capi_answers::{BatchPlace, HeaderAnswer, PageAnswer};
-use capi_numbers::{WalNumbers, wal_in, wal_of};
+use capi_numbers::WalNumbers;
 use frame::FrameHeader;
-use header::{DbHeader, HeaderDecoded, HeaderEncoded};
-use le::Stored;
-use log_listing::Listed;
+use header::DbHeader;
 use refusal::Refusal;
-use wal::{
-    BatchFound, ClockSet, FrameAppended, FrameFound, PagePlace, Wal, WalCreated, WalHeader,
-    WalHeaderDecoded, WalOpened, WalTruncated,
-};
-use wal_batch::BatchAppended;
+use wal::{BatchAt, FrameAt, Wal, WalHeader};
 
 // What a call answers that gives an open log: where it is refused, the log's numbers are 0.
 #[repr(C)]
@@ -90,29 +85,32 @@ fn given(wal: Wal) -> WalAnswer
 {
     WalAnswer {
         refusal: 0,
-        wal: wal_of(wal),
+        wal: WalNumbers::from(wal),
+    }
+}
+
+fn log_as(answer: Result<Wal, Refusal>) -> WalAnswer
+    ensures { result ≡ log_as answer }
+{
+    match answer {
+        Ok(wal) => given(wal),
+        Err(row) => refused(row),
     }
 }
 
 #[unsafe(no_mangle)]
 pub extern "C" fn lateenbael_wal_create(log: &mut [u8], salt: u32) -> WalAnswer
-    ensures value { result ≡ wal_created_as (create_answer log.old salt) }
+    ensures value { result ≡ log_as (create_answer log.old salt) }
     ensures log_after { log.new ≡ create_after log.old salt }
 {
-    match wal::create(log, salt) {
-        WalCreated::Created(wal) => given(wal),
-        WalCreated::Refused(row) => refused(row),
-    }
+    log_as(wal::create(log, salt))
 }
 
 #[unsafe(no_mangle)]
 pub extern "C" fn lateenbael_wal_open(file: &[u8]) -> WalAnswer
-    ensures { result ≡ wal_opened_as (open_log file.now) }
+    ensures { result ≡ log_as (open_log file.now) }
 {
-    match Wal::open(file) {
-        WalOpened::Opened(wal) => given(wal),
-        WalOpened::Refused(row) => refused(row),
-    }
+    log_as(Wal::open(file))
 }
 
 #[unsafe(no_mangle)]
@@ -123,13 +121,10 @@ pub extern "C" fn lateenbael_wal_append_frame(
     content: &[u8],
     commit_page_count: u32,
 ) -> WalAnswer
-    ensures value { result ≡ wal_appended_as (append_frame_answer log.old (wal_in wal) page_num content.now commit_page_count) }
+    ensures value { result ≡ log_as (append_frame_answer log.old (wal_in wal) page_num content.now commit_page_count) }
     ensures log_after { log.new ≡ append_frame_after log.old (wal_in wal) page_num content.now commit_page_count }
 {
-    match wal::append_frame(log, wal_in(wal), page_num, content, commit_page_count) {
-        FrameAppended::Appended(wal) => given(wal),
-        FrameAppended::Refused(row) => refused(row),
-    }
+    log_as(wal::append_frame(log, Wal::from(wal), page_num, content, commit_page_count))
 }
 
 #[unsafe(no_mangle)]
@@ -138,34 +133,25 @@ pub extern "C" fn lateenbael_wal_append_mvcc_batch(
     wal: WalNumbers,
     body: &[u8],
 ) -> WalAnswer
-    ensures value { result ≡ batched_as (batch_answer log.old (wal_in wal) body.now) }
+    ensures value { result ≡ log_as (batch_answer log.old (wal_in wal) body.now) }
     ensures log_after { log.new ≡ batch_after log.old (wal_in wal) body.now }
 {
-    match wal_batch::append_mvcc_batch(log, wal_in(wal), body) {
-        BatchAppended::Appended(wal) => given(wal),
-        BatchAppended::Refused(row) => refused(row),
-    }
+    log_as(wal_batch::append_mvcc_batch(log, Wal::from(wal), body))
 }
 
 #[unsafe(no_mangle)]
 pub extern "C" fn lateenbael_wal_truncate(log: &mut [u8], wal: WalNumbers, salt: u32) -> WalAnswer
-    ensures value { result ≡ truncated_as (truncate_answer log.old (wal_in wal) salt) }
+    ensures value { result ≡ log_as (truncate_answer log.old (wal_in wal) salt) }
     ensures log_after { log.new ≡ truncate_after log.old (wal_in wal) salt }
 {
-    match wal::truncate(log, wal_in(wal), salt) {
-        WalTruncated::Truncated(wal) => given(wal),
-        WalTruncated::Refused(row) => refused(row),
-    }
+    log_as(wal::truncate(log, Wal::from(wal), salt))
 }
 
 #[unsafe(no_mangle)]
 pub extern "C" fn lateenbael_wal_set_clock_high_water(wal: WalNumbers, value: u64) -> WalAnswer
-    ensures { result ≡ wal_clock_as (clock_answer (wal_in wal) value) }
+    ensures { result ≡ log_as (clock_answer (wal_in wal) value) }
 {
-    match wal::set_clock_high_water(wal_in(wal), value) {
-        ClockSet::Set(wal) => given(wal),
-        ClockSet::Refused(row) => refused(row),
-    }
+    log_as(wal::set_clock_high_water(Wal::from(wal), value))
 }
 
 #[unsafe(no_mangle)]
@@ -173,12 +159,12 @@ pub extern "C" fn lateenbael_wal_frame_at(file: &[u8], index: usize) -> FrameAns
     ensures { result ≡ frame_as (frame_in file.now index) }
 {
     match wal::frame_at(file, index) {
-        FrameFound::Frame { offset, header } => FrameAnswer {
+        Some(FrameAt { offset, header }) => FrameAnswer {
             found: 1,
             offset,
             header,
         },
-        FrameFound::Nothing => FrameAnswer {
+        None => FrameAnswer {
             found: 0,
             offset: 0,
             header: FrameHeader {
@@ -199,13 +185,13 @@ pub extern "C" fn lateenbael_wal_find_page(
 ) -> PageAnswer
     ensures { result ≡ place_as (find_log_page file.now wal.last_commit_offset page_num) }
 {
-    match wal::find_page(file, wal_in(wal), page_num) {
-        PagePlace::At(at) => PageAnswer {
+    match wal::find_page(file, Wal::from(wal), page_num) {
+        Some(at) => PageAnswer {
             refusal: 0,
             area: 1,
             at,
         },
-        PagePlace::Nothing => PageAnswer {
+        None => PageAnswer {
             refusal: 0,
             area: 0,
             at: 0,
@@ -221,14 +207,14 @@ pub extern "C" fn lateenbael_wal_next_batch(
 ) -> BatchPlace
     ensures { result ≡ batch_as (next_batch file.now wal.last_commit_offset index) }
 {
-    match wal::next_batch(file, wal_in(wal), index) {
-        BatchFound::Batch { index, offset } => BatchPlace {
+    match wal::next_batch(file, Wal::from(wal), index) {
+        Some(BatchAt { index, offset }) => BatchPlace {
             refusal: 0,
             found: 1,
             index,
             offset,
         },
-        BatchFound::Nothing => BatchPlace {
+        None => BatchPlace {
             refusal: 0,
             found: 0,
             index: 0,
@@ -243,8 +229,8 @@ pub extern "C" fn lateenbael_list_log(file: &[u8], out: &mut [u8]) -> ListAnswer
     ensures out_after { out.new ≡ listed_after file.now out.old }
 {
     match log_listing::list_log(file, out) {
-        Listed::Bytes(len) => ListAnswer { refusal: 0, len },
-        Listed::Refused(row) => ListAnswer {
+        Ok(len) => ListAnswer { refusal: 0, len },
+        Err(row) => ListAnswer {
             refusal: refusal::number(row),
             len: 0,
         },
@@ -253,13 +239,10 @@ pub extern "C" fn lateenbael_list_log(file: &[u8], out: &mut [u8]) -> ListAnswer
 
 #[unsafe(no_mangle)]
 pub extern "C" fn lateenbael_encode_wal_header(header: WalHeader, log: &mut [u8]) -> u32
-    ensures value { result ≡ stored_refusal (stored_of log.old 0 32) }
+    ensures value { result ≡ refusal_number (stored_of log.old 0 32) }
     ensures log_after { log.new ≡ store log.old 0 (encode_wal_header header) }
 {
-    match wal::encode_wal_header(header, log) {
-        Stored::Done => 0,
-        Stored::Area => 1,
-    }
+    capi_answers::refusal_number(wal::encode_wal_header(header, log))
 }
 
 fn no_log_header(row: Refusal) -> WalHeaderAnswer
@@ -276,42 +259,22 @@ pub extern "C" fn lateenbael_decode_wal_header(log: &[u8]) -> WalHeaderAnswer
     ensures { result ≡ wal_header_as (decode_wal_header log.now) }
 {
     match wal::decode_wal_header(log) {
-        WalHeaderDecoded::Header(header) => WalHeaderAnswer { refusal: 0, header },
-        WalHeaderDecoded::Refused(row) => no_log_header(row),
+        Ok(header) => WalHeaderAnswer { refusal: 0, header },
+        Err(row) => no_log_header(row),
     }
 }
 
 #[unsafe(no_mangle)]
 pub extern "C" fn lateenbael_encode_header(header: DbHeader, buf: &mut [u8]) -> u32
-    ensures value { result ≡ encoded_as (encode_answer buf.old) }
+    ensures value { result ≡ refusal_number (encode_answer buf.old) }
     ensures buf_after { buf.new ≡ encode_after header buf.old }
 {
-    match header::encode_header(header, buf) {
-        HeaderEncoded::Done => 0,
-        HeaderEncoded::Refused(row) => refusal::number(row),
-    }
-}
-
-fn no_header(row: Refusal) -> HeaderAnswer
-    ensures { result ≡ header_refused row }
-{
-    HeaderAnswer {
-        refusal: refusal::number(row),
-        header: DbHeader {
-            page_count: 0,
-            schema_root_page: 0,
-            format_version: 0,
-            freelist_head: 0,
-        },
-    }
+    capi_answers::refusal_number(header::encode_header(header, buf))
 }
 
 #[unsafe(no_mangle)]
 pub extern "C" fn lateenbael_decode_header(buf: &[u8]) -> HeaderAnswer
-    ensures { result ≡ decoded_header_as (decode_header buf.now) }
+    ensures { result ≡ header_as (decode_header buf.now) }
 {
-    match header::decode_header(buf) {
-        HeaderDecoded::Header(header) => HeaderAnswer { refusal: 0, header },
-        HeaderDecoded::Refused(row) => no_header(row),
-    }
+    capi_answers::header_as(header::decode_header(buf))
 }

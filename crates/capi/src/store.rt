@@ -12,16 +12,15 @@ ghost use Rattle.pager_open.specs.Given.{how, files};
 ghost use Rattle.pager_preview.specs.Preview.{preview_commit};
 ghost use Rattle.pager_read.specs.Reading.{may_read, read_end};
 ghost use Rattle.capi_numbers.specs.Numbers.{pager_in};
-ghost use Rattle.capi_answers.specs.Answers.{flag_in, mode_in, created_as, opened_as, header_as, mode_as, clock_as, observed_as, found_as, recovered_as, staged_as, cleared_as, appended_as, commit_begun_as, checkpoint_begun_as, committed_as, written_as, previewed_as, stepped_as};
-ghost use Rattle.capi.specs.Store.{read_number, staged_number};
+ghost use Rattle.capi_answers.specs.Answers.{refusal_number, flag_in, mode_in, done_as, header_as, mode_as, clock_as, found_as, recovered_as, commit_begun_as, checkpoint_begun_as, counted_as, previewed_as, stepped_as};
 
 use capi_answers::{
     Answered, BatchPlace, HeaderAnswer, NumberAnswer, PageAnswer, PreviewAnswered, StepAnswered,
 };
 use capi_numbers::Store;
 use header::DbHeader;
-use pager_read::ReadAnswer;
-use pager_state::{STAGED_PAGES, StageAnswer};
+use pager_state::{Pager, STAGED_PAGES};
+use refusal::Refusal;
 
 // ---- creation and openings
 
@@ -33,12 +32,12 @@ pub extern "C" fn lateenbael_create(
     staging: &[u8],
     salt: u32,
 ) -> Answered
-    ensures result_value { let a = create table.old log.old main.old staging.now salt in result ≡ created_as a.answer a.pager }
+    ensures result_value { let a = create table.old log.old main.old staging.now salt in result ≡ done_as a.answer a.pager }
     ensures table_after { table.new ≡ create_table table.old log.old main.old staging.now }
     ensures log_after { log.new ≡ create_log table.old log.old main.old staging.now salt }
     ensures main_after { main.new ≡ create_main table.old log.old main.old staging.now salt }
 {
-    capi_answers::created_as(pager_open::create(table, log, main, staging, salt))
+    capi_answers::done_as(pager_open::create(table, log, main, staging, salt))
 }
 
 #[unsafe(no_mangle)]
@@ -55,7 +54,7 @@ pub extern "C" fn lateenbael_open_with_mode(
 ) -> Answered
     ensures fact { let d = files main.now main_len log.old log_len in
         let o = how false (mode_in access_mode) (flag_in log_exists) salt in
-        (let a = opened_answer (open_pager o table.old d staging.now) in result ≡ opened_as a.answer a.pager) }
+        (let a = opened_answer (open_pager o table.old d staging.now) in result ≡ done_as a.answer a.pager) }
     ensures table_after { let d = files main.now main_len log.old log_len in
         let o = how false (mode_in access_mode) (flag_in log_exists) salt in
         table.new ≡ open_table o table.old d staging.now }
@@ -65,7 +64,7 @@ pub extern "C" fn lateenbael_open_with_mode(
 {
     let mode = capi_answers::mode_in(access_mode);
     let exists = capi_answers::flag_in(log_exists);
-    capi_answers::opened_as(pager_open::open_with_mode(
+    capi_answers::done_as(pager_open::open_with_mode(
         table, log, main, staging, main_len, log_len, mode, exists, salt,
     ))
 }
@@ -84,7 +83,7 @@ pub extern "C" fn lateenbael_open_clean(
 ) -> Answered
     ensures fact { let d = files main.now main_len log.old log_len in
         let o = how true (mode_in access_mode) (flag_in log_exists) salt in
-        (let a = opened_answer (open_pager o table.old d staging.now) in result ≡ opened_as a.answer a.pager) }
+        (let a = opened_answer (open_pager o table.old d staging.now) in result ≡ done_as a.answer a.pager) }
     ensures table_after { let d = files main.now main_len log.old log_len in
         let o = how true (mode_in access_mode) (flag_in log_exists) salt in
         table.new ≡ open_table o table.old d staging.now }
@@ -94,7 +93,7 @@ pub extern "C" fn lateenbael_open_clean(
 {
     let mode = capi_answers::mode_in(access_mode);
     let exists = capi_answers::flag_in(log_exists);
-    capi_answers::opened_as(pager_open::open_clean(
+    capi_answers::done_as(pager_open::open_clean(
         table, log, main, staging, main_len, log_len, mode, exists, salt,
     ))
 }
@@ -105,31 +104,28 @@ pub extern "C" fn lateenbael_open_clean(
 pub extern "C" fn lateenbael_header(store: Store) -> HeaderAnswer
     ensures { result ≡ header_as (header (pager_in store)) }
 {
-    capi_answers::header_as(pager_read::header(capi_numbers::pager_in(store)))
+    capi_answers::header_as(pager_read::header(Pager::from(store)))
 }
 
 #[unsafe(no_mangle)]
 pub extern "C" fn lateenbael_access_mode(store: Store) -> NumberAnswer
     ensures { result ≡ mode_as (access_mode (pager_in store)) }
 {
-    capi_answers::mode_as(pager_read::access_mode(capi_numbers::pager_in(store)))
+    capi_answers::mode_as(pager_read::access_mode(Pager::from(store)))
 }
 
 #[unsafe(no_mangle)]
 pub extern "C" fn lateenbael_clock_high_water(store: Store) -> NumberAnswer
     ensures { result ≡ clock_as (clock_high_water_of (pager_in store)) }
 {
-    capi_answers::clock_as(pager_read::clock_high_water(capi_numbers::pager_in(store)))
+    capi_answers::clock_as(pager_read::clock_high_water(Pager::from(store)))
 }
 
 #[unsafe(no_mangle)]
 pub extern "C" fn lateenbael_observe_clock_high_water(store: Store, value: u64) -> Answered
-    ensures { let a = observe_clock (pager_in store) value in result ≡ observed_as a.answer a.pager }
+    ensures { let a = observe_clock (pager_in store) value in result ≡ done_as a.answer a.pager }
 {
-    capi_answers::observed_as(pager_read::observe_clock_high_water(
-        capi_numbers::pager_in(store),
-        value,
-    ))
+    capi_answers::done_as(pager_read::observe_clock_high_water(Pager::from(store), value))
 }
 
 // ---- pages and batches
@@ -147,22 +143,13 @@ pub extern "C" fn lateenbael_find_page(
         result ≡ found_as (find_page w staging.now page_num) }
 {
     capi_answers::found_as(pager_read::find_page(
-        capi_numbers::pager_in(store),
+        Pager::from(store),
         table,
         log,
         main,
         staging,
         page_num,
     ))
-}
-
-fn read_number(answer: ReadAnswer) -> u32
-    ensures { result ≡ read_number answer }
-{
-    match answer {
-        ReadAnswer::Allowed => 0,
-        ReadAnswer::Refused(refusal) => refusal::number(refusal),
-    }
 }
 
 // The same in parts, of what a reading takes of the store: its refusals, which stay the same until the store changes, ..
@@ -178,9 +165,9 @@ pub extern "C" fn lateenbael_may_read(
     staging: &[u8],
 ) -> u32
     ensures { let a = may_read page_count job log_len main_len table.now log.now main.now staging.now in
-        result ≡ read_number a }
+        result ≡ refusal_number a }
 {
-    read_number(pager_read::may_read(
+    capi_answers::refusal_number(pager_read::may_read(
         page_count, job, log_len, main_len, table, log, main, staging,
     ))
 }
@@ -202,15 +189,15 @@ pub extern "C" fn lateenbael_place_page(
     staged: &[u16; STAGED_PAGES],
     table: &[u32],
 ) -> PageAnswer
-    ensures { result ≡ found_as (place_page page_count (slots staged_count staged.now) table.now page_num) }
+    ensures { result ≡ found_as (Ok (place_page page_count (slots staged_count staged.now) table.now page_num)) }
 {
-    capi_answers::found_as(pager_read::place_page(
+    capi_answers::found_as(Ok(pager_read::place_page(
         page_count,
         page_num,
         staged_count,
         staged,
         table,
-    ))
+    )))
 }
 
 #[unsafe(no_mangle)]
@@ -221,11 +208,7 @@ pub extern "C" fn lateenbael_recovered_mvcc_commits(
 ) -> BatchPlace
     ensures { result ≡ recovered_as (next_recovered (pager_in store) log.now index) }
 {
-    capi_answers::recovered_as(pager_read::recovered_mvcc_commits(
-        capi_numbers::pager_in(store),
-        log,
-        index,
-    ))
+    capi_answers::recovered_as(pager_read::recovered_mvcc_commits(Pager::from(store), log, index))
 }
 
 #[unsafe(no_mangle)]
@@ -236,24 +219,10 @@ pub extern "C" fn lateenbael_stage_page(
     bytes: &[u8],
 ) -> Answered
     ensures result_value { let a = stage_page (pager_in store) staging.old page_num bytes.now in
-        result ≡ staged_as a.answer a.pager }
+        result ≡ done_as a.answer a.pager }
     ensures staging_after { staging.new ≡ stage_after (pager_in store) staging.old page_num bytes.now }
 {
-    capi_answers::staged_as(pager_stage::stage_page(
-        capi_numbers::pager_in(store),
-        staging,
-        page_num,
-        bytes,
-    ))
-}
-
-fn staged_number(answer: StageAnswer) -> u32
-    ensures { result ≡ staged_number answer }
-{
-    match answer {
-        StageAnswer::Staged => 0,
-        StageAnswer::Refused(refusal) => refusal::number(refusal),
-    }
+    capi_answers::done_as(pager_stage::stage_page(Pager::from(store), staging, page_num, bytes))
 }
 
 // What staging in place gives: a refusal or 0, and how many pages are staged.
@@ -284,16 +253,16 @@ pub extern "C" fn lateenbael_stage_in(
     let done = pager_stage::stage_in(job, page_num, staged_count, staged, staging, bytes);
     let answer = done.answer;
     StagedCount {
-        refusal: staged_number(answer),
+        refusal: capi_answers::refusal_number(answer),
         count: done.count,
     }
 }
 
 #[unsafe(no_mangle)]
 pub extern "C" fn lateenbael_clear_staged(store: Store) -> Answered
-    ensures { let a = clear_staged (pager_in store) in result ≡ cleared_as a.answer a.pager }
+    ensures { let a = clear_staged (pager_in store) in result ≡ done_as a.answer a.pager }
 {
-    capi_answers::cleared_as(pager_stage::clear_staged(capi_numbers::pager_in(store)))
+    capi_answers::done_as(pager_stage::clear_staged(Pager::from(store)))
 }
 
 #[unsafe(no_mangle)]
@@ -302,14 +271,10 @@ pub extern "C" fn lateenbael_append_mvcc_batch(
     log: &mut [u8],
     body: &[u8],
 ) -> Answered
-    ensures result_value { let a = append_batch (pager_in store) log.old body.now in result ≡ appended_as a.answer a.pager }
+    ensures result_value { let a = append_batch (pager_in store) log.old body.now in result ≡ done_as a.answer a.pager }
     ensures log_after { log.new ≡ append_after (pager_in store) log.old body.now }
 {
-    capi_answers::appended_as(pager_stage::append_mvcc_batch(
-        capi_numbers::pager_in(store),
-        log,
-        body,
-    ))
+    capi_answers::done_as(pager_stage::append_mvcc_batch(Pager::from(store), log, body))
 }
 
 // ---- a commit, before it is made
@@ -327,7 +292,7 @@ pub extern "C" fn lateenbael_preview_commit<'a>(
         ((salt : ℕ) → result ≡ previewed_as (preview_commit staging.now w new_header salt)) }
 {
     capi_answers::previewed_as(pager_preview::preview_commit(
-        capi_numbers::pager_in(store),
+        Pager::from(store),
         table,
         log,
         main,
@@ -352,7 +317,7 @@ pub extern "C" fn lateenbael_begin_commit<'a>(
         (let a = begin_commit staging.now w new_header salt in result ≡ commit_begun_as a.answer a.pager) }
 {
     capi_answers::commit_begun_as(pager_commit::begin_commit(
-        capi_numbers::pager_in(store),
+        Pager::from(store),
         table,
         log,
         main,
@@ -375,7 +340,7 @@ pub extern "C" fn lateenbael_begin_checkpoint(
         (let a = begin_checkpoint staging.now w salt in result ≡ checkpoint_begun_as a.answer a.pager) }
 {
     capi_answers::checkpoint_begun_as(pager_checkpoint::begin_checkpoint(
-        capi_numbers::pager_in(store),
+        Pager::from(store),
         table,
         log,
         main,
@@ -400,13 +365,7 @@ pub extern "C" fn lateenbael_next_step(
     ensures main_after { let w = world (pager_in store) table.old log.old main.old in
         world (pager_in result.store) table.new log.new main.new ≡ stepped staging.now w }
 {
-    capi_answers::stepped_as(pager::next_step(
-        capi_numbers::pager_in(store),
-        table,
-        log,
-        main,
-        staging,
-    ))
+    capi_answers::stepped_as(pager::next_step(Pager::from(store), table, log, main, staging))
 }
 
 // ---- commit and checkpoint in one call
@@ -423,12 +382,12 @@ pub extern "C" fn lateenbael_commit(
 ) -> Answered
     ensures result_value { let w = world (pager_in store) table.old log.old main.old in
         let g = staging.now in
-        result ≡ committed_as (commit_answer g w new_header) (commit_world g w new_header salt).pager }
+        result ≡ counted_as (commit_answer g w new_header) (commit_world g w new_header salt).pager }
     ensures main_after { let w = world (pager_in store) table.old log.old main.old in
         world (pager_in result.store) table.new log.new main.new ≡ commit_world staging.now w new_header salt }
 {
-    capi_answers::committed_as(pager::commit(
-        capi_numbers::pager_in(store),
+    capi_answers::counted_as(pager::commit(
+        Pager::from(store),
         table,
         log,
         main,
@@ -449,16 +408,9 @@ pub extern "C" fn lateenbael_checkpoint(
 ) -> Answered
     ensures result_value { let w = world (pager_in store) table.old log.old main.old in
         let g = staging.now in
-        result ≡ written_as (checkpoint_answer g w) (checkpoint_world g w salt).pager }
+        result ≡ counted_as (checkpoint_answer g w) (checkpoint_world g w salt).pager }
     ensures main_after { let w = world (pager_in store) table.old log.old main.old in
         world (pager_in result.store) table.new log.new main.new ≡ checkpoint_world staging.now w salt }
 {
-    capi_answers::written_as(pager::checkpoint(
-        capi_numbers::pager_in(store),
-        table,
-        log,
-        main,
-        staging,
-        salt,
-    ))
+    capi_answers::counted_as(pager::checkpoint(Pager::from(store), table, log, main, staging, salt))
 }

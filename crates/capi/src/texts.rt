@@ -4,7 +4,6 @@ ghost use Rattle.text.specs.Utf8.{utf8_of};
 ghost use Rattle.capi.specs.Text.{text_numbers};
 
 use refusal::Refusal;
-use text::Utf8;
 
 // Whether bytes are a text, and its number of Unicode scalar values.
 #[repr(C)]
@@ -19,8 +18,8 @@ pub extern "C" fn lateenbael_from_utf8(bytes: &[u8]) -> TextAnswer
     ensures { result ≡ text_numbers (utf8_of bytes.now) }
 {
     match text::from_utf8(bytes) {
-        Utf8::WellFormed(chars) => TextAnswer { refusal: 0, chars },
-        Utf8::IllFormed => TextAnswer {
+        Some(chars) => TextAnswer { refusal: 0, chars },
+        None => TextAnswer {
             refusal: refusal::number(Refusal::Text),
             chars: 0,
         },

@@ -2,21 +2,15 @@
 #![tactic(auto)]
 
 ghost use Rattle.std.specs.Prelude.{◌≡◌};
-ghost use Rattle.capi_answers.specs.Answers.{flag_in, flag_of, reply, refused_as, mode_in, created_as, opened_as, header_as, number_reply, mode_of, mode_as, clock_as, observed_as, page, found_as, place, recovered_as, staged_as, cleared_as, appended_as, commit_begun_as, checkpoint_begun_as, committed_as, written_as, preview_reply, preview_refused, previewed_as, file_number, step_stored, no_step, stepped_as};
+ghost use Rattle.capi_answers.specs.Answers.{refusal_number, flag_in, reply, refused_as, mode_in, done_as, header_as, number_reply, mode_of, mode_as, clock_as, page, found_as, place, recovered_as, commit_begun_as, checkpoint_begun_as, counted_as, preview_reply, preview_refused, previewed_as, file_number, step_stored, no_step, stepped_as};
 
-use capi_numbers::{Store, no_header, store_of};
+use capi_numbers::{Store, no_header};
 use header::DbHeader;
 use page::PAGE_SIZE;
-use pager_preview::{Preview, PreviewAnswer};
-use pager_state::{
-    AccessMode, BatchAnswer, CheckpointAnswer, CheckpointStart, CheckpointStarted, Checkpointed,
-    ClearAnswer, ClockObserved, ClockRead, CommitAnswer, CommitStart, CommitStarted, Committed,
-    CreateAnswer, FileKind, HeaderRead, ModeRead, ObserveAnswer, OpenAnswer, PageFound, PageStaged,
-    Pager, PagerAppended, PagerCreated, PagerOpened, Place, RecoveredFound, StageAnswer,
-    StagedCleared, StepAnswer, Stepped,
-};
+use pager_preview::Preview;
+use pager_state::{AccessMode, CheckpointStart, FileKind, Outcome, PageFound, Pager, Place, Step};
 use refusal::Refusal;
-use wal::WAL_AREA;
+use wal::{BatchAt, WAL_AREA};
 
 // What a call answers that may change the store. Where it is refused, the store that was given; creation and openings are given none, and
 // tell one without pages that writes nothing.
@@ -102,7 +96,7 @@ fn reply(refusal: u32, begun: u32, answer: usize, pager: Pager) -> Answered
         refusal,
         begun,
         answer,
-        store: store_of(pager),
+        store: Store::from(pager),
     }
 }
 
@@ -118,22 +112,26 @@ fn refused(refusal: Refusal, pager: Pager) -> Answered
     )
 }
 
-// 0 is no, any other number yes.
+// 0 where nothing was refused.
+pub fn refusal_number(answer: Result<(), Refusal>) -> u32
+    ensures { result ≡ refusal_number answer }
+{
+    match answer {
+        Ok(()) => 0,
+        Err(refusal) => refusal::number(refusal),
+    }
+}
+
+// 0 is no, any other number yes. There is no From of a number for bool.
 pub fn flag_in(n: u32) -> bool
     ensures { result ≡ flag_in n }
 {
     n != 0
 }
 
-fn flag_of(b: bool) -> u32
-    ensures { result ≡ flag_of b }
-{
-    if b { 1 } else { 0 }
-}
-
 // ---- creation and openings
 
-// 0 is read-write, any other number read-only.
+// 0 is read-write, any other number read-only. Neither type is of this crate, so that an impl of From cannot stand here.
 pub fn mode_in(n: u32) -> AccessMode
     ensures { result ≡ mode_in n }
 {
@@ -143,36 +141,25 @@ pub fn mode_in(n: u32) -> AccessMode
     AccessMode::ReadOnly
 }
 
-pub fn created_as(call: PagerCreated) -> Answered
-    ensures { result ≡ created_as call.answer call.pager }
+pub fn done_as(call: Outcome<()>) -> Answered
+    ensures { result ≡ done_as call.answer call.pager }
 {
     let a = call.answer;
     let p = call.pager;
     match a {
-        CreateAnswer::Created => reply(0, 0, 0, p),
-        CreateAnswer::Refused(refusal) => refused(refusal, p),
-    }
-}
-
-pub fn opened_as(call: PagerOpened) -> Answered
-    ensures { result ≡ opened_as call.answer call.pager }
-{
-    let a = call.answer;
-    let p = call.pager;
-    match a {
-        OpenAnswer::Opened => reply(0, 0, 0, p),
-        OpenAnswer::Refused(refusal) => refused(refusal, p),
+        Ok(()) => reply(0, 0, 0, p),
+        Err(refusal) => refused(refusal, p),
     }
 }
 
 // ---- queries
 
-pub fn header_as(a: HeaderRead) -> HeaderAnswer
+pub fn header_as(a: Result<DbHeader, Refusal>) -> HeaderAnswer
     ensures { result ≡ header_as a }
 {
     match a {
-        HeaderRead::Header(header) => HeaderAnswer { refusal: 0, header },
-        HeaderRead::Refused(refusal) => HeaderAnswer {
+        Ok(header) => HeaderAnswer { refusal: 0, header },
+        Err(refusal) => HeaderAnswer {
             refusal: refusal::number(refusal),
             header: no_header(),
         },
@@ -185,6 +172,7 @@ fn number_reply(refusal: u32, n: u64) -> NumberAnswer
     NumberAnswer { refusal, number: n }
 }
 
+// Neither type is of this crate, so that an impl of From cannot stand here.
 fn mode_of(m: AccessMode) -> u64
     ensures { result ≡ mode_of m }
 {
@@ -194,32 +182,21 @@ fn mode_of(m: AccessMode) -> u64
     }
 }
 
-pub fn mode_as(a: ModeRead) -> NumberAnswer
+pub fn mode_as(a: Result<AccessMode, Refusal>) -> NumberAnswer
     ensures { result ≡ mode_as a }
 {
     match a {
-        ModeRead::Mode(m) => number_reply(0, mode_of(m)),
-        ModeRead::Refused(refusal) => number_reply(refusal::number(refusal), 0),
+        Ok(m) => number_reply(0, mode_of(m)),
+        Err(refusal) => number_reply(refusal::number(refusal), 0),
     }
 }
 
-pub fn clock_as(a: ClockRead) -> NumberAnswer
+pub fn clock_as(a: Result<u64, Refusal>) -> NumberAnswer
     ensures { result ≡ clock_as a }
 {
     match a {
-        ClockRead::Clock(clock) => number_reply(0, clock),
-        ClockRead::Refused(refusal) => number_reply(refusal::number(refusal), 0),
-    }
-}
-
-pub fn observed_as(call: ClockObserved) -> Answered
-    ensures { result ≡ observed_as call.answer call.pager }
-{
-    let a = call.answer;
-    let p = call.pager;
-    match a {
-        ObserveAnswer::Observed => reply(0, 0, 0, p),
-        ObserveAnswer::Refused(refusal) => refused(refusal, p),
+        Ok(clock) => number_reply(0, clock),
+        Err(refusal) => number_reply(refusal::number(refusal), 0),
     }
 }
 
@@ -233,7 +210,7 @@ fn page(refusal: u32, area: u32, at: usize) -> PageAnswer
 
 // A place in the log, where a whole page stands behind it.
 fn in_log(at: usize) -> PageAnswer
-    ensures { result ≡ found_as (PageFound.Log at) }
+    ensures { result ≡ found_as (Ok (PageFound.Log at)) }
 {
     if WAL_AREA - PAGE_SIZE < at {
         return page(refusal::number(Refusal::Area), 0, 0);
@@ -241,15 +218,15 @@ fn in_log(at: usize) -> PageAnswer
     page(0, 1, at)
 }
 
-pub fn found_as(f: PageFound) -> PageAnswer
+pub fn found_as(f: Result<PageFound, Refusal>) -> PageAnswer
     ensures { result ≡ found_as f }
 {
     match f {
-        PageFound::Staged(at) => page(0, 3, at),
-        PageFound::Log(at) => in_log(at),
-        PageFound::Main(at) => page(0, 2, at),
-        PageFound::Nothing => page(0, 0, 0),
-        PageFound::Refused(refusal) => page(refusal::number(refusal), 0, 0),
+        Ok(PageFound::Staged(at)) => page(0, 3, at),
+        Ok(PageFound::Log(at)) => in_log(at),
+        Ok(PageFound::Main(at)) => page(0, 2, at),
+        Ok(PageFound::Nothing) => page(0, 0, 0),
+        Err(refusal) => page(refusal::number(refusal), 0, 0),
     }
 }
 
@@ -264,71 +241,38 @@ fn place(refusal: u32, found: u32, index: usize, offset: usize) -> BatchPlace
     }
 }
 
-pub fn recovered_as(f: RecoveredFound) -> BatchPlace
+pub fn recovered_as(f: Result<Option<BatchAt>, Refusal>) -> BatchPlace
     ensures { result ≡ recovered_as f }
 {
     match f {
-        RecoveredFound::Batch { index, offset } => place(0, 1, index, offset),
-        RecoveredFound::Nothing => place(0, 0, 0, 0),
-        RecoveredFound::Refused(refusal) => place(refusal::number(refusal), 0, 0, 0),
-    }
-}
-
-pub fn staged_as(call: PageStaged) -> Answered
-    ensures { result ≡ staged_as call.answer call.pager }
-{
-    let a = call.answer;
-    let p = call.pager;
-    match a {
-        StageAnswer::Staged => reply(0, 0, 0, p),
-        StageAnswer::Refused(refusal) => refused(refusal, p),
-    }
-}
-
-pub fn cleared_as(call: StagedCleared) -> Answered
-    ensures { result ≡ cleared_as call.answer call.pager }
-{
-    let a = call.answer;
-    let p = call.pager;
-    match a {
-        ClearAnswer::Cleared => reply(0, 0, 0, p),
-        ClearAnswer::Refused(refusal) => refused(refusal, p),
-    }
-}
-
-pub fn appended_as(call: PagerAppended) -> Answered
-    ensures { result ≡ appended_as call.answer call.pager }
-{
-    let a = call.answer;
-    let p = call.pager;
-    match a {
-        BatchAnswer::Appended => reply(0, 0, 0, p),
-        BatchAnswer::Refused(refusal) => refused(refusal, p),
+        Ok(Some(BatchAt { index, offset })) => place(0, 1, index, offset),
+        Ok(None) => place(0, 0, 0, 0),
+        Err(refusal) => place(refusal::number(refusal), 0, 0, 0),
     }
 }
 
 // ---- commit and checkpoint, begun
 
-pub fn commit_begun_as(call: CommitStarted) -> Answered
+pub fn commit_begun_as(call: Outcome<()>) -> Answered
     ensures { result ≡ commit_begun_as call.answer call.pager }
 {
     let a = call.answer;
     let p = call.pager;
     match a {
-        CommitStart::Begun => reply(0, 1, 0, p),
-        CommitStart::Refused(refusal) => refused(refusal, p),
+        Ok(()) => reply(0, 1, 0, p),
+        Err(refusal) => refused(refusal, p),
     }
 }
 
-pub fn checkpoint_begun_as(call: CheckpointStarted) -> Answered
+pub fn checkpoint_begun_as(call: Outcome<CheckpointStart>) -> Answered
     ensures { result ≡ checkpoint_begun_as call.answer call.pager }
 {
     let a = call.answer;
     let p = call.pager;
     match a {
-        CheckpointStart::Begun => reply(0, 1, 0, p),
-        CheckpointStart::Nothing => reply(0, 0, 0, p),
-        CheckpointStart::Refused(refusal) => refused(refusal, p),
+        Ok(CheckpointStart::Begun) => reply(0, 1, 0, p),
+        Ok(CheckpointStart::Nothing) => reply(0, 0, 0, p),
+        Err(refusal) => refused(refusal, p),
     }
 }
 
@@ -339,7 +283,7 @@ fn preview_reply(p: Preview) -> PreviewAnswered
 {
     PreviewAnswered {
         refusal: 0,
-        checkpointed: flag_of(p.checkpointed),
+        checkpointed: u32::from(p.checkpointed),
         answer: p.answer,
         frame_count: p.frame_count,
         log_len: p.log_len,
@@ -360,17 +304,18 @@ fn preview_refused(refusal: Refusal) -> PreviewAnswered
     }
 }
 
-pub fn previewed_as(a: PreviewAnswer) -> PreviewAnswered
+pub fn previewed_as(a: Result<Preview, Refusal>) -> PreviewAnswered
     ensures { result ≡ previewed_as a }
 {
     match a {
-        PreviewAnswer::Previewed(p) => preview_reply(p),
-        PreviewAnswer::Refused(refusal) => preview_refused(refusal),
+        Ok(p) => preview_reply(p),
+        Err(refusal) => preview_refused(refusal),
     }
 }
 
 // ---- the next step
 
+// Neither type is of this crate, so that an impl of From cannot stand here.
 fn file_of(f: FileKind) -> u32
     ensures { result ≡ file_number f }
 {
@@ -383,16 +328,15 @@ fn file_of(f: FileKind) -> u32
 fn step_stored(kind: u32, place: Place, answer: usize, pager: Pager) -> StepAnswered
     ensures { result ≡ step_stored kind place answer pager }
 {
-    let file = place.file;
     StepAnswered {
         refusal: 0,
         kind,
-        area: file_of(file),
-        flush: flag_of(place.flush),
+        area: file_of(place.file),
+        flush: u32::from(place.flush),
         at: place.at,
         len: place.len,
         answer,
-        store: store_of(pager),
+        store: Store::from(pager),
     }
 }
 
@@ -407,43 +351,32 @@ fn no_step(refusal: u32, pager: Pager) -> StepAnswered
         at: 0,
         len: 0,
         answer: 0,
-        store: store_of(pager),
+        store: Store::from(pager),
     }
 }
 
-pub fn stepped_as(call: Stepped) -> StepAnswered
+pub fn stepped_as(call: Outcome<Step>) -> StepAnswered
     ensures { result ≡ stepped_as call.answer call.pager }
 {
     let a = call.answer;
     let p = call.pager;
     match a {
-        StepAnswer::Idle => no_step(0, p),
-        StepAnswer::Stored(place) => step_stored(1, place, 0, p),
-        StepAnswer::Last(place, answer) => step_stored(2, place, answer, p),
-        StepAnswer::Refused(refusal) => no_step(refusal::number(refusal), p),
+        Ok(Step::Idle) => no_step(0, p),
+        Ok(Step::Stored(place)) => step_stored(1, place, 0, p),
+        Ok(Step::Last(place, answer)) => step_stored(2, place, answer, p),
+        Err(refusal) => no_step(refusal::number(refusal), p),
     }
 }
 
 // ---- commit and checkpoint in one call
 
-pub fn committed_as(call: Committed) -> Answered
-    ensures { result ≡ committed_as call.answer call.pager }
+pub fn counted_as(call: Outcome<usize>) -> Answered
+    ensures { result ≡ counted_as call.answer call.pager }
 {
     let a = call.answer;
     let p = call.pager;
     match a {
-        CommitAnswer::Committed(pages) => reply(0, 0, pages, p),
-        CommitAnswer::Refused(refusal) => refused(refusal, p),
-    }
-}
-
-pub fn written_as(call: Checkpointed) -> Answered
-    ensures { result ≡ written_as call.answer call.pager }
-{
-    let a = call.answer;
-    let p = call.pager;
-    match a {
-        CheckpointAnswer::Written(pages) => reply(0, 0, pages, p),
-        CheckpointAnswer::Refused(refusal) => refused(refusal, p),
+        Ok(pages) => reply(0, 0, pages, p),
+        Err(refusal) => refused(refusal, p),
     }
 }

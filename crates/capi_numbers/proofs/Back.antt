@@ -1,7 +1,6 @@
 -- Nothing is lost: a log or store handed over in numbers and back is the same one.
 use mathlib.Core.Path.{◌≡◌, refl, ap}
-use Rattle.wal.specs.declared.LastCommit.{LastCommit}
-use Rattle.wal.specs.declared.LastCommit.TheVariants as commit
+use Rattle.std.specs.Prelude.{ℕ, None, Option, Some}
 use Rattle.wal.specs.declared.Wal.{Wal}
 use Rattle.pager_state.specs.declared.Job.{Job}
 use Rattle.pager_state.specs.declared.Job.TheVariants as job
@@ -10,9 +9,9 @@ use Rattle.pager_state.specs.declared.Opening.TheVariants as opening
 use Rattle.pager_state.specs.declared.Pager.{Pager}
 use Rattle.capi_numbers.specs.Numbers.{last_in, committed_of, last_commit_count, wal_in, numbers_of_wal, job_in, job_of, opening_in, opening_number, pager_in, store_of}
 
-last-back : (c : LastCommit) → last_in (committed_of c) (last_commit_count c) ≡ c
-last-back commit.Nothing = refl
-last-back (commit.Count n) = refl
+last-back : (c : Option ℕ) → last_in (committed_of c) (last_commit_count c) ≡ c
+last-back None = refl
+last-back (Some n) = refl
 
 pub wal-back : (w : Wal) → wal_in (numbers_of_wal w) ≡ w
 unfolding wal_in numbers_of_wal

@@ -1,9 +1,7 @@
 -- The open store, an open log and what is part done, in numbers, and back.
-use Rattle.std.specs.Prelude.{ℕ, eqb}
+use Rattle.std.specs.Prelude.{None, Option, Some, ℕ, eqb}
 use Rattle.le.specs.Choice.{pick}
 use Rattle.header.specs.declared.DbHeader.{DbHeader}
-use Rattle.wal.specs.declared.LastCommit.{LastCommit}
-use Rattle.wal.specs.declared.LastCommit.TheVariants as commit
 use Rattle.wal.specs.declared.Wal.{Wal}
 use Rattle.pager_state.specs.Opening.{no_header}
 use Rattle.pager_state.specs.declared.Job.{Job}
@@ -17,8 +15,8 @@ use Rattle.capi_numbers.specs.declared.Store.{Store}
 
 -- ---- an open log
 
-abbrev pub last_in : ℕ → ℕ → LastCommit
-last_in committed count = pick (eqb committed 0) commit.Nothing (commit.Count count)
+abbrev pub last_in : ℕ → ℕ → Option ℕ
+last_in committed count = pick (eqb committed 0) None (Some count)
 
 unfoldable pub wal_in : WalNumbers → Wal
 wal_in w =
@@ -31,13 +29,13 @@ wal_in w =
       frame_count = w.frame_count;
     }
 
-abbrev pub committed_of : LastCommit → ℕ
-committed_of commit.Nothing = 0
-committed_of (commit.Count n) = 1
+abbrev pub committed_of : Option ℕ → ℕ
+committed_of None = 0
+committed_of (Some n) = 1
 
-abbrev pub last_commit_count : LastCommit → ℕ
-last_commit_count commit.Nothing = 0
-last_commit_count (commit.Count n) = n
+abbrev pub last_commit_count : Option ℕ → ℕ
+last_commit_count None = 0
+last_commit_count (Some n) = n
 
 unfoldable pub numbers_of_wal : Wal → WalNumbers
 numbers_of_wal w =

@@ -8,7 +8,7 @@ ghost use Rattle.capi_numbers.specs.Numbers.{last_in, wal_in, committed_of, last
 
 use header::DbHeader;
 use pager_state::{FileStorage, Job, Opening, Pager, Staged};
-use wal::{LastCommit, Wal, WalHeader};
+use wal::{Wal, WalHeader};
 
 #[repr(C)]
 #[derive(Clone, Copy)]
@@ -47,83 +47,88 @@ pub struct Store {
     pub opening: u32,
 }
 
-fn last_in(committed: u32, count: u32) -> LastCommit
+fn last_in(committed: u32, count: u32) -> Option<u32>
     ensures { result ≡ last_in committed count }
 {
     if committed == 0 {
-        return LastCommit::Nothing;
+        return None;
     }
-    LastCommit::Count(count)
+    Some(count)
 }
 
-pub fn wal_in(w: WalNumbers) -> Wal
-    ensures { result ≡ wal_in w }
-{
-    let header = w.header;
-    Wal {
-        header,
-        len: w.len,
-        good_end: w.good_end,
-        last_commit_offset: w.last_commit_offset,
-        last_commit_page_count: last_in(w.committed, w.last_commit_page_count),
-        frame_count: w.frame_count,
+impl From<WalNumbers> for Wal {
+    ghost from_gives = { λ w result. result ≡ wal_in w };
+
+    #[tactic(auto, unfolding(crate::specs::Numbers::wal_in))]
+    fn from(w: WalNumbers) -> Wal {
+        Wal {
+            header: w.header,
+            len: w.len,
+            good_end: w.good_end,
+            last_commit_offset: w.last_commit_offset,
+            last_commit_page_count: last_in(w.committed, w.last_commit_page_count),
+            frame_count: w.frame_count,
+        }
     }
 }
 
-fn committed_of(last: LastCommit) -> u32
+fn committed_of(last: Option<u32>) -> u32
     ensures { result ≡ committed_of last }
 {
     match last {
-        LastCommit::Nothing => 0,
-        LastCommit::Count(_) => 1,
+        None => 0,
+        Some(_) => 1,
     }
 }
 
-fn count_of(last: LastCommit) -> u32
+fn count_of(last: Option<u32>) -> u32
     ensures { result ≡ last_commit_count last }
 {
     match last {
-        LastCommit::Nothing => 0,
-        LastCommit::Count(n) => n,
+        None => 0,
+        Some(n) => n,
     }
 }
 
-pub fn wal_of(w: Wal) -> WalNumbers
-    ensures { result ≡ numbers_of_wal w }
-{
-    let header = w.header;
-    let last = w.last_commit_page_count;
-    WalNumbers {
-        header,
-        len: w.len,
-        good_end: w.good_end,
-        last_commit_offset: w.last_commit_offset,
-        frame_count: w.frame_count,
-        committed: committed_of(last),
-        last_commit_page_count: count_of(last),
+impl From<Wal> for WalNumbers {
+    ghost from_gives = { λ w result. result ≡ numbers_of_wal w };
+
+    #[tactic(auto, unfolding(crate::specs::Numbers::numbers_of_wal))]
+    fn from(w: Wal) -> WalNumbers {
+        let last = w.last_commit_page_count;
+        WalNumbers {
+            header: w.header,
+            len: w.len,
+            good_end: w.good_end,
+            last_commit_offset: w.last_commit_offset,
+            frame_count: w.frame_count,
+            committed: committed_of(last),
+            last_commit_page_count: count_of(last),
+        }
     }
 }
 
-fn job_in(j: JobNumbers) -> Job
-    ensures { result ≡ job_in j }
-{
-    let header = j.header;
-    let salt = j.salt;
-    let page = j.page;
-    let answer = j.answer;
-    let kind = j.kind;
-    match kind {
-        1 => Job::Commit {
-            header,
-            salt,
-            page,
-            answer,
-        },
-        2 => Job::Checkpoint { salt, page, answer },
-        3 => Job::MainLength { salt, answer },
-        4 => Job::LogLength { salt, answer },
-        5 => Job::LogHeader { salt, answer },
-        _ => Job::Idle,
+impl From<JobNumbers> for Job {
+    ghost from_gives = { λ j result. result ≡ job_in j };
+
+    #[tactic(auto, unfolding(crate::specs::Numbers::job_in))]
+    fn from(j: JobNumbers) -> Job {
+        let salt = j.salt;
+        let page = j.page;
+        let answer = j.answer;
+        match j.kind {
+            1 => Job::Commit {
+                header: j.header,
+                salt,
+                page,
+                answer,
+            },
+            2 => Job::Checkpoint { salt, page, answer },
+            3 => Job::MainLength { salt, answer },
+            4 => Job::LogLength { salt, answer },
+            5 => Job::LogHeader { salt, answer },
+            _ => Job::Idle,
+        }
     }
 }
 
@@ -150,30 +155,34 @@ fn plain_job(kind: u32, salt: u32, page: usize, answer: usize) -> JobNumbers
     }
 }
 
-fn job_of(job: Job) -> JobNumbers
-    ensures { result ≡ job_of job }
-{
-    match job {
-        Job::Idle => plain_job(0, 0, 0, 0),
-        Job::Commit {
-            header,
-            salt,
-            page,
-            answer,
-        } => JobNumbers {
-            kind: 1,
-            salt,
-            page,
-            answer,
-            header,
-        },
-        Job::Checkpoint { salt, page, answer } => plain_job(2, salt, page, answer),
-        Job::MainLength { salt, answer } => plain_job(3, salt, 0, answer),
-        Job::LogLength { salt, answer } => plain_job(4, salt, 0, answer),
-        Job::LogHeader { salt, answer } => plain_job(5, salt, 0, answer),
+impl From<Job> for JobNumbers {
+    ghost from_gives = { λ job result. result ≡ job_of job };
+
+    #[tactic(auto, unfolding(crate::specs::Numbers::job_of))]
+    fn from(job: Job) -> JobNumbers {
+        match job {
+            Job::Idle => plain_job(0, 0, 0, 0),
+            Job::Commit {
+                header,
+                salt,
+                page,
+                answer,
+            } => JobNumbers {
+                kind: 1,
+                salt,
+                page,
+                answer,
+                header,
+            },
+            Job::Checkpoint { salt, page, answer } => plain_job(2, salt, page, answer),
+            Job::MainLength { salt, answer } => plain_job(3, salt, 0, answer),
+            Job::LogLength { salt, answer } => plain_job(4, salt, 0, answer),
+            Job::LogHeader { salt, answer } => plain_job(5, salt, 0, answer),
+        }
     }
 }
 
+// Neither type is of this crate, so that an impl of From cannot stand here.
 fn opening_in(n: u32) -> Opening
     ensures { result ≡ opening_in n }
 {
@@ -185,6 +194,7 @@ fn opening_in(n: u32) -> Opening
     }
 }
 
+// A function for the same reason.
 fn opening_of(opening: Opening) -> u32
     ensures { result ≡ opening_number opening }
 {
@@ -196,41 +206,36 @@ fn opening_of(opening: Opening) -> u32
     }
 }
 
-pub fn pager_in(s: Store) -> Pager
-    ensures { result ≡ pager_in s }
-{
-    let wal = s.wal;
-    let job = s.job;
-    let current_header = s.current_header;
-    let storage = s.storage;
-    let staged = s.staged;
-    Pager {
-        current_header,
-        wal: wal_in(wal),
-        recovered: s.recovered,
-        storage,
-        staged,
-        job: job_in(job),
-        opening: opening_in(s.opening),
+impl From<Store> for Pager {
+    ghost from_gives = { λ s result. result ≡ pager_in s };
+
+    #[tactic(auto, unfolding(crate::specs::Numbers::pager_in))]
+    fn from(s: Store) -> Pager {
+        Pager {
+            current_header: s.current_header,
+            wal: Wal::from(s.wal),
+            recovered: s.recovered,
+            storage: s.storage,
+            staged: s.staged,
+            job: Job::from(s.job),
+            opening: opening_in(s.opening),
+        }
     }
 }
 
-pub fn store_of(p: Pager) -> Store
-    ensures { result ≡ store_of p }
-{
-    let wal = p.wal;
-    let job = p.job;
-    let opening = p.opening;
-    let current_header = p.current_header;
-    let storage = p.storage;
-    let staged = p.staged;
-    Store {
-        current_header,
-        wal: wal_of(wal),
-        recovered: p.recovered,
-        storage,
-        staged,
-        job: job_of(job),
-        opening: opening_of(opening),
+impl From<Pager> for Store {
+    ghost from_gives = { λ p result. result ≡ store_of p };
+
+    #[tactic(auto, unfolding(crate::specs::Numbers::store_of))]
+    fn from(p: Pager) -> Store {
+        Store {
+            current_header: p.current_header,
+            wal: WalNumbers::from(p.wal),
+            recovered: p.recovered,
+            storage: p.storage,
+            staged: p.staged,
+            job: JobNumbers::from(p.job),
+            opening: opening_of(p.opening),
+        }
     }
 }

@@ -10,6 +10,7 @@ use lib.ListN.{length, replicate, length-append, length-replicate}
 use lib.IntN.{ℤ}
 use mir.Val.{SFits}
 use mir.Syntax.{w64}
+use Rattle.std.specs.Prelude.{Ok, Err}
 use Rattle.le.specs.Le.{le_bytes}
 use Rattle.le.proofs.Fields.{length-le_bytes}
 use Rattle.refusal.specs.declared.Refusal.TheVariants as refusal
@@ -21,7 +22,6 @@ use Rattle.mvcc_build.specs.Build.{started_bytes, record_added, column_added, co
 use Rattle.mvcc_build.specs.Built.{Built, builder_of, ends_present, with_in, with_column, Held, HeldValue}
 use Rattle.mvcc_build.specs.Run.{record-call, column-call, HeldCall, column_records, next_records, run_body, run_records}
 use Rattle.mvcc_build.specs.declared.BatchBuilder.{BatchBuilder}
-use Rattle.mvcc_build.specs.declared.Added.TheVariants.{Done, Refused}
 use Rattle.mvcc_build.proofs.Grow.{batch-size, record-size}
 use Rattle.mvcc_build.proofs.Built.{start-built, record-answer, column-answer, built-decodes, built-records}
 use Rattle.mvcc_build.proofs.Run.{run-built}
@@ -54,12 +54,12 @@ empty-text = refl
 
 module _ (t : ℕ) (rows : List ℤ) (b : BatchBuilder) (body : List ℕ) (h : Built t (tombstones rows) b body) where
   -- the 370th is added, and the 371st is refused with 20
-  pub tombstone-370th : length rows ≡ 369 → (row : ℤ) → record_added b body (tombstone [] row) ≡ Done (builder_of t (tombstones rows ++ (tombstone [] row ∷ [])))
+  pub tombstone-370th : length rows ≡ 369 → (row : ℤ) → record_added b body (tombstone [] row) ≡ Ok (builder_of t (tombstones rows ++ (tombstone [] row ∷ [])))
   tombstone-370th e row =
       let k : length (encode_batch t (tombstones rows)) + 11 ≤ 4096 = rw (tombstones-size, e) (omega arith) in
       rw (record-answer h (tombstone [] row), empty-text, record-size, tombstone-size, le-leb _ _ k)
 
-  pub tombstone-371st : length rows ≡ 370 → (row : ℤ) → record_added b body (tombstone [] row) ≡ Refused refusal.Fit
+  pub tombstone-371st : length rows ≡ 370 → (row : ℤ) → record_added b body (tombstone [] row) ≡ Err refusal.Fit
   tombstone-371st e row =
       let k : 4096 < length (encode_batch t (tombstones rows)) + 11 = rw (tombstones-size, e) (omega arith) in
       rw (record-answer h (tombstone [] row), empty-text, record-size, tombstone-size, lt-leb _ _ k)
@@ -125,7 +125,7 @@ nulls-more (suc n) = ap (λ (cs : List Col). column [] null ∷ cs) (nulls-more 
 
 -- the 1,355th is added, the batch then ends at 4,096, and the 1,356th is refused with 20
 pub null-1355th : (t : ℕ) (row : ℤ) (b : BatchBuilder) (body : List ℕ) → Built t (null_row row 1354) b body
-    → column_added b body (column [] null) ≡ Done (builder_of t (null_row row 1355))
+    → column_added b body (column [] null) ≡ Ok (builder_of t (null_row row 1355))
 unfolding ends_present with_column with_in
 null-1355th t row b body h =
     let k : length (encode_batch t (null_row row 1354)) + 3 ≤ 4096 = rw nulls-size (omega arith) in
@@ -136,7 +136,7 @@ unfolding builder_of
 null-1355th-end t row = nulls-1355 t row
 
 pub null-1356th : (t : ℕ) (row : ℤ) (b : BatchBuilder) (body : List ℕ) → Built t (null_row row 1355) b body
-    → column_added b body (column [] null) ≡ Refused refusal.Fit
+    → column_added b body (column [] null) ≡ Err refusal.Fit
 null-1356th t row b body h =
     let k : 4096 < length (encode_batch t (null_row row 1355)) + 3 = rw nulls-1355 (omega arith) in
     rw (column-answer h (column [] null), empty-text, null_size, lt-leb _ _ k)

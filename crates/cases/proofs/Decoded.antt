@@ -2,9 +2,9 @@
 use mathlib.Core.Path.{◌≡◌, refl}
 use mathlib.Core.Bool.{true}
 use mathlib.Core.List.{[], ◌∷◌}
-use mathlib.Core.Option.{some}
 use lib.ListN.{get_or, replicate}
 use lib.IntN.{pos}
+use Rattle.std.specs.Prelude.{Some}
 use Rattle.le.specs.Le.{le_of, le_bytes}
 use Rattle.refusal.specs.declared.Refusal.TheVariants as refusal
 use Rattle.text.specs.Utf8.{well_formed, formed_behind}
@@ -32,10 +32,10 @@ bool-two-one = rw bool-two-true
 
 -- ---- an unknown op
 
-pub op-nine-cut : decode_refusal (op_nine (5 ∷ 0 ∷ 0x61 ∷ [])) ≡ some refusal.Truncated
+pub op-nine-cut : decode_refusal (op_nine (5 ∷ 0 ∷ 0x61 ∷ [])) ≡ Some refusal.Truncated
 unfolding decode_refusal batch_of heading_refusal batch_magic le_of records_at many record_at text_at text_of num_at
 op-nine-cut = refl
 
-pub op-nine-whole : decode_refusal (op_nine (replicate 10 0)) ≡ some refusal.Tag
+pub op-nine-whole : decode_refusal (op_nine (replicate 10 0)) ≡ Some refusal.Tag
 unfolding decode_refusal batch_of heading_refusal batch_magic le_of records_at many record_at judged_at text_at text_of num_at well_formed formed_behind
 op-nine-whole = refl

@@ -1,7 +1,6 @@
 -- Document 01's starred cases, one row each or more, in its order, and the batch that document 02's P14 asks for. `cases` of proofs/Cases.antt
 -- proves them all.
-use Rattle.std.specs.Prelude.{true, ◌≡◌, List, [], ◌∷◌, ◌++◌, map, ℕ, ◌^◌, ◌≤◌, ◌<◌, ℤ, pos, length, get_or, replicate}
-use Rattle.std.proofs.Math.Option.{some}
+use Rattle.std.specs.Prelude.{Some, true, ◌≡◌, List, [], ◌∷◌, ◌++◌, map, ℕ, ◌^◌, ◌≤◌, ◌<◌, ℤ, pos, length, get_or, replicate}
 use Rattle.std.proofs.Common.{SFits}
 use Rattle.std.specs.Int.{w64}
 use Rattle.refusal.specs.declared.Refusal.TheVariants as refusal
@@ -14,7 +13,7 @@ use Rattle.mvcc_build.specs.Build.{started_bytes, record_added, column, column_a
 use Rattle.mvcc_build.specs.Built.{builder_of, Built}
 use Rattle.mvcc_build.specs.Run.{Addition, record-call, column-call, run_builder, run_body}
 use Rattle.mvcc_build.specs.declared.BatchBuilder.{BatchBuilder}
-use Rattle.mvcc_build.specs.declared.Added.TheVariants.{Done, Refused}
+use Rattle.std.specs.Prelude.{Ok, Err}
 use Rattle.wal.specs.Recovery.{recovered, frame_count_of}
 
 -- a page of zeros
@@ -75,19 +74,19 @@ pub record Cases : Type 0 where
   -- .. as many calls build them; the builder takes the 370th and refuses the 371st with 20
   pub tombstones-built : (t : ℕ) (rows : List ℤ) → t < 256 ^ 8 → Each (SFits w64) rows → length rows ≤ 370 → Builds t (tombstone_calls rows) (tombstones rows)
   pub tombstone-370th : (t : ℕ) (rows : List ℤ) (b : BatchBuilder) (body : List ℕ) → Built t (tombstones rows) b body → length rows ≡ 369
-      → (row : ℤ) → record_added b body (tombstone [] row) ≡ Done (builder_of t (tombstones rows ++ (tombstone [] row ∷ [])))
+      → (row : ℤ) → record_added b body (tombstone [] row) ≡ Ok (builder_of t (tombstones rows ++ (tombstone [] row ∷ [])))
   pub tombstone-371st : (t : ℕ) (rows : List ℤ) (b : BatchBuilder) (body : List ℕ) → Built t (tombstones rows) b body → length rows ≡ 370
-      → (row : ℤ) → record_added b body (tombstone [] row) ≡ Refused refusal.Fit
+      → (row : ℤ) → record_added b body (tombstone [] row) ≡ Err refusal.Fit
   -- "One present record, empty table name, with 1,355 null columns with empty names fills 4,096; 1,356 don't"
   pub nulls-1355 : (t : ℕ) (row : ℤ) → length (encode_batch t (null_row row 1355)) ≡ 4096
   pub nulls-1356 : (t : ℕ) (row : ℤ) → 4096 < length (encode_batch t (null_row row 1356))
   -- .. as many calls build them; the builder takes the 1,355th, the batch then ends at 4,096, and it refuses the 1,356th with 20
   pub nulls-built : (t : ℕ) (row : ℤ) (n : ℕ) → t < 256 ^ 8 → SFits w64 row → n ≤ 1355 → Builds t (null_calls row n) (null_row row n)
   pub null-1355th : (t : ℕ) (row : ℤ) (b : BatchBuilder) (body : List ℕ) → Built t (null_row row 1354) b body
-      → column_added b body (column [] null) ≡ Done (builder_of t (null_row row 1355))
+      → column_added b body (column [] null) ≡ Ok (builder_of t (null_row row 1355))
   pub null-1355th-end : (t : ℕ) (row : ℤ) → (builder_of t (null_row row 1355)).at ≡ 4096
   pub null-1356th : (t : ℕ) (row : ℤ) (b : BatchBuilder) (body : List ℕ) → Built t (null_row row 1355) b body
-      → column_added b body (column [] null) ≡ Refused refusal.Fit
+      → column_added b body (column [] null) ≡ Err refusal.Fit
   -- document 02, P14, "write one that gives exactly that": those 4,096 bytes give 1,356 items; the builder writes such a body
   pub items-1356 : (t : ℕ) (row : ℤ) → t < 256 ^ 8 → SFits w64 row → batch_items (encode_batch t (null_row row 1355)) ≡ 1356
   pub items-1356-built : (t : ℕ) (row : ℤ) (body : List ℕ) → t < 256 ^ 8 → SFits w64 row → length body ≡ 4096
@@ -105,5 +104,5 @@ pub record Cases : Type 0 where
   pub bool-2-written-1 : get_or (canonical bool_two) 34 0 ≡ 1
   -- "An op is judged after table and row id are read": op 9 is refused with 17 where its table text, of 5 bytes, is cut after
   -- one, and with 18 where an empty table and a row id are there
-  pub op-9-cut : decode_refusal (op_nine (5 ∷ 0 ∷ 0x61 ∷ [])) ≡ some refusal.Truncated
-  pub op-9-whole : decode_refusal (op_nine (replicate 10 0)) ≡ some refusal.Tag
+  pub op-9-cut : decode_refusal (op_nine (5 ∷ 0 ∷ 0x61 ∷ [])) ≡ Some refusal.Truncated
+  pub op-9-whole : decode_refusal (op_nine (replicate 10 0)) ≡ Some refusal.Tag

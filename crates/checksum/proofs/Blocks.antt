@@ -10,19 +10,37 @@
 -- after the block, not only modulo 2 ^ 32 - 1. Where they do not, the block is summed in smaller ones, and at last byte by byte.
 -- Assumes nothing.
 use Rattle.std.proofs.Common.{◌≡◌, ℕ, suc, ◌+◌, ◌-◌, ◌*◌, ◌/◌, ◌%◌, ◌^◌, ◌<◌, ◌≤◌, List, [], ◌∷◌, length, sym, refl, ◌∙◌, mod-lt, mod-eq_of_lt, mul_assoc, mul_comm, div-lt_iff_lt-mul, add-mul, mul-le-mul_left, div-add-mod', mul-add, mul_left_comm, arith, pow_pos, pow-add}
+use Rattle.std.specs.Int.Bits.{bit_or}
+use Rattle.std.proofs.lemmas.Nat.{or_shifted}
 use native.Mathlib.Nat.{lt_of_mul-lt-mul_left, pow-succ'}
 use lib.Arith.{digits_div, digits_mod, digits_lt}
 use Rattle.checksum.specs.Checksum.{rotated, sum_step, sum_from}
 use Rattle.checksum.specs.Blocks.{rotated_by, weight}
 
--- A number of two parts, d above a, which a rotation exchanges: p is 2 ^ n and q is 2 ^ (32 - n).
-parts-turned : (p q d a : ℕ) → p * q ≡ 4294967296 → d < p → a < q → p * (d * q + a) % 4294967296 + (d * q + a) / q ≡ p * a + d
-parts-turned p q d a e h k =
+-- A number of two parts, d above a, whose lower one a shift by n places keeps: p is 2 ^ n and q is 2 ^ (32 - n).
+lower-shifted : (p q d a : ℕ) → p * q ≡ 4294967296 → 0 < p → a < q → p * (d * q + a) % 4294967296 ≡ p * a
+lower-shifted p q d a e h k =
     let f : p * (d * q + a) ≡ d * (p * q) + p * a = rw (mul-add, mul_left_comm p d q) in
     let u : a + 1 ≤ q = omega arith in
     let g : p * (a + 1) ≤ p * q = mul-le-mul_left p u in
     let i : p * a < p * q = omega (arith, rw mul-add at g) in
-    rw (f, digits_div d k, ← e, digits_mod d i)
+    rw (f, ← e, digits_mod d i)
+
+-- what `rotate_left` gives
+pub rotate_left-rotated_by : (n s : ℕ) → n ≤ 32 → s < 2 ^ 32 → bit_or (s * 2 ^ n % 2 ^ 32) (s / 2 ^ (32 - n)) ≡ rotated_by n s
+rotate_left-rotated_by n s h fits =
+    let o : n + (32 - n) ≡ 32 = omega arith in
+    let e : 2 ^ n * 2 ^ (32 - n) ≡ 4294967296 = rw (← pow-add 2 n (32 - n), o) in
+    let i : s % 2 ^ (32 - n) < 2 ^ (32 - n) = mod-lt s (pow_pos (32 - n)) in
+    let d : s / 2 ^ (32 - n) < 2 ^ n = (div-lt_iff_lt-mul {k = 2 ^ (32 - n)} (pow_pos (32 - n))).1 (rw e fits) in
+    let f = rw (div-add-mod' s (2 ^ (32 - n))) at (lower-shifted (2 ^ n) (2 ^ (32 - n)) (s / 2 ^ (32 - n)) (s % 2 ^ (32 - n)) e (pow_pos n) i) in
+    rw (mul_comm s (2 ^ n), f, mul_comm (2 ^ n) (s % 2 ^ (32 - n)), or_shifted (s % 2 ^ (32 - n)) n (s / 2 ^ (32 - n)) d)
+
+-- A number of two parts, d above a, which a rotation exchanges.
+parts-turned : (p q d a : ℕ) → p * q ≡ 4294967296 → d < p → a < q → p * (d * q + a) % 4294967296 + (d * q + a) / q ≡ p * a + d
+parts-turned p q d a e h k =
+    let pos : 0 < p = omega arith in
+    rw (lower-shifted p q d a e pos k, digits_div d k)
 
 -- A number of three parts, c above d above a, of which c is one place and d the others of p.
 module _ (p r c d a : ℕ) (e : p * r ≡ 2147483648) (hc : c < 2) (hd : d < p) (ha : a < r) where

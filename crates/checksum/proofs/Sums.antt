@@ -1,5 +1,7 @@
 -- Laws of the checksum. Assumes nothing.
-use Rattle.std.proofs.Common.{◌≡◌, ℕ, ◌+◌, ◌-◌, ◌^◌, ◌<◌, ◌≤◌, List, [], ◌∷◌, ◌++◌, length, get_or, take, drop, refl, add-one, arith, take_all, take-suc, take-take, take-add}
+use Rattle.std.proofs.Common.{◌≡◌, ℕ, ◌+◌, ◌^◌, ◌<◌, List, [], ◌∷◌, ◌++◌, take, drop, refl, arith, take-add, take-append-drop, zero, suc, ◌*◌, zero-mul}
+use Rattle.std.specs.List.{fold}
+use Rattle.std.specs.Simd.{first_chunks}
 use mathlib.Core.List.{foldl-append}
 use Rattle.checksum.specs.Checksum.{sum_step, sum_from}
 
@@ -7,30 +9,26 @@ pub sum_from-append : (s : ℕ) (xs ys : List ℕ) → sum_from s (xs ++ ys) ≡
 unfolding sum_from
 sum_from-append s xs ys = foldl-append sum_step s xs ys
 
--- one byte more
-pub sum_from-more : (s : ℕ) (l : List ℕ) (i : ℕ) → i < length l → sum_from s (take (i + 1) l) ≡ sum_step (sum_from s (take i l)) (get_or l i 0)
-unfolding sum_from
-sum_from-more s l i h = rw (add-one, take-suc l i 0, foldl-append sum_step)
-
--- n bytes more
-pub sum_from-part : (s n i : ℕ) (l : List ℕ) {m r t : ℕ} → m ≡ n → t ≡ sum_from s (take i l) → r ≡ sum_from t (take m (drop i l))
-    → r ≡ sum_from s (take (i + n) l)
-sum_from-part s n i l e f g = rw (take-add, sum_from-append, ← e, ← f) g
-
--- all bytes more
-pub sum_from-rest : (s i : ℕ) (l : List ℕ) {n r t : ℕ} → i ≤ length l → n ≡ length l - i → t ≡ sum_from s (take i l)
-    → r ≡ sum_from t (take n (drop i l)) → r ≡ sum_from s l
-sum_from-rest s i l {n} h e f g =
-    let k : length l ≤ i + n = omega arith in
-    rw (take_all (i + n) l k) at (sum_from-part s n i l refl f g)
-
--- k bytes more of all that is left
-pub sum_from-front : (s k i : ℕ) (l : List ℕ) {m r t : ℕ} → k ≤ m → t ≡ sum_from s (take i l) → r ≡ sum_from t (take k (take m (drop i l)))
-    → r ≡ sum_from s (take (i + k) l)
-sum_from-front s k i l {m} h f g = sum_from-part s k i l refl f (rw (take-take k m (drop i l) h) at g)
-
 -- the sum keeps to 32 bits
 pub sum_from-fits : (s : ℕ) (l : List ℕ) → s < 2 ^ 32 → sum_from s l < 2 ^ 32
 unfolding sum_from
 sum_from-fits s [] h = h
 sum_from-fits s (b ∷ l) h = sum_from-fits (sum_step s b) l (omega arith)
+
+-- ---- chunks of n bytes
+
+pub fold-sum_step : (s : ℕ) (l : List ℕ) → fold sum_step s l ≡ sum_from s l
+unfolding sum_from
+fold-sum_step s [] = refl
+fold-sum_step s (b ∷ l) = fold-sum_step (sum_step s b) l
+
+pub fold-first_chunks : (n k s : ℕ) (l : List ℕ) → fold sum_from s (first_chunks n k l) ≡ sum_from s (take (k * n) l)
+unfolding sum_from
+fold-first_chunks n zero s l = rw zero-mul
+fold-first_chunks n (suc k) s l =
+    let e : suc k * n ≡ n + k * n = omega arith in
+    rw (fold-first_chunks n k (sum_from s (take n l)) (drop n l), e, take-add, sum_from-append)
+
+-- the sum over all is that over the first m bytes carried over the others
+pub sum_from-cut : (m s : ℕ) (l : List ℕ) → sum_from (sum_from s (take m l)) (drop m l) ≡ sum_from s l
+sum_from-cut m s l = rw (← sum_from-append, take-append-drop)

@@ -1,7 +1,6 @@
 -- What the functions that sum a block at once promise each other. No public contract cites these definitions,
 -- so they need not be believed; proofs/Blocks.antt says what they are for.
-use Rattle.std.specs.Prelude.{◌≡◌, ℕ, ◌+◌, ◌-◌, ◌*◌, ◌/◌, ◌%◌, ◌^◌, ◌≤◌, List, [], ◌∷◌, length, take}
-use Rattle.checksum.specs.Checksum.{sum_from}
+use Rattle.std.specs.Prelude.{ℕ, ◌+◌, ◌-◌, ◌*◌, ◌/◌, ◌%◌, ◌^◌, List, [], ◌∷◌, length}
 
 -- a 32-bit number rotated left by n places
 abbrev pub rotated_by : ℕ → ℕ → ℕ
@@ -11,8 +10,3 @@ rotated_by n s = 2 ^ n * s % 2 ^ 32 + s / 2 ^ (32 - n)
 unfoldable pub weight : List ℕ → ℕ
 weight [] = 0
 weight (b ∷ bs) = 2 ^ length bs * b + weight bs
-
--- r is the sum s carried over the first n bytes of a list
-pub record Carried (s : ℕ) (l : List ℕ) (n r : ℕ) : Type 0 where
-  pub within : n ≤ length l
-  pub sum : r ≡ sum_from s (take n l)

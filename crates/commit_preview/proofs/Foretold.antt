@@ -3,11 +3,11 @@ use mathlib.Core.Path.{◌≡◌, refl, sym, ap, ◌∙◌}
 use mathlib.Core.Bool.{false}
 use mathlib.Core.List.{List, [], ◌∷◌, ◌++◌}
 use mathlib.Core.Logic.{◌⊎◌, inl, inr}
-use mathlib.Core.Option.{Option, none, some}
 use Prim.Native.Nat.{ℕ, ◌≤◌, ◌<◌}
 use borrow.Author.Tests.{le-leb, lt-leb, ne_eqb}
 use lib.Dec.{eqb}
 use lib.ListN.{length}
+use Rattle.std.specs.Prelude.{Option, None, Some, Ok}
 use Rattle.le.specs.Choice.{pick}
 use Rattle.le.proofs.Tests.{le-or-lt}
 use Rattle.refusal.specs.Refusal.{number, number_of}
@@ -17,7 +17,6 @@ use Rattle.header.specs.declared.DbHeader.{DbHeader}
 use Rattle.pager_state.specs.World.{World, staged_limit, count_of}
 use Rattle.pager_state.specs.Commit.{checkpoint_frames}
 use Rattle.pager_state.specs.Steps.{differing, commit_refusal, commit_answer, commit_world}
-use Rattle.pager_state.specs.declared.CommitAnswer.TheVariants as committed
 use Rattle.pager_state.specs.Commit.{page_frame_stored}
 use Rattle.pager_state.proofs.CommitEnd.{commit-frame-idle, commit-frame-checkpoints}
 use Rattle.pager_state.proofs.CommitEnd.{frames_world as frames_behind}
@@ -66,7 +65,7 @@ module _ (r : Run) (slots : length r.world.pager.staged.pages ≡ staged_limit) 
   end = end_of (differing g w) w.pager.wal w.pager.storage.len (count_of h)
 
   -- refused
-  module _ (x : Refusal) (e : commit_refusal g w h ≡ some x) where
+  module _ (x : Refusal) (e : commit_refusal g w h ≡ Some x) where
     refused-by : refused_by (Commit h salt) w g ≡ number x
     unfolding refused_by
     refused-by = ap number_of e
@@ -81,7 +80,7 @@ module _ (r : Run) (slots : length r.world.pager.staged.pages ≡ staged_limit) 
         rw (not_taken, s.0)
 
   -- begun
-  module _ (b : commit_refusal g w h ≡ none) where
+  module _ (b : commit_refusal g w h ≡ None) where
     accepted : Accepted (Commit h salt) r
     unfolding refused_by
     accepted = ap number_of b
@@ -102,7 +101,7 @@ module _ (r : Run) (slots : length r.world.pager.staged.pages ≡ staged_limit) 
         let e = committed-world in
         let s = seen_end g w h salt slots b in
         record {
-          answer = rw b (ap (λ (p : Preview). committed.Committed p.answer) s);
+          answer = rw b (ap (λ (p : Preview). Ok p.answer) s);
           rests = rw e (commit-done g w h salt b slots).idle;
           frames = rw e (ap (λ (p : Preview). p.frame_count) s);
           log_file = rw e (ap (λ (p : Preview). p.log_len) s);
@@ -114,5 +113,5 @@ module _ (r : Run) (slots : length r.world.pager.staged.pages ≡ staged_limit) 
   foretold other = go (commit_refusal g w h) refl
     where
       go : (v : Option Refusal) → commit_refusal g w h ≡ v → CommitsSo (preview_commit g w h other) h salt r
-      go none e = rw (closed g w h other slots e) (accepted e, ended e)
-      go (some x) e = rw (refused g w h x e other) (refused-by x e, stays x e)
+      go None e = rw (closed g w h other slots e) (accepted e, ended e)
+      go (Some x) e = rw (refused g w h x e other) (refused-by x e, stays x e)

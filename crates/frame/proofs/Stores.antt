@@ -7,10 +7,11 @@ use native.Mathlib.Omega.{arith}
 use borrow.Author.Tests.{leb-true, leb-false, eq-eqb, ne_eqb}
 use lib.Dec.{leb}
 use lib.ListN.{length, take, drop, replicate, length-append, length-replicate}
+use Rattle.std.specs.Prelude.{Err, Ok, Result}
+use Rattle.refusal.specs.declared.Refusal.{Refusal}
+use Rattle.refusal.specs.declared.Refusal.TheVariants as refusal
 use Rattle.le.specs.Le.{le_bytes, put, store}
 use Rattle.le.specs.Answers.{stored_of}
-use Rattle.le.specs.declared.Stored.{Stored}
-use Rattle.le.specs.declared.Stored.TheVariants.{Done, Area}
 use Rattle.le.proofs.Fields.{length-le_bytes}
 use Rattle.le.proofs.Stores.{length-put, put-over, put-there, part-put, drop-put, length-store, store-put, store-none, store-next}
 use Rattle.page.specs.Page.{front_page}
@@ -78,7 +79,7 @@ module _ (l : List ℕ) (at page count salt : ℕ) where
       f ∙ rw (b, p) (put-over l (at + 16) at body (encode_frame page count salt body) (omega arith) c (omega arith))
 
   -- what storing a frame answers and leaves, where its body is a page and it fits
-  pub frame-stored : (body : List ℕ) {l₁ l₂ : List ℕ} {r : Stored} → length body ≡ 4096 → leb (at + 4112) (length l) ≡ true
+  pub frame-stored : (body : List ℕ) {l₁ l₂ : List ℕ} {r : (Result (Unit {0}) Refusal)} → length body ≡ 4096 → leb (at + 4112) (length l) ≡ true
       → l₁ ≡ store l (at + 16) body → r ≡ stored_of l₁ at 4112 → l₂ ≡ heading_after l₁ at page count salt
       → (r ≡ frame_stored l at body) × (l₂ ≡ frame_after l at page count salt body)
   unfolding heading_after frame_after
@@ -93,7 +94,7 @@ module _ (l : List ℕ) (at page count salt : ℕ) where
 
   -- .. and where it does not fit
   pub frame_refused : (body : List ℕ) → length body ≡ 4096 → leb (at + 4112) (length l) ≡ false
-      → (Area ≡ frame_stored l at body) × (l ≡ frame_after l at page count salt body)
+      → (Err refusal.Area ≡ frame_stored l at body) × (l ≡ frame_after l at page count salt body)
   unfolding frame_after
   frame_refused body n t =
       let k : length l < at + length (encode_frame page count salt body) = rw (length-encode_frame page count salt body n) (leb-false _ _ t) in (
@@ -111,7 +112,7 @@ padded-other front n e =
     n (omega (arith, w, e))
 
 pub padded-refused : (l : List ℕ) (at page count salt : ℕ) (front : List ℕ) → (length front ≡ 32 → ⊥)
-    → (Area ≡ frame_stored l at (front_page front)) × (l ≡ frame_after l at page count salt (front_page front))
+    → (Err refusal.Area ≡ frame_stored l at (front_page front)) × (l ≡ frame_after l at page count salt (front_page front))
 unfolding frame_after
 padded-refused l at page count salt front n =
     let t = ne_eqb (length (front_page front)) 4096 (padded-other front n) in
@@ -147,7 +148,7 @@ module _ (l : List ℕ) (at page count salt : ℕ) (front : List ℕ) (n : lengt
   pub padded-stored : {l₁ l₂ l₃ l₄ : List ℕ} {s r : ℕ} → l₁ ≡ store l (at + 16) front → l₂ ≡ store l₁ (at + 16 + 32) (replicate 4064 0)
       → l₃ ≡ put l₂ at (heading page count salt) → s ≡ sum_from 0 (take 12 (drop at l₃)) → r ≡ sum_from s front
       → l₄ ≡ store l₃ (at + 12) (le_bytes 4 r)
-      → (Done ≡ frame_stored l at (front_page front)) × (l₄ ≡ frame_after l at page count salt (front_page front))
+      → (Ok tt ≡ frame_stored l at (front_page front)) × (l₄ ≡ frame_after l at page count salt (front_page front))
   padded-stored {l₁} {l₂} e f g i j k =
       let h : at + 4112 ≤ length l = leb-true _ _ t in
       let w : length (front_page front) ≡ 4096 = length-padded front n in

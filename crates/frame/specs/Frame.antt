@@ -1,10 +1,10 @@
 -- One frame of the log: "page number, commit count, salt, checksum (4 each), body".
-use Rattle.std.specs.Prelude.{Bool, not, List, ◌++◌, ℕ, ◌+◌, leb, eqb, length, take, drop}
+use Rattle.std.specs.Prelude.{Err, Result, Bool, not, List, ◌++◌, ℕ, ◌+◌, leb, eqb, length, take, drop}
+use Rattle.refusal.specs.declared.Refusal.{Refusal}
+use Rattle.refusal.specs.declared.Refusal.TheVariants as refusal
 use Rattle.le.specs.Choice.{pick, both}
 use Rattle.le.specs.Le.{le_bytes, field, whole_field, put, store}
 use Rattle.le.specs.Answers.{stored_of}
-use Rattle.le.specs.declared.Stored.{Stored}
-use Rattle.le.specs.declared.Stored.TheVariants.{Area}
 use Rattle.page.specs.Page.{page_size}
 use Rattle.checksum.specs.Checksum.{sum_from}
 use Rattle.frame.specs.declared.FrameHeader.{FrameHeader}
@@ -70,8 +70,8 @@ heading_after l at page count salt =
     pick (leb (at + frame_size) (length l)) (put l at (encode_frame page count salt (body_of (frame_at at l)))) l
 
 -- a frame is stored where its body has a page's length and it fits; otherwise refusal 1, and the log stays as it was
-abbrev pub frame_stored : List ℕ → ℕ → List ℕ → Stored
-frame_stored l at body = pick (eqb (length body) page_size) (stored_of l at frame_size) Area
+abbrev pub frame_stored : List ℕ → ℕ → List ℕ → Result (Unit {0}) Refusal
+frame_stored l at body = pick (eqb (length body) page_size) (stored_of l at frame_size) (Err refusal.Area)
 
 unfoldable pub frame_after : List ℕ → ℕ → ℕ → ℕ → ℕ → List ℕ → List ℕ
 frame_after l at page count salt body = pick (eqb (length body) page_size) (store l at (encode_frame page count salt body)) l

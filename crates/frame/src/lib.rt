@@ -8,8 +8,8 @@ ghost use Rattle.le.specs.Le.{put};
 ghost use Rattle.page.specs.Page.{front_page};
 ghost use Rattle.frame.specs.Frame.{frame_size, is_commit, heading, frame_at, frame_header, body_of, checksum_of, intact_at, heading_after, frame_stored, frame_after};
 
-use le::Stored;
 use page::PAGE_SIZE;
+use refusal::Refusal;
 
 pub const FRAME_HEADER_SIZE: usize = 16;
 
@@ -32,6 +32,14 @@ impl FrameHeader {
     {
         self.commit_page_count != 0
     }
+}
+
+// What a frame's heading says before its checksum.
+#[derive(Clone, Copy)]
+pub struct FrameStart {
+    pub page_num: u32,
+    pub commit_page_count: u32,
+    pub salt: u32,
 }
 
 // The heading of the frame at `at`; a field that is not wholly there is 0.
@@ -80,55 +88,42 @@ pub fn is_intact(log: &[u8], at: usize, salt: u32) -> bool
 }
 
 // Stores the 12 bytes before the checksum.
-fn put_heading(log: &mut [u8], at: usize, page_num: u32, commit_page_count: u32, salt: u32)
+fn put_heading(log: &mut [u8], at: usize, start: FrameStart)
     requires { at + 12 ≤ length log.old }
-    ensures { log.new ≡ put log.old at (heading page_num commit_page_count salt) }
+    ensures { log.new ≡ put log.old at (heading start.page_num start.commit_page_count start.salt) }
 {
-    le::write_u32(log, at, page_num);
-    le::write_u32(log, at + 4, commit_page_count);
-    le::write_u32(log, at + 8, salt);
+    let _ = le::write_u32(log, at, start.page_num);
+    let _ = le::write_u32(log, at + 4, start.commit_page_count);
+    let _ = le::write_u32(log, at + 8, start.salt);
 }
 
 // Makes a frame of the page that lies behind the heading's place already.
-pub fn write_frame_header(
-    log: &mut [u8],
-    at: usize,
-    page_num: u32,
-    commit_page_count: u32,
-    salt: u32,
-) -> Stored
+pub fn write_frame_header(log: &mut [u8], at: usize, start: FrameStart) -> Result<(), Refusal>
     ensures value { result ≡ stored_of log.old at frame_size }
-    ensures log_after { log.new ≡ heading_after log.old at page_num commit_page_count salt }
+    ensures log_after { log.new ≡ heading_after log.old at start.page_num start.commit_page_count start.salt }
 {
     if !le::fits_in(log.len(), at, FRAME_SIZE) {
-        return Stored::Area;
+        return Err(Refusal::Area);
     }
-    put_heading(log, at, page_num, commit_page_count, salt);
+    put_heading(log, at, start);
     let sum = compute_checksum(log, at);
-    le::write_u32(log, at + 12, sum);
-    Stored::Done
+    let _ = le::write_u32(log, at + 12, sum);
+    Ok(())
 }
 
 // Stores a whole frame at `at`.
-pub fn write_frame(
-    log: &mut [u8],
-    at: usize,
-    page_num: u32,
-    commit_page_count: u32,
-    salt: u32,
-    body: &[u8],
-) -> Stored
+pub fn write_frame(log: &mut [u8], at: usize, start: FrameStart, body: &[u8]) -> Result<(), Refusal>
     ensures value { result ≡ frame_stored log.old at body.now }
-    ensures log_after { log.new ≡ frame_after log.old at page_num commit_page_count salt body.now }
+    ensures log_after { log.new ≡ frame_after log.old at start.page_num start.commit_page_count start.salt body.now }
 {
     if body.len() != PAGE_SIZE {
-        return Stored::Area;
+        return Err(Refusal::Area);
     }
     if !le::fits_in(log.len(), at, FRAME_SIZE) {
-        return Stored::Area;
+        return Err(Refusal::Area);
     }
-    le::write_bytes(log, at + FRAME_HEADER_SIZE, body);
-    write_frame_header(log, at, page_num, commit_page_count, salt)
+    let _ = le::write_bytes(log, at + FRAME_HEADER_SIZE, body);
+    write_frame_header(log, at, start)
 }
 
 // Stores a whole frame at `at` of a page that has only these 32 bytes in front, and zeros behind. The zeros are not summed: 32 of them
@@ -136,24 +131,22 @@ pub fn write_frame(
 pub fn write_padded_frame(
     log: &mut [u8],
     at: usize,
-    page_num: u32,
-    commit_page_count: u32,
-    salt: u32,
+    start: FrameStart,
     front: &[u8],
-) -> Stored
+) -> Result<(), Refusal>
     ensures value { result ≡ frame_stored log.old at (front_page front.now) }
-    ensures log_after { log.new ≡ frame_after log.old at page_num commit_page_count salt (front_page front.now) }
+    ensures log_after { log.new ≡ frame_after log.old at start.page_num start.commit_page_count start.salt (front_page front.now) }
 {
     if front.len() != 32 {
-        return Stored::Area;
+        return Err(Refusal::Area);
     }
     if !le::fits_in(log.len(), at, FRAME_SIZE) {
-        return Stored::Area;
+        return Err(Refusal::Area);
     }
-    le::write_bytes(log, at + FRAME_HEADER_SIZE, front);
-    le::write_zeros(log, at + FRAME_HEADER_SIZE + 32, PAGE_SIZE - 32);
-    put_heading(log, at, page_num, commit_page_count, salt);
+    let _ = le::write_bytes(log, at + FRAME_HEADER_SIZE, front);
+    let _ = le::write_zeros(log, at + FRAME_HEADER_SIZE + 32, PAGE_SIZE - 32);
+    put_heading(log, at, start);
     let heading_sum = checksum::sum_over(le::part(log, at, 12), 0);
-    le::write_u32(log, at + 12, checksum::sum_over(front, heading_sum));
-    Stored::Done
+    let _ = le::write_u32(log, at + 12, checksum::sum_over(front, heading_sum));
+    Ok(())
 }

@@ -9,13 +9,13 @@ use borrow.Author.Tests.{eqb-true, leb-true, eq-eqb, le-leb}
 use lib.Dec.{leb}
 use lib.ListN.{length, take, drop, replicate}
 use lib.Seq.{take-add, take_at, take-take, drop-drop}
+use Rattle.std.specs.Prelude.{Err, Ok}
 use Rattle.le.specs.Le.{Bytes, le_bytes, field, same_bytes}
 use Rattle.le.proofs.Fields.{length-le_bytes, field-front, field-behind, field-part, le_bytes-field}
 use Rattle.le.proofs.Compare.{both_true, same_refl, same-equal}
 use Rattle.refusal.proofs.Headers.{read, passed}
 use Rattle.header.specs.Header.{magic, header_fields, encode_header, header_in, header_tests, decode_header}
 use Rattle.header.specs.declared.DbHeader.{DbHeader}
-use Rattle.header.specs.declared.HeaderDecoded.TheVariants as decoded
 use Rattle.header.proofs.Encoding.{length-magic, length-header_fields, length-encode_header}
 
 -- ---- what was encoded decodes to itself
@@ -76,13 +76,13 @@ module _ (h : DbHeader) (p : Plain h) where
       number 8 28 refl ∙ rw (field-behind 4 4 4 _ _ (length-le_bytes 4 h.page_count), field-behind 4 4 0 _ _ (length-le_bytes 4 h.schema_root_page))
       (field-front 4 h.freelist_head _ (omega (arith, p.free)))
 
-  pub decode-encode : decode_header (encode_header h) ≡ decoded.Header h
+  pub decode-encode : decode_header (encode_header h) ≡ Ok h
   unfolding header_in decode_header
   decode-encode =
       let m : same_bytes (take 16 (encode_header h)) magic ≡ true = rw (row h, take_at magic _ 16 length-magic) (same_refl magic) in
       let low : 4 ≤ field 2 16 (encode_header h) = rw version p.low in
       let high : field 2 16 (encode_header h) ≤ 6 = rw version p.high in
-      sym (read decoded.Refused (decoded.Header (header_in (encode_header h))) (header_tests (encode_header h)) (eq-eqb _ _ (length-encode_header h)) m
+      sym (read Err (Ok (header_in (encode_header h))) (header_tests (encode_header h)) (eq-eqb _ _ (length-encode_header h)) m
       (rw (le-leb _ _ low, le-leb _ _ high)) (eq-eqb _ _ size)) ∙ rw (count, root, version, free)
 
 -- ---- what decodes encodes to the same first 32 bytes
@@ -96,12 +96,12 @@ pub record Read (l : List ℕ) (h : DbHeader) : Type 0 where
   pub paged : field 2 18 l ≡ 4096
   pub fields : header_in l ≡ h
 
-pub decoded-as : (l : List ℕ) (h : DbHeader) → decode_header l ≡ decoded.Header h → Read l h
+pub decoded-as : (l : List ℕ) (h : DbHeader) → decode_header l ≡ Ok h → Read l h
 unfolding decode_header
 decoded-as l h e =
-    let p = passed decoded.Refused (decoded.Header (header_in l)) (decoded.Header h) (λ r f. let z : ◌≡◌ {A = ℕ} 0 1 = cc in absurd (omega arith)) (header_tests l) e in
+    let p = passed Err (Ok (header_in l)) (Ok h) (λ r f. let z : ◌≡◌ {A = ℕ} 0 1 = cc in absurd (omega arith)) (header_tests l) e in
     let w = both_true (leb 4 (field 2 16 l)) (leb (field 2 16 l) 6) p.version in
-    let d : decoded.Header (header_in l) ≡ decoded.Header h = p.same in
+    let d : Ok (header_in l) ≡ Ok h = p.same in
     record {
       long = eqb-true _ _ p.long;
       leading = same-equal (take 16 l) magic p.leading;
@@ -134,7 +134,7 @@ fields-there l b n m s =
       drop-drop 4 24 l,
     )
 
-pub encode-decode : (l : List ℕ) (h : DbHeader) → Bytes l → decode_header l ≡ decoded.Header h → take 32 (encode_header h) ≡ take 32 l
+pub encode-decode : (l : List ℕ) (h : DbHeader) → Bytes l → decode_header l ≡ Ok h → take 32 (encode_header h) ≡ take 32 l
 unfolding encode_header
 encode-decode l h b e =
     let r = decoded-as l h e in

@@ -1,16 +1,13 @@
 -- The main file's header: document 01's line on `header.rs`.
-use Rattle.std.specs.Prelude.{List, [], ◌∷◌, ◌++◌, ℕ, Bool, leb, eqb, length, take}
+use Rattle.std.specs.Prelude.{Err, Ok, Result, List, [], ◌∷◌, ◌++◌, ℕ, Bool, leb, eqb, length, take}
 use Rattle.le.specs.Choice.{pick, both}
 use Rattle.le.specs.Le.{le_bytes, field, same_bytes}
 use Rattle.page.specs.Page.{page_size, front_page}
 use Rattle.refusal.specs.Refusal.{answered}
 use Rattle.refusal.specs.Headers.{Tests, header_refusal}
 use Rattle.refusal.specs.declared.Refusal.TheVariants as refusal
+use Rattle.refusal.specs.declared.Refusal.{Refusal}
 use Rattle.header.specs.declared.DbHeader.{DbHeader}
-use Rattle.header.specs.declared.HeaderEncoded.{HeaderEncoded}
-use Rattle.header.specs.declared.HeaderEncoded.TheVariants as encoded
-use Rattle.header.specs.declared.HeaderDecoded.{HeaderDecoded}
-use Rattle.header.specs.declared.HeaderDecoded.TheVariants as decoded
 
 -- "`SQLRiteFormat` and three zeros"
 unfoldable pub magic : List ℕ
@@ -31,8 +28,8 @@ unfoldable pub encode_header : DbHeader → List ℕ
 encode_header h = front_page (header_fields h)
 
 -- refusal 2 where the buffer is not 4,096 bytes long, which then stays as it was
-abbrev pub encode_answer : List ℕ → HeaderEncoded
-encode_answer l = pick (eqb (length l) page_size) encoded.Done (encoded.Refused refusal.Short)
+abbrev pub encode_answer : List ℕ → Result (Unit {0}) Refusal
+encode_answer l = pick (eqb (length l) page_size) (Ok tt) (Err refusal.Short)
 
 abbrev pub encode_after : DbHeader → List ℕ → List ℕ
 encode_after h l = pick (eqb (length l) page_size) (encode_header h) l
@@ -63,5 +60,5 @@ header_tests l =
       paged = eqb (field 2 18 l) page_size;
     }
 
-unfoldable pub decode_header : List ℕ → HeaderDecoded
-decode_header l = answered decoded.Refused (decoded.Header (header_in l)) (header_refusal (header_tests l))
+unfoldable pub decode_header : List ℕ → Result DbHeader Refusal
+decode_header l = answered Err (Ok (header_in l)) (header_refusal (header_tests l))

@@ -33,65 +33,50 @@ pub fn encode_fields(h: DbHeader) -> [u8; 32]
     ensures { result ≡ header_fields h }
 {
     let mut fields: [u8; 32] = [0; 32];
-    le::write_bytes(&mut fields, 0, &MAGIC);
-    le::write_u16(&mut fields, 16, h.format_version);
-    le::write_u16(&mut fields, 18, PAGE_SIZE as u16);
-    le::write_u32(&mut fields, 20, h.page_count);
-    le::write_u32(&mut fields, 24, h.schema_root_page);
-    le::write_u32(&mut fields, 28, h.freelist_head);
+    let _ = le::write_bytes(&mut fields, 0, &MAGIC);
+    let _ = le::write_u16(&mut fields, 16, h.format_version);
+    let _ = le::write_u16(&mut fields, 18, PAGE_SIZE as u16);
+    let _ = le::write_u32(&mut fields, 20, h.page_count);
+    let _ = le::write_u32(&mut fields, 24, h.schema_root_page);
+    let _ = le::write_u32(&mut fields, 28, h.freelist_head);
     fields
 }
 
-// What encoding answers.
-#[derive(Clone, Copy)]
-pub enum HeaderEncoded {
-    Done,
-    // Short: the buffer does not have a page's length.
-    Refused(Refusal),
-}
-
-// Writes the header's page into a buffer of a page's length.
-pub fn encode_header(h: DbHeader, buf: &mut [u8]) -> HeaderEncoded
+// Writes the header's page into a buffer; one that has not a page's length is refused (Short).
+pub fn encode_header(h: DbHeader, buf: &mut [u8]) -> Result<(), Refusal>
     ensures { (result ≡ encode_answer buf.old) × (buf.new ≡ encode_after h buf.old) }
 {
     if buf.len() != PAGE_SIZE {
-        return HeaderEncoded::Refused(Refusal::Short);
+        return Err(Refusal::Short);
     }
     let fields = encode_fields(h);
-    le::write_bytes(buf, 0, &fields);
-    le::write_zeros(buf, 32, PAGE_SIZE - 32);
-    HeaderEncoded::Done
+    let _ = le::write_bytes(buf, 0, &fields);
+    let _ = le::write_zeros(buf, 32, PAGE_SIZE - 32);
+    Ok(())
 }
 
-// What decoding answers: the header, or the first of its refusals.
-#[derive(Clone, Copy)]
-pub enum HeaderDecoded {
-    Header(DbHeader),
-    Refused(Refusal),
-}
-
-// Reads the header from its page.
-pub fn decode_header(buf: &[u8]) -> HeaderDecoded
+// Reads the header from its page, or answers the first of its refusals.
+pub fn decode_header(buf: &[u8]) -> Result<DbHeader, Refusal>
     ensures { result ≡ decode_header buf.now }
 {
     if buf.len() != PAGE_SIZE {
-        return HeaderDecoded::Refused(Refusal::Short);
+        return Err(Refusal::Short);
     }
     if !le::same(le::part(buf, 0, 16), &MAGIC) {
-        return HeaderDecoded::Refused(Refusal::Magic);
+        return Err(Refusal::Magic);
     }
     let version = le::read_u16(buf, 16);
     if version < FORMAT_VERSION_V4 {
-        return HeaderDecoded::Refused(Refusal::Version);
+        return Err(Refusal::Version);
     }
     if FORMAT_VERSION_V6 < version {
-        return HeaderDecoded::Refused(Refusal::Version);
+        return Err(Refusal::Version);
     }
-    let page_size = le::read_u16(buf, 18) as usize;
+    let page_size = usize::from(le::read_u16(buf, 18));
     if page_size != PAGE_SIZE {
-        return HeaderDecoded::Refused(Refusal::PageSize);
+        return Err(Refusal::PageSize);
     }
-    HeaderDecoded::Header(DbHeader {
+    Ok(DbHeader {
         page_count: le::read_u32(buf, 20),
         schema_root_page: le::read_u32(buf, 24),
         format_version: version,

@@ -2,12 +2,12 @@
 use mathlib.Core.Path.{◌≡◌, refl, sym, ap, ◌∙◌}
 use mathlib.Core.Bool.{Bool, true, false, not}
 use mathlib.Core.List.{List, [], ◌∷◌, ◌++◌, append_assoc}
-use mathlib.Core.Option.{none}
 use Prim.Native.Nat.{ℕ, ◌+◌, ◌^◌, max, ◌≤◌, ◌<◌}
 use native.Mathlib.Omega.{arith}
 use borrow.Author.Tests.{leb-true}
 use lib.Dec.{leb}
 use lib.ListN.{length}
+use Rattle.std.specs.Prelude.{None}
 use Rattle.le.specs.Choice.{both}
 use Rattle.le.specs.Le.{put, Bytes}
 use Rattle.le.proofs.Compare.{both_true}
@@ -40,14 +40,14 @@ use Rattle.history.specs.Run.{kept_after}
 use Rattle.history.proofs.Frames.{last-other, place_other, batches-append, batches-batch}
 use Rattle.history.proofs.Disk.{Timed, OnDisk, DiskOk}
 use Rattle.history.proofs.Opening.{re-model}
-use Rattle.history.proofs.Rest.{Resting, Some, Inv, held-disk}
+use Rattle.history.proofs.Rest.{Resting, ForSome, Inv, held-disk}
 use Rattle.history.proofs.Append.{longer, whole-store, whole-on, cut_ok}
 use Rattle.history.proofs.CommitFrame.{framed-len, framed-header}
 use Rattle.history.proofs.Running.{cut-none, cut-cons}
 use Rattle.history.proofs.Taken.{Taken, taken-by, at_rest, rest-inv}
 
 module _ (w : World) (g : List ℕ) (b : Model) (z : List ℕ) (i : Inv w g b z) (body : List ℕ) (bs : Bytes body) (ok : refused_by (Append body) w g ≡ 0) where
-  taken : append_refusal w.pager w.log body ≡ none
+  taken : append_refusal w.pager w.log body ≡ None
   unfolding refused_by
   taken = accepted _ ok
 
@@ -81,7 +81,7 @@ module _ (w : World) (g : List ℕ) (b : Model) (z : List ℕ) (i : Inv w g b z)
   room : w.pager.wal.len + frame_size ≤ wal_area
   room = appending-ok.room
 
-  k : Some (Resting w g b) z
+  k : ForSome (Resting w g b) z
   k = at_rest w g b z i idle
 
   abbrev pub f : List ℕ

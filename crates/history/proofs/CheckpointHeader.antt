@@ -3,13 +3,14 @@ use mathlib.Core.Path.{◌≡◌, refl, sym, ap, ◌∙◌}
 use mathlib.Core.Bool.{Bool, true, false}
 use mathlib.Core.List.{List, [], ◌∷◌, ◌++◌}
 use mathlib.Core.Logic.{◌⊎◌, inl, inr}
-use mathlib.Core.Option.{Option, none, some}
 use Prim.Native.Nat.{ℕ, ◌+◌, ◌*◌, min, ◌≤◌, ◌<◌}
 use native.Mathlib.Omega.{arith}
 use borrow.Author.Tests.{le-leb, lt-ltb}
 use lib.Dec.{eqb}
 use lib.ListN.{length, take, get_or, length-take}
 use lib.Seq.{take_all, take-take, length-take-le}
+use Rattle.std.specs.Prelude.{Some, Option, None, Ok, Result}
+use Rattle.refusal.specs.declared.Refusal.{Refusal}
 use Rattle.le.specs.Choice.{pick}
 use Rattle.le.specs.Le.{put}
 use Rattle.le.proofs.Tests.{le-or-lt}
@@ -17,15 +18,11 @@ use Rattle.le.proofs.Stores.{length-put, part-put}
 use Rattle.page.specs.Page.{page_size}
 use Rattle.header.specs.Header.{encode_header, decode_header}
 use Rattle.header.specs.declared.DbHeader.{DbHeader}
-use Rattle.header.specs.declared.HeaderDecoded.{HeaderDecoded}
-use Rattle.header.specs.declared.HeaderDecoded.TheVariants as main
 use Rattle.header.proofs.Encoding.{length-encode_header}
 use Rattle.header.proofs.RoundTrip.{decode-encode, decode-front}
 use Rattle.wal.specs.Header.{header_size}
 use Rattle.wal.specs.Recovery.{last_count}
 use Rattle.wal.specs.declared.WalHeader.{WalHeader}
-use Rattle.wal.specs.declared.LastCommit.{LastCommit}
-use Rattle.wal.specs.declared.LastCommit.TheVariants as last
 use Rattle.pager_state.specs.World.{World, main_area_size, page_limit, count_of, header_of}
 use Rattle.pager_state.specs.Overlay.{page_from, entry}
 use Rattle.pager_state.specs.Opening.{place_from, has_page, recounted}
@@ -42,22 +39,22 @@ use Rattle.history.proofs.Files.{putting, put-file, put-front, reach-front, reac
 use Rattle.history.proofs.Frames.{last_in, last-append}
 use Rattle.history.proofs.Disk.{main_page, view_of, header_over, OnDisk, DiskOk}
 use Rattle.history.proofs.Opening.{model-over}
-use Rattle.history.proofs.Rest.{Held, Checkpointing, Flattened, Some, in-log, step-fine, held-disk, held-stored}
+use Rattle.history.proofs.Rest.{Held, Checkpointing, Flattened, ForSome, in-log, step-fine, held-disk, held-stored}
 use Rattle.history.proofs.CheckpointPage.{must-main, stored-below, reaches}
 use Rattle.history.proofs.Stepping.{StepOk}
 
 -- ---- the header that counts, once it is the main file's own
 
-again_by : (t : Bool) (mh h : DbHeader) (c : LastCommit) (x : HeaderDecoded) → pick t (main.Header (recounted mh c)) x ≡ main.Header h
-    → pick t (main.Header (recounted h c)) x ≡ main.Header h
-again_by true mh h last.Nothing x e = refl
-again_by true mh h (last.Count c) x e =
-    let q : recounted mh (last.Count c) ≡ h = cc in
+again_by : (t : Bool) (mh h : DbHeader) (c : Option ℕ) (x : Result DbHeader Refusal) → pick t (Ok (recounted mh c)) x ≡ Ok h
+    → pick t (Ok (recounted h c)) x ≡ Ok h
+again_by true mh h None x e = refl
+again_by true mh h (Some c) x e =
+    let q : recounted mh (Some c) ≡ h = cc in
     let n : c ≡ count_of h = ap count_of q in
-    ap {B = HeaderDecoded} (λ (y : ℕ). main.Header (record { page_count = y; schema_root_page = h.schema_root_page; format_version = h.format_version; freelist_head = h.freelist_head })) n
+    ap {B = (Result DbHeader Refusal)} (λ (y : ℕ). Ok (record { page_count = y; schema_root_page = h.schema_root_page; format_version = h.format_version; freelist_head = h.freelist_head })) n
 again_by false mh h c x e = e
 
-header-again : (mh h : DbHeader) (S : List (List ℕ)) → header_over mh S ≡ main.Header h → header_over h S ≡ main.Header h
+header-again : (mh h : DbHeader) (S : List (List ℕ)) → header_over mh S ≡ Ok h → header_over h S ≡ Ok h
 unfolding header_over
 header-again mh h S e = again_by (eqb (place_from 0 0 S) 0) mh h (last_count S) (decode_header _) e
 
@@ -70,16 +67,16 @@ front-is m enc j h e n =
     take-take header_size page_size (put m 0 (take j enc)) (omega arith)
     ∙ sym (take-take header_size (length (take j enc)) (put m 0 (take j enc)) l) ∙ ap (take header_size) p ∙ take-take header_size j enc h
 
-flat_view : (u : Option (List ℕ)) (p x : Option (List ℕ)) (y : List ℕ) → or_else u p ≡ x → x ≡ some y → or_else u (some y) ≡ x
-flat_view none p x y e f = sym f
-flat_view (some a) p x y e f = e
+flat_view : (u : Option (List ℕ)) (p x : Option (List ℕ)) (y : List ℕ) → or_else u p ≡ x → x ≡ Some y → or_else u (Some y) ≡ x
+flat_view None p x y e f = sym f
+flat_view (Some a) p x y e f = e
 
 pub has-true : (h : DbHeader) (n : ℕ) → 1 ≤ n → n < count_of h → has_page h n ≡ true
 has-true h n a c = rw (le-leb 1 n a, lt-ltb n (count_of h) c)
 
 -- the main file with at least 32 bytes of the header that counts, where it has every page
 pub head-stored : {d : Disk} {b : Model} {l : WalHeader} {S P : List (List ℕ)} {t : List ℕ} {mh : DbHeader} → OnDisk d b l S P t mh
-    → ((n : ℕ) → 1 ≤ n → n < count_of b.header → b.pages n ≡ some (page_from (page_size * n) d.main.area)) → page_size * count_of b.header ≤ d.main.len
+    → ((n : ℕ) → 1 ≤ n → n < count_of b.header → b.pages n ≡ Some (page_from (page_size * n) d.main.area)) → page_size * count_of b.header ≤ d.main.len
     → (j : ℕ) → header_size ≤ j → OnDisk (record { main = putting d.main 0 (take j (encode_header b.header)); log = d.log }) b l S P t b.header
 head-stored {d} {b} {l} {S} {P} {t} {mh} o flat tall j h =
     let enc : List ℕ = encode_header b.header in
@@ -116,7 +113,7 @@ entry_zero : (p : ℕ) (t : Bool) → entry p t ≡ 0 → (p ≡ 0) × (t ≡ fa
 entry_zero p true e = absurd (omega arith)
 entry_zero p false e = (omega arith, refl)
 
-module _ (g : List ℕ) (w : World) (b : Model) (z : List ℕ) (salt p answer : ℕ) (job_is : w.pager.job ≡ job.Checkpoint salt p answer) (k : Some (Checkpointing salt p w g b) z)
+module _ (g : List ℕ) (w : World) (b : Model) (z : List ℕ) (salt p answer : ℕ) (job_is : w.pager.job ≡ job.Checkpoint salt p answer) (k : ForSome (Checkpointing salt p w g b) z)
     (none_left : pages_from (in_checkpoint w) p ≡ []) where
   abbrev c : Checkpointing salt p w g b k.l k.S k.P k.mh
   c = k.it
@@ -127,13 +124,13 @@ module _ (g : List ℕ) (w : World) (b : Model) (z : List ℕ) (salt p answer : 
   no_more : (m : ℕ) → p ≤ m → m < count_of b.header → in_checkpoint w m ≡ false
   no_more m a h = pages-none (in_checkpoint w) p none_left m a (omega (arith, o.model.most))
 
-  flat-by : (n : ℕ) → 1 ≤ n → n < count_of b.header → (y : Option (List ℕ)) → last_in n k.S ≡ y → b.pages n ≡ some (page_from (page_size * n) w.main)
-  flat-by n h1 h2 (some x) e =
+  flat-by : (n : ℕ) → 1 ≤ n → n < count_of b.header → (y : Option (List ℕ)) → last_in n k.S ≡ y → b.pages n ≡ Some (page_from (page_size * n) w.main)
+  flat-by n h1 h2 (Some x) e =
       let r = stored-below g w b z salt p answer job_is k (count_of b.header) no_more n x h1 h2 h2 e in
       sym (o.model.pages n h1 h2) ∙ rw (e, r.0)
-  flat-by n h1 h2 none e = (must-main o n h1 h2 e).is
+  flat-by n h1 h2 None e = (must-main o n h1 h2 e).is
 
-  flat : (n : ℕ) → 1 ≤ n → n < count_of b.header → b.pages n ≡ some (page_from (page_size * n) w.main)
+  flat : (n : ℕ) → 1 ≤ n → n < count_of b.header → b.pages n ≡ Some (page_from (page_size * n) w.main)
   flat n h1 h2 = flat-by n h1 h2 (last_in n k.S) refl
 
   tall : page_size * count_of b.header ≤ w.pager.storage.len
@@ -144,8 +141,8 @@ module _ (g : List ℕ) (w : World) (b : Model) (z : List ℕ) (salt p answer : 
   full n h1 h2 e =
       let hn : n < page_limit = omega (arith, o.model.most) in
       let r = entry_zero (place_from n 0 (k.S ++ k.P)) (has_page k.mh n) (sym (c.table n hn) ∙ e) in
-      let i : none ≡ last_in n (k.S ++ k.P) = rw r.0 at (in-log c.held c.table n hn) in
-      let s : last_in n k.S ≡ none = sym (last-append n k.S k.P ∙ rw (c.loose n hn)) ∙ sym i in
+      let i : None ≡ last_in n (k.S ++ k.P) = rw r.0 at (in-log c.held c.table n hn) in
+      let s : last_in n k.S ≡ None = sym (last-append n k.S k.P ∙ rw (c.loose n hn)) ∙ sym i in
       let q = (must-main o n h1 h2 s).has in
       let t : has_page k.mh n ≡ false = r.1 in
       let zz : ◌≡◌ {A = ℕ} 0 1 = cc in omega arith
@@ -182,7 +179,7 @@ module _ (g : List ℕ) (w : World) (b : Model) (z : List ℕ) (salt p answer : 
   main-after : v.main ≡ put w.main 0 enc
   main-after = ap (λ (d : Disk). d.main.area) (disk-is ∙ stored_is)
 
-  flat_after : (n : ℕ) → 1 ≤ n → n < count_of b.header → b.pages n ≡ some (page_from (page_size * n) v.main)
+  flat_after : (n : ℕ) → 1 ≤ n → n < count_of b.header → b.pages n ≡ Some (page_from (page_size * n) v.main)
   flat_after n h1 h2 =
       let q : length enc ≤ page_size = omega (arith, enc-long) in
       let s : page_from (page_size * n) (put w.main 0 enc) ≡ page_from (page_size * n) w.main = page-other w.main 0 enc q (omega arith) n (λ y. omega arith) in

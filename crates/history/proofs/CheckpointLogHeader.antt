@@ -31,7 +31,7 @@ use Rattle.pager_state.proofs.Next.{todo-by, advance-by}
 use Rattle.history.specs.Model.{Model}
 use Rattle.history.proofs.Files.{putting, same-file, put-file, reach-none}
 use Rattle.history.proofs.Disk.{OnDisk, DiskOk, log-alone, log-len}
-use Rattle.history.proofs.Rest.{Held, Tabled, Resting, Bared, Some, step-fine, held-disk}
+use Rattle.history.proofs.Rest.{Held, Tabled, Resting, Bared, ForSome, step-fine, held-disk}
 use Rattle.history.proofs.Stepping.{StepOk}
 use Rattle.history.proofs.CheckpointLogLength.{empty-len, empty-header}
 
@@ -66,7 +66,7 @@ entry-checkpointed h n x k (inr e) (inr q) =
     pos (inl r) = r
     pos (inr r) = absurd (e (omega arith))
 
-module _ (g : List ℕ) (w : World) (b : Model) (z : List ℕ) (salt answer : ℕ) (job_is : w.pager.job ≡ job.LogHeader salt answer) (k : Some (Bared salt w g b) z) where
+module _ (g : List ℕ) (w : World) (b : Model) (z : List ℕ) (salt answer : ℕ) (job_is : w.pager.job ≡ job.LogHeader salt answer) (k : ForSome (Bared salt w g b) z) where
   abbrev c : Bared salt w g b k.l k.S k.P k.mh
   c = k.it
 

@@ -1,14 +1,13 @@
 -- A checkpoint's step that sets the log's length: the main file alone is then the model's. Assumes nothing.
 use mathlib.Core.Path.{◌≡◌, refl, sym, ap, ◌∙◌}
 use mathlib.Core.List.{List, [], ◌∷◌, ◌++◌}
-use mathlib.Core.Option.{some}
 use Prim.Native.Nat.{ℕ, zero, suc, ◌*◌, ◌≤◌, ◌<◌}
 use native.Mathlib.Omega.{arith}
 use lib.ListN.{take}
 use lib.Seq.{take-take, take_at}
+use Rattle.std.specs.Prelude.{Some, Ok}
 use Rattle.page.specs.Page.{page_size}
 use Rattle.header.specs.declared.DbHeader.{DbHeader}
-use Rattle.header.specs.declared.HeaderDecoded.TheVariants as main
 use Rattle.mvcc.specs.Batch.{Each}
 use Rattle.wal.specs.Header.{header_size, encode_wal_header}
 use Rattle.wal.specs.Recovery.{last_count, batches_in}
@@ -28,7 +27,7 @@ use Rattle.pager_state.proofs.Next.{todo-by, advance-by}
 use Rattle.history.specs.Model.{Model, model_empty}
 use Rattle.history.proofs.Files.{lasting, same-file, len-file}
 use Rattle.history.proofs.Disk.{header_over, ModelIs, OnDisk, DiskOk, log-alone, log-len}
-use Rattle.history.proofs.Rest.{Held, Flattened, Bared, Some, step-fine, held-disk}
+use Rattle.history.proofs.Rest.{Held, Flattened, Bared, ForSome, step-fine, held-disk}
 use Rattle.history.proofs.Stepping.{StepOk}
 use Rattle.history.proofs.CheckpointHeader.{has-true}
 
@@ -36,11 +35,11 @@ use Rattle.history.proofs.CheckpointHeader.{has-true}
 
 -- without frames the model is the main file's, where that has every page
 bare-model : {m : List ℕ} {b : Model} {S : List (List ℕ)} {mh : DbHeader} → ModelIs m b S mh → mh ≡ b.header
-    → ((n : ℕ) → 1 ≤ n → n < count_of b.header → b.pages n ≡ some (page_from (page_size * n) m)) → ModelIs m (model_empty b) [] mh
+    → ((n : ℕ) → 1 ≤ n → n < count_of b.header → b.pages n ≡ Some (page_from (page_size * n) m)) → ModelIs m (model_empty b) [] mh
 unfolding header_over place_from last_count batches_in Each
 bare-model {m} {b} {S} {mh} o own flat =
     record {
-      top = ap main.Header own;
+      top = ap Ok own;
       plain = o.plain;
       least = o.least;
       most = o.most;
@@ -59,7 +58,7 @@ pub empty-header : (h : WalHeader) → (empty_wal h).header ≡ h
 unfolding empty_wal
 empty-header h = refl
 
-module _ (g : List ℕ) (w : World) (b : Model) (z : List ℕ) (salt answer : ℕ) (job_is : w.pager.job ≡ job.LogLength salt answer) (k : Some (Flattened salt w g b) z) where
+module _ (g : List ℕ) (w : World) (b : Model) (z : List ℕ) (salt answer : ℕ) (job_is : w.pager.job ≡ job.LogLength salt answer) (k : ForSome (Flattened salt w g b) z) where
   abbrev c : Flattened salt w g b k.l k.S k.P k.mh
   c = k.it
 

@@ -16,12 +16,12 @@ use Rattle.pager_state.proofs.Next.{todo-by, advance-by}
 use Rattle.history.specs.Model.{Model}
 use Rattle.history.proofs.Files.{lasting, len-file}
 use Rattle.history.proofs.Disk.{OnDisk, DiskOk}
-use Rattle.history.proofs.Rest.{Held, Flattened, Some, step-fine, held-disk, held-stored}
+use Rattle.history.proofs.Rest.{Held, Flattened, ForSome, step-fine, held-disk, held-stored}
 use Rattle.history.proofs.Stepping.{StepOk}
 
 -- ---- the main length
 
-module _ (g : List ℕ) (w : World) (b : Model) (z : List ℕ) (salt answer : ℕ) (job_is : w.pager.job ≡ job.MainLength salt answer) (k : Some (Flattened salt w g b) z) where
+module _ (g : List ℕ) (w : World) (b : Model) (z : List ℕ) (salt answer : ℕ) (job_is : w.pager.job ≡ job.MainLength salt answer) (k : ForSome (Flattened salt w g b) z) where
   abbrev c : Flattened salt w g b k.l k.S k.P k.mh
   c = k.it
 

@@ -3,12 +3,12 @@ use mathlib.Core.Path.{◌≡◌, refl, sym, ap, ◌∙◌}
 use mathlib.Core.Bool.{Bool, true, false}
 use mathlib.Core.List.{List, [], ◌∷◌, ◌++◌}
 use mathlib.Core.Logic.{◌⊎◌, inl, inr}
-use mathlib.Core.Option.{Option, none, some}
 use Prim.Native.Nat.{ℕ, zero, suc, ◌+◌, ◌*◌, max, min, ◌≤◌, ◌<◌}
 use native.Mathlib.Omega.{arith}
 use borrow.Author.Tests.{le-leb, leb-true, ltb-true, lt-ltb}
 use lib.Dec.{leb, ltb}
 use lib.ListN.{length, take, length-take}
+use Rattle.std.specs.Prelude.{Some, Option, None}
 use Rattle.le.specs.Choice.{pick}
 use Rattle.le.specs.Le.{put}
 use Rattle.le.proofs.Tests.{le-or-lt, eq-or-not}
@@ -35,21 +35,21 @@ use Rattle.history.proofs.Files.{putting, put-file, put-front, reach-behind, tak
 use Rattle.history.proofs.Frames.{last_in, last-append, last-long}
 use Rattle.history.proofs.Disk.{main_page, view_of, OnDisk, DiskOk, whole-left}
 use Rattle.history.proofs.Opening.{model-over}
-use Rattle.history.proofs.Rest.{Held, Checkpointing, Some, log-has, log-lacks, step-fine, held-stored}
+use Rattle.history.proofs.Rest.{Held, Checkpointing, ForSome, log-has, log-lacks, step-fine, held-stored}
 use Rattle.history.proofs.Stepping.{StepOk}
 
 -- a page that the log has not is the main file's
 pub record OnMain (b : Model) (mh : DbHeader) (m : List ℕ) (n : ℕ) : Type 0 where
   pub has : has_page mh n ≡ true
-  pub is : b.pages n ≡ some (page_from (page_size * n) m)
+  pub is : b.pages n ≡ Some (page_from (page_size * n) m)
 
-main-by : (b : Model) (mh : DbHeader) (m : List ℕ) (n : ℕ) (x : List ℕ) (t : Bool) → has_page mh n ≡ t → pick t (some (page_from (page_size * n) m)) none ≡ b.pages n
-    → b.pages n ≡ some x → OnMain b mh m n
+main-by : (b : Model) (mh : DbHeader) (m : List ℕ) (n : ℕ) (x : List ℕ) (t : Bool) → has_page mh n ≡ t → pick t (Some (page_from (page_size * n) m)) None ≡ b.pages n
+    → b.pages n ≡ Some x → OnMain b mh m n
 main-by b mh m n x true e p q = record { has = e; is = sym p }
 main-by b mh m n x false e p q = let z : ◌≡◌ {A = ℕ} 0 1 = cc in absurd (omega arith)
 
 pub must-main : {d : Disk} {b : Model} {l : WalHeader} {S P : List (List ℕ)} {t : List ℕ} {mh : DbHeader} → OnDisk d b l S P t mh → (n : ℕ) → 1 ≤ n
-    → n < count_of b.header → last_in n S ≡ none → OnMain b mh d.main.area n
+    → n < count_of b.header → last_in n S ≡ None → OnMain b mh d.main.area n
 must-main {d} {b} {l} {S} {P} {t} {mh} o n h1 h2 e =
     let r = o.model.there n h1 h2 in
     let p : main_page mh d.main.area n ≡ b.pages n = rw e at (o.model.pages n h1 h2) in
@@ -63,7 +63,7 @@ main-eq mh a c n e = rw e
 
 -- the main file with some bytes of a page that the log has
 pub page-stored : {d : Disk} {b : Model} {l : WalHeader} {S P : List (List ℕ)} {t : List ℕ} {mh : DbHeader} → OnDisk d b l S P t mh → (n : ℕ) (x xs : List ℕ)
-    → 1 ≤ n → n < count_of b.header → last_in n S ≡ some x → length xs ≤ page_size
+    → 1 ≤ n → n < count_of b.header → last_in n S ≡ Some x → length xs ≤ page_size
     → OnDisk (record { main = putting d.main (page_size * n) xs; log = d.log }) b l S P t mh
 page-stored {d} {b} {l} {S} {P} {t} {mh} o n x xs h1 h2 e hx =
     let c : count_of b.header ≤ page_limit = o.model.most in
@@ -84,7 +84,7 @@ page-stored {d} {b} {l} {S} {P} {t} {mh} o n x xs h1 h2 e hx =
     go : (m : ℕ) → 1 ≤ m → m < count_of b.header → count_of b.header ≤ page_limit → length d.main.area ≡ main_area_size → (m ≡ n) ⊎ (m ≡ n → ⊥)
         → view_of S mh (put d.main.area (page_size * n) xs) m ≡ b.pages m
     go m m1 m2 c a (inl q) =
-        let r : last_in m S ≡ some x = rw q e in
+        let r : last_in m S ≡ Some x = rw q e in
         ap (λ (y : Option (List ℕ)). or_else y (main_page mh (put d.main.area (page_size * n) xs) m)) r
         ∙ sym (ap (λ (y : Option (List ℕ)). or_else y (main_page mh d.main.area m)) r) ∙ o.model.pages m m1 m2
     go m m1 m2 c a (inr q) =
@@ -93,7 +93,7 @@ page-stored {d} {b} {l} {S} {P} {t} {mh} o n x xs h1 h2 e hx =
 
 -- ---- the step
 
-module _ (g : List ℕ) (w : World) (b : Model) (z : List ℕ) (salt p answer : ℕ) (job_is : w.pager.job ≡ job.Checkpoint salt p answer) (k : Some (Checkpointing salt p w g b) z) where
+module _ (g : List ℕ) (w : World) (b : Model) (z : List ℕ) (salt p answer : ℕ) (job_is : w.pager.job ≡ job.Checkpoint salt p answer) (k : ForSome (Checkpointing salt p w g b) z) where
   abbrev c : Checkpointing salt p w g b k.l k.S k.P k.mh
   c = k.it
 
@@ -110,7 +110,7 @@ module _ (g : List ℕ) (w : World) (b : Model) (z : List ℕ) (salt p answer : 
   last-committed n hn = last-append n k.S k.P ∙ rw (c.loose n hn)
 
   -- a page that isn't checkpointed is not in the log
-  not-checkpointed : (n : ℕ) → 1 ≤ n → n < count_of b.header → in_checkpoint w n ≡ false → last_in n k.S ≡ none
+  not-checkpointed : (n : ℕ) → 1 ≤ n → n < count_of b.header → in_checkpoint w n ≡ false → last_in n k.S ≡ None
   unfolding in_checkpoint_by
   not-checkpointed n h1 h2 e =
       let hn : n < page_limit = omega (arith, o.model.most) in
@@ -119,7 +119,7 @@ module _ (g : List ℕ) (w : World) (b : Model) (z : List ℕ) (salt p answer : 
       sym (last-committed n hn) ∙ log-lacks c.held c.table n hn q
 
   -- the pages below i that the log has are stored
-  pub stored-below : (i : ℕ) → ((m : ℕ) → p ≤ m → m < i → in_checkpoint w m ≡ false) → (m : ℕ) (x : List ℕ) → 1 ≤ m → m < i → m < count_of b.header → last_in m k.S ≡ some x
+  pub stored-below : (i : ℕ) → ((m : ℕ) → p ≤ m → m < i → in_checkpoint w m ≡ false) → (m : ℕ) (x : List ℕ) → 1 ≤ m → m < i → m < count_of b.header → last_in m k.S ≡ Some x
       → (page_from (page_size * m) w.main ≡ x) × (page_size * suc m ≤ main-len)
   stored-below i before m x h1 h2 h3 e = go (le-or-lt p m)
     where
@@ -127,10 +127,10 @@ module _ (g : List ℕ) (w : World) (b : Model) (z : List ℕ) (salt p answer : 
       go (inl q) = let r = not-checkpointed m h1 h3 (before m q h2) in let zz : ◌≡◌ {A = ℕ} 0 1 = cc in absurd (omega arith)
       go (inr q) = c.stored m x h1 q h3 e
 
-  long-by : (m : ℕ) → 1 ≤ m → m < count_of b.header → ((x : List ℕ) → last_in m k.S ≡ some x → page_size * suc m ≤ main-len) → (y : Option (List ℕ)) → last_in m k.S ≡ y
+  long-by : (m : ℕ) → 1 ≤ m → m < count_of b.header → ((x : List ℕ) → last_in m k.S ≡ Some x → page_size * suc m ≤ main-len) → (y : Option (List ℕ)) → last_in m k.S ≡ y
       → page_size * suc m ≤ main-len
-  long-by m h1 h2 s (some x) e = s x e
-  long-by m h1 h2 s none e = omega (arith, has-below k.mh m (must-main o m h1 h2 e).has, o.main.has)
+  long-by m h1 h2 s (Some x) e = s x e
+  long-by m h1 h2 s None e = omega (arith, has-below k.mh m (must-main o m h1 h2 e).has, o.main.has)
 
   -- so the main file reaches up to page i
   pub reaches : (i : ℕ) → ((m : ℕ) → p ≤ m → m < i → in_checkpoint w m ≡ false) → 1 ≤ i → i ≤ count_of b.header → page_size * i ≤ main-len
@@ -175,7 +175,7 @@ module _ (g : List ℕ) (w : World) (b : Model) (z : List ℕ) (salt p answer : 
     small : n < page_limit
     small = at.below
 
-    last-is : last_in n k.S ≡ some x
+    last-is : last_in n k.S ≡ Some x
     last-is = sym (last-committed n small) ∙ log-has c.held c.table n small checkpointed-page.has
 
     x-long : length x ≡ page_size
@@ -210,7 +210,7 @@ module _ (g : List ℕ) (w : World) (b : Model) (z : List ℕ) (salt p answer : 
     len_after : v.pager.storage.len ≡ max main-len (page_size * n + length x)
     len_after = ap (λ (d : Disk). d.main.len) (disk-is ∙ stored_is (is_empty ns))
 
-    stored-after : (m : ℕ) (y : List ℕ) → 1 ≤ m → m < suc n → m < count_of b.header → last_in m k.S ≡ some y
+    stored-after : (m : ℕ) (y : List ℕ) → 1 ≤ m → m < suc n → m < count_of b.header → last_in m k.S ≡ Some y
         → (page_from (page_size * m) v.main ≡ y) × (page_size * suc m ≤ v.pager.storage.len)
     stored-after m y h1 h2 h3 e = go (eq-or-not m n)
       where
@@ -223,7 +223,7 @@ module _ (g : List ℕ) (w : World) (b : Model) (z : List ℕ) (salt p answer : 
 
         go : (m ≡ n) ⊎ (m ≡ n → ⊥) → (page_from (page_size * m) v.main ≡ y) × (page_size * suc m ≤ v.pager.storage.len)
         go (inl q) =
-            let s : last_in n k.S ≡ some y = rw q at e in
+            let s : last_in n k.S ≡ Some y = rw q at e in
             let xy : x ≡ y = cc (last-is) in
             (rw (main-after, q) (page-same w.main n x (omega (arith, x-long)) in_area x-long ∙ xy), omega (arith, len_after, x-long))
         go (inr q) =

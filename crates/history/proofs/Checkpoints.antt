@@ -2,9 +2,9 @@
 use mathlib.Core.Path.{◌≡◌, refl, sym, ap, ◌∙◌, subst}
 use mathlib.Core.Bool.{Bool, true, false, not}
 use mathlib.Core.List.{List, []}
-use mathlib.Core.Option.{none}
 use Prim.Native.Nat.{ℕ, ◌^◌, ◌<◌}
 use native.Mathlib.Omega.{arith}
+use Rattle.std.specs.Prelude.{None}
 use Rattle.refusal.specs.declared.Refusal.TheVariants as refusal
 use Rattle.refusal.proofs.Judged.{met}
 use Rattle.pager_state.specs.World.{World, busy, with_job}
@@ -21,14 +21,14 @@ use Rattle.history.specs.Model.{Model, model_stores}
 use Rattle.history.specs.Calls.{Checkpoint, BeginCheckpoint, stores_of, world_after}
 use Rattle.history.specs.Run.{kept_after}
 use Rattle.history.proofs.Disk.{DiskOk}
-use Rattle.history.proofs.Rest.{Resting, Checkpointing, Some, Inv, held-disk}
+use Rattle.history.proofs.Rest.{Resting, Checkpointing, ForSome, Inv, held-disk}
 use Rattle.history.proofs.Running.{cut-none, RunOk, run_ok}
 use Rattle.history.proofs.Taken.{Taken, taken-by, at_rest}
 
 -- ---- a checkpoint
 
 module _ (w : World) (g : List ℕ) (b : Model) (z : List ℕ) (i : Inv w g b z) (salt : ℕ) (small : salt < 2 ^ 32)
-    (taken : checkpoint_refusal g w ≡ none) where
+    (taken : checkpoint_refusal g w ≡ None) where
   pub idle : w.pager.job ≡ job.Idle
   unfolding checkpoint_refusal
   idle =
@@ -36,7 +36,7 @@ module _ (w : World) (g : List ℕ) (b : Model) (z : List ℕ) (i : Inv w g b z)
       let c = met (not (busy w.pager)) refusal.Busy _ a.1 in
       not-busy w.pager.job (off _ c.0)
 
-  k : Some (Resting w g b) z
+  k : ForSome (Resting w g b) z
   k = at_rest w g b z i idle
 
   abbrev v : World

@@ -1,8 +1,8 @@
 -- Dropping what is staged. Assumes nothing.
 use mathlib.Core.Path.{◌≡◌, refl, sym, subst}
 use mathlib.Core.List.{List, []}
-use mathlib.Core.Option.{none}
 use Prim.Native.Nat.{ℕ}
+use Rattle.std.specs.Prelude.{None}
 use Rattle.refusal.proofs.Rows.{accepted}
 use Rattle.pager_state.specs.World.{World, busy_refusal, with_staged, none_staged}
 use Rattle.pager_state.specs.Staging.{clear_staged}
@@ -14,7 +14,7 @@ use Rattle.history.specs.Model.{Model, model_clear, model_stores}
 use Rattle.history.specs.Calls.{Clear, refused_by, stores_of, world_after}
 use Rattle.history.specs.Run.{kept_after}
 use Rattle.history.proofs.Opening.{re-model}
-use Rattle.history.proofs.Rest.{Resting, Some, Inv, held-disk}
+use Rattle.history.proofs.Rest.{Resting, ForSome, Inv, held-disk}
 use Rattle.history.proofs.CommitLast.{none-slots, none-staged}
 use Rattle.history.proofs.Running.{cut-none}
 use Rattle.history.proofs.Taken.{Taken, rests-by, at_rest, rest-inv}
@@ -22,14 +22,14 @@ use Rattle.history.proofs.Taken.{Taken, rests-by, at_rest, rest-inv}
 -- ---- dropping what is staged
 
 module _ (w : World) (g : List ℕ) (b : Model) (z : List ℕ) (i : Inv w g b z) (ok : refused_by Clear w g ≡ 0) where
-  taken : busy_refusal w.pager ≡ none
+  taken : busy_refusal w.pager ≡ None
   unfolding refused_by
   taken = accepted _ ok
 
   idle : w.pager.job ≡ job.Idle
   idle = rests-by w.pager taken
 
-  k : Some (Resting w g b) z
+  k : ForSome (Resting w g b) z
   k = at_rest w g b z i idle
 
   abbrev v : World

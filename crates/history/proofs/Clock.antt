@@ -2,11 +2,11 @@
 use mathlib.Core.Path.{◌≡◌, refl, sym, ap, ◌∙◌, subst}
 use mathlib.Core.Bool.{Bool, true, false}
 use mathlib.Core.List.{List, []}
-use mathlib.Core.Option.{none}
 use Prim.Native.Nat.{ℕ, ◌^◌, ◌≤◌, ◌<◌}
 use native.Mathlib.Omega.{arith}
 use borrow.Author.Tests.{leb-false}
 use lib.Dec.{leb}
+use Rattle.std.specs.Prelude.{None}
 use Rattle.le.specs.Choice.{pick}
 use Rattle.refusal.proofs.Rows.{accepted}
 use Rattle.wal.specs.Write.{with_clock}
@@ -21,7 +21,7 @@ use Rattle.pager_state.specs.declared.Pager.{Pager}
 use Rattle.history.specs.Model.{Model, model_stores}
 use Rattle.history.specs.Calls.{Observe, refused_by, stores_of, world_after}
 use Rattle.history.specs.Run.{kept_after}
-use Rattle.history.proofs.Rest.{Resting, Some, Inv, held-disk}
+use Rattle.history.proofs.Rest.{Resting, ForSome, Inv, held-disk}
 use Rattle.history.proofs.Running.{cut-none}
 use Rattle.history.proofs.Taken.{Taken, rests-by, at_rest, rest-inv}
 
@@ -40,14 +40,14 @@ raised_by v c h k true e = record { len = refl; salt = refl; older = omega arith
 raised_by v c h k false e = record { len = refl; salt = refl; older = omega (arith, leb-false c v.header.clock_high_water e); clock = k }
 
 module _ (w : World) (g : List ℕ) (b : Model) (z : List ℕ) (i : Inv w g b z) (c : ℕ) (small : c < 2 ^ 64) (ok : refused_by (Observe c) w g ≡ 0) where
-  taken : busy_refusal w.pager ≡ none
+  taken : busy_refusal w.pager ≡ None
   unfolding refused_by
   taken = accepted _ ok
 
   idle : w.pager.job ≡ job.Idle
   idle = rests-by w.pager taken
 
-  k : Some (Resting w g b) z
+  k : ForSome (Resting w g b) z
   k = at_rest w g b z i idle
 
   abbrev pub u : Wal

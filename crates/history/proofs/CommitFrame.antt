@@ -3,11 +3,11 @@ use mathlib.Core.Path.{◌≡◌, refl, sym, ap, ◌∙◌}
 use mathlib.Core.Bool.{true, false, not}
 use mathlib.Core.List.{List, [], ◌∷◌, ◌++◌, append_assoc, append-nil}
 use mathlib.Core.Logic.{◌⊎◌, inl, inr}
-use mathlib.Core.Option.{Option, none, some}
 use Prim.Native.Nat.{ℕ, suc, ◌+◌, ◌*◌, ◌^◌, max, ◌≤◌, ◌<◌}
 use native.Mathlib.Omega.{arith}
 use borrow.Author.Tests.{le-leb}
 use lib.ListN.{length, length-set}
+use Rattle.std.specs.Prelude.{Some, Option, None}
 use Rattle.le.specs.Choice.{both}
 use Rattle.le.specs.Le.{same_bytes}
 use Rattle.le.proofs.Tests.{le-or-lt, eq-or-not}
@@ -38,7 +38,7 @@ use Rattle.history.proofs.Files.{same-file}
 use Rattle.history.proofs.Frames.{last_in, last-same, last-other, batches_of, batches-append, batches-page, or_give}
 use Rattle.history.proofs.Slots.{staged-long}
 use Rattle.history.proofs.Disk.{view_of, OnDisk, log-len}
-use Rattle.history.proofs.Rest.{Held, Tabled, Committing, Some, world_page, page-view, committed-bytes, step-fine}
+use Rattle.history.proofs.Rest.{Held, Tabled, Committing, ForSome, world_page, page-view, committed-bytes, step-fine}
 use Rattle.history.proofs.Append.{whole-store, whole-on, cut_ok}
 use Rattle.history.proofs.Stepping.{StepOk, table-entered, settled}
 
@@ -51,7 +51,7 @@ unfolding longer
 framed-header v c = refl
 
 module _ (g : List ℕ) (w : World) (b : Model) (z : List ℕ) (h : DbHeader) (salt p answer : ℕ) (job_is : w.pager.job ≡ job.Commit h salt p answer)
-    (k : Some (Committing h salt p w g b) z) (n : ℕ) (ns : List ℕ) (found : pages_from (differs g w) p ≡ n ∷ ns) where
+    (k : ForSome (Committing h salt p w g b) z) (n : ℕ) (ns : List ℕ) (found : pages_from (differs g w) p ≡ n ∷ ns) where
   abbrev c : Committing h salt p w g b k.l k.S k.P k.mh
   c = k.it
 
@@ -142,7 +142,7 @@ module _ (g : List ℕ) (w : World) (b : Model) (z : List ℕ) (h : DbHeader) (s
       rw again (table-entered w.table fs k.mh f n w.pager.wal.len c.held.table_long at.below f-page at-is c.table m hm)
 
   -- its own page is the staged one, others stay
-  own-page : world_page v n ≡ some bytes
+  own-page : world_page v n ≡ Some bytes
   own-page =
       page-view held_after table-after n at.below
       ∙ rw (again, last-same n fs f f-page, body_back n 0 (salt_of w) bytes)
@@ -168,10 +168,10 @@ module _ (g : List ℕ) (w : World) (b : Model) (z : List ℕ) (h : DbHeader) (s
   pages-left =
       pages-same (differs g v) (differs g w) (suc n) (λ m a hm. differs-other m hm (λ e. omega arith)) ∙ rest-is
 
-  done-after : (m : ℕ) → m < page_limit → m < suc n → is_staged w.pager.staged m ≡ true → world_page v m ≡ some (staged_bytes w.pager.staged g m)
+  done-after : (m : ℕ) → m < page_limit → m < suc n → is_staged w.pager.staged m ≡ true → world_page v m ≡ Some (staged_bytes w.pager.staged g m)
   done-after m hm lt s = go (eq-or-not m n) (le-or-lt p m)
     where
-      go : (m ≡ n) ⊎ (m ≡ n → ⊥) → (p ≤ m) ⊎ (m < p) → world_page v m ≡ some (staged_bytes w.pager.staged g m)
+      go : (m ≡ n) ⊎ (m ≡ n → ⊥) → (p ≤ m) ⊎ (m < p) → world_page v m ≡ Some (staged_bytes w.pager.staged g m)
       go (inl e) q = rw e own-page
       go (inr e) (inl q) =
           let lt' : m < n = below e in
@@ -186,7 +186,7 @@ module _ (g : List ℕ) (w : World) (b : Model) (z : List ℕ) (h : DbHeader) (s
               last (inr r) = r
       go (inr e) (inr q) = other-page m hm e ∙ c.done m hm q s
 
-  unstaged-after : (m : ℕ) → m < page_limit → is_staged w.pager.staged m ≡ false → last_in m (k.P ++ (f ∷ [])) ≡ none
+  unstaged-after : (m : ℕ) → m < page_limit → is_staged w.pager.staged m ≡ false → last_in m (k.P ++ (f ∷ [])) ≡ None
   unstaged-after m hm s =
       let ne : page_of f ≡ m → ⊥ = λ e. let q : is_staged w.pager.staged m ≡ true = ap (is_staged w.pager.staged) (sym e ∙ f-page) ∙ is-staged in let zz : ◌≡◌ {A = ℕ} 0 1 = cc in omega arith in
       last-other m k.P f ne ∙ c.unstaged m hm s

@@ -3,18 +3,17 @@ use mathlib.Core.Path.{◌≡◌, refl, sym, ap, ◌∙◌}
 use mathlib.Core.Bool.{Bool, true, false}
 use mathlib.Core.List.{List, [], ◌∷◌, ◌++◌, append_assoc, append-nil}
 use mathlib.Core.Logic.{◌⊎◌, inl, inr}
-use mathlib.Core.Option.{none, some}
 use Prim.Native.Nat.{ℕ, ◌+◌, ◌*◌, ◌^◌, max, ◌≤◌, ◌<◌}
 use native.Mathlib.Omega.{arith}
 use borrow.Author.Tests.{le-leb, lt-ltb, le-ltb, ne_eqb}
 use lib.Dec.{leb}
 use lib.ListN.{length, take, length-append, length-set}
 use lib.Seq.{take_all, drop_at}
+use Rattle.std.specs.Prelude.{Some, None, Ok}
 use Rattle.le.specs.Choice.{pick}
 use Rattle.le.proofs.Tests.{le-or-lt}
 use Rattle.header.specs.Header.{encode_header}
 use Rattle.header.specs.declared.DbHeader.{DbHeader}
-use Rattle.header.specs.declared.HeaderDecoded.TheVariants as main
 use Rattle.header.proofs.Encoding.{length-encode_header}
 use Rattle.header.proofs.RoundTrip.{decode-encode}
 use Rattle.frame.specs.Frame.{frame_size, encode_frame, body_of}
@@ -45,7 +44,7 @@ use Rattle.history.proofs.Files.{same-file, length-content}
 use Rattle.history.proofs.Frames.{last-same, last-other, page-last, place_same, batches_of, batches-append, batches-page}
 use Rattle.history.proofs.Slots.{Slots, staged-long}
 use Rattle.history.proofs.Disk.{view_of, header_over, OnDisk, log-len, log-inside}
-use Rattle.history.proofs.Rest.{Held, Tabled, Resting, Committing, Checkpointing, Some, InvJob, world_page, page-view, page-committed, step-fine}
+use Rattle.history.proofs.Rest.{Held, Tabled, Resting, Committing, Checkpointing, ForSome, InvJob, world_page, page-view, page-committed, step-fine}
 use Rattle.history.proofs.Append.{longer, whole-store, committed-on, cut_ok}
 use Rattle.history.proofs.Stepping.{StepOk, table-entered, settled}
 use Rattle.history.proofs.CommitFrame.{framed-len, framed-header}
@@ -63,7 +62,7 @@ entered_below : (b : Model) (n : ℕ) → 1 ≤ n → n < count_of b.given → m
 unfolding model_pages
 entered_below b n h k = rw (lt-ltb n (count_of b.given) k, le-leb 1 n h)
 
-entered-above : (b : Model) (n : ℕ) → count_of b.given ≤ n → model_pages b n ≡ none
+entered-above : (b : Model) (n : ℕ) → count_of b.given ≤ n → model_pages b n ≡ None
 unfolding model_pages
 entered-above b n h = rw (le-ltb n (count_of b.given) h)
 
@@ -73,7 +72,7 @@ no-commit g v salt answer true = refl
 no-commit g v salt answer false = refl
 
 module _ (g : List ℕ) (w : World) (b : Model) (z : List ℕ) (h : DbHeader) (salt p answer : ℕ) (job_is : w.pager.job ≡ job.Commit h salt p answer)
-    (k : Some (Committing h salt p w g b) z) (none_left : pages_from (differs g w) p ≡ []) where
+    (k : ForSome (Committing h salt p w g b) z) (none_left : pages_from (differs g w) p ≡ []) where
   abbrev c : Committing h salt p w g b k.l k.S k.P k.mh
   c = k.it
 
@@ -129,15 +128,15 @@ module _ (g : List ℕ) (w : World) (b : Model) (z : List ℕ) (h : DbHeader) (s
 
   -- ---- the pages
 
-  all_settled : (n : ℕ) → n < page_limit → is_staged w.pager.staged n ≡ true → world_page w n ≡ some (staged_bytes w.pager.staged g n)
+  all_settled : (n : ℕ) → n < page_limit → is_staged w.pager.staged n ≡ true → world_page w n ≡ Some (staged_bytes w.pager.staged g n)
   all_settled n hn s = go (le-or-lt p n)
     where
-      go : (p ≤ n) ⊎ (n < p) → world_page w n ≡ some (staged_bytes w.pager.staged g n)
+      go : (p ≤ n) ⊎ (n < p) → world_page w n ≡ Some (staged_bytes w.pager.staged g n)
       go (inl q) =
           settled g w n (pages-none (differs g w) p none_left n q hn) s (staged-long w.pager.staged c.held.slots g n c.held.staging_long s)
       go (inr q) = c.done n hn q s
 
-  model-staged : (n : ℕ) (t : Bool) → is_staged w.pager.staged n ≡ t → b.staged n ≡ pick t (some (staged_bytes w.pager.staged g n)) none
+  model-staged : (n : ℕ) (t : Bool) → is_staged w.pager.staged n ≡ t → b.staged n ≡ pick t (Some (staged_bytes w.pager.staged g n)) None
   model-staged n t e = sym (c.held.staged n) ∙ rw e
 
   -- a page that is not staged was below the old count
@@ -155,7 +154,7 @@ module _ (g : List ℕ) (w : World) (b : Model) (z : List ℕ) (h : DbHeader) (s
       let hn : n < page_limit = omega (arith, c.most) in
       page-committed c.held c.table n hn (c.unstaged n hn s) ∙ c.held.on.model.pages n h1 (old-page n h1 h2 s) ∙ sym (rw (model-staged n false s))
 
-  page-there : (n : ℕ) → 1 ≤ n → n < count_of h → (t : Bool) → is_staged w.pager.staged n ≡ t → (x : List ℕ) × (or_else (b.staged n) (b.pages n) ≡ some x)
+  page-there : (n : ℕ) → 1 ≤ n → n < count_of h → (t : Bool) → is_staged w.pager.staged n ≡ t → (x : List ℕ) × (or_else (b.staged n) (b.pages n) ≡ Some x)
   page-there n h1 h2 true s = (staged_bytes w.pager.staged g n, rw (model-staged n true s))
   page-there n h1 h2 false s = let r = c.held.on.model.there n h1 (old-page n h1 h2 s) in (r.0, rw (model-staged n false s) r.1)
 
@@ -166,7 +165,7 @@ module _ (g : List ℕ) (w : World) (b : Model) (z : List ℕ) (h : DbHeader) (s
 
   -- ---- header and batches
 
-  top-is : header_over k.mh S' ≡ main.Header h
+  top-is : header_over k.mh S' ≡ Ok h
   unfolding header_over
   top-is =
       let e : body_of (page_in 0 (fs ++ (f ∷ []))) ≡ encode_header h =
@@ -185,7 +184,7 @@ module _ (g : List ℕ) (w : World) (b : Model) (z : List ℕ) (h : DbHeader) (s
   on-after : OnDisk (disk_of v) (model_commit b) k.l S' [] [] k.mh
   on-after =
       rw (disk-is, stored_is) (committed-on c.held.on f f-long f-good room f-commits (model_commit b) (record {
-        top = top-is ∙ ap main.Header (sym c.given);
+        top = top-is ∙ ap Ok (sym c.given);
         plain = rw c.given c.plain;
         least = omega (arith, given-count, c.least);
         most = omega (arith, given-count, c.most);

@@ -2,11 +2,11 @@
 use mathlib.Core.Path.{◌≡◌, refl, sym, ap, subst}
 use mathlib.Core.Bool.{Bool, true, false}
 use mathlib.Core.List.{List, []}
-use mathlib.Core.Option.{none}
 use Prim.Native.Nat.{ℕ, ◌^◌, ◌≤◌, ◌<◌}
 use native.Mathlib.Omega.{arith}
 use borrow.Author.Tests.{leb-true, le-leb, lt-ltb, not-false}
 use lib.Dec.{leb}
+use Rattle.std.specs.Prelude.{None}
 use Rattle.le.proofs.Compare.{both_true}
 use Rattle.header.specs.declared.DbHeader.{DbHeader}
 use Rattle.pager_state.specs.World.{World, count_of, header_of, with_job}
@@ -24,18 +24,18 @@ use Rattle.history.specs.Model.{Model, model_header, model_stores}
 use Rattle.history.specs.Calls.{Commit, BeginCommit, Words, stores_of, world_after}
 use Rattle.history.specs.Run.{kept_after}
 use Rattle.history.proofs.Opening.{re-model}
-use Rattle.history.proofs.Rest.{Held, Resting, Committing, Some, Inv, held-disk}
+use Rattle.history.proofs.Rest.{Held, Resting, Committing, ForSome, Inv, held-disk}
 use Rattle.history.proofs.Running.{cut-none, RunOk, run_ok}
 use Rattle.history.proofs.Taken.{Taken, taken-by, at_rest}
 
 -- ---- a commit
 
 module _ (w : World) (g : List ℕ) (b : Model) (z : List ℕ) (i : Inv w g b z) (h : DbHeader) (salt : ℕ) (words : Words h) (small : salt < 2 ^ 32)
-    (taken : commit_refusal g w h ≡ none) where
+    (taken : commit_refusal g w h ≡ None) where
   starts : CommitBegun g w h
   starts = commit-begun g w h taken
 
-  k : Some (Resting w g b) z
+  k : ForSome (Resting w g b) z
   k = at_rest w g b z i starts.idle
 
   version : (4 ≤ h.format_version) × (h.format_version ≤ 6)

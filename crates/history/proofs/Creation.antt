@@ -2,17 +2,16 @@
 use mathlib.Core.Path.{◌≡◌, refl, sym, ap, ◌∙◌}
 use mathlib.Core.Bool.{true}
 use mathlib.Core.List.{List, []}
-use mathlib.Core.Option.{Option, none, some}
 use Prim.Native.Nat.{ℕ, ◌+◌, ◌*◌, ◌^◌, max, ◌≤◌, ◌<◌}
 use native.Mathlib.Omega.{arith}
 use borrow.Author.Tests.{ne_eqb}
 use lib.ListN.{length, take}
+use Rattle.std.specs.Prelude.{Option, None, Some, Ok}
 use Rattle.le.specs.Le.{put}
 use Rattle.le.proofs.Stores.{length-put, take_put, part-put}
 use Rattle.page.specs.Page.{page_size, empty_table_page}
 use Rattle.page.proofs.Written.{length-empty_table_page}
 use Rattle.header.specs.Header.{encode_header, decode_header}
-use Rattle.header.specs.declared.HeaderDecoded.TheVariants as main
 use Rattle.header.proofs.Encoding.{length-encode_header}
 use Rattle.header.proofs.RoundTrip.{Plain, decode-encode}
 use Rattle.mvcc.specs.Batch.{Each}
@@ -87,7 +86,7 @@ module _ (t l m g : List ℕ) (salt : ℕ) (ok : create_fine t l m g ≡ true) (
   unfolding first_header
   plain = record { count = omega arith; root = omega arith; free = omega arith; low = omega arith; high = omega arith }
 
-  main-head : decode_header (take page_size main-area) ≡ main.Header first_header
+  main-head : decode_header (take page_size main-area) ≡ Ok first_header
   main-head =
       let a : take page_size main-area ≡ take page_size (put m 0 head) = take_put page_size (put m 0 head) page_size empty_table_page (omega arith) (omega (arith, first-long)) in
       let b : take page_size (put m 0 head) ≡ head = part-put page_size m 0 head (length-encode_header first_header) (omega arith) in
@@ -103,15 +102,15 @@ module _ (t l m g : List ℕ) (salt : ℕ) (ok : create_fine t l m g ≡ true) (
   unfolding first_header
   count-two = refl
 
-  view-one : view_of [] first_header main-area 1 ≡ some empty_table_page
+  view-one : view_of [] first_header main-area 1 ≡ Some empty_table_page
   unfolding first_header
-  view-one = ap {B = Option (List ℕ)} some page-one
+  view-one = ap {B = Option (List ℕ)} Some page-one
 
-  model-one : first_model.pages 1 ≡ some empty_table_page
+  model-one : first_model.pages 1 ≡ Some empty_table_page
   unfolding first_model
   model-one = refl
 
-  model-above : (n : ℕ) → 2 ≤ n → first_model.pages n ≡ none
+  model-above : (n : ℕ) → 2 ≤ n → first_model.pages n ≡ None
   unfolding first_model
   model-above n h = rw (ne_eqb n 1 (λ e. omega arith))
 
@@ -125,10 +124,10 @@ module _ (t l m g : List ℕ) (salt : ℕ) (ok : create_fine t l m g ≡ true) (
   view-is : (n : ℕ) → n ≡ 1 → view_of [] first_header main-area n ≡ first_model.pages n
   view-is n e = rw e (view-one ∙ sym model-one)
 
-  there-is : (n : ℕ) → n ≡ 1 → (y : List ℕ) × (first_model.pages n ≡ some y)
+  there-is : (n : ℕ) → n ≡ 1 → (y : List ℕ) × (first_model.pages n ≡ Some y)
   there-is n e = (empty_table_page, rw e model-one)
 
-  top-is : header_over first_header [] ≡ main.Header first_model.header
+  top-is : header_over first_header [] ≡ Ok first_model.header
   unfolding header_over place_from last_count first_model
   top-is = refl
 

@@ -2,19 +2,18 @@
 use mathlib.Core.Path.{◌≡◌, refl, sym, ap, ◌∙◌}
 use mathlib.Core.Bool.{false}
 use mathlib.Core.List.{List, [], ◌∷◌, ◌++◌, append_assoc, append-nil}
-use mathlib.Core.Option.{Option, none, some}
 use Prim.Native.Nat.{ℕ, ◌+◌, ◌*◌, ◌^◌, ◌≤◌, ◌<◌}
 use native.Mathlib.Omega.{arith}
 use borrow.Author.Tests.{lt-leb}
 use lib.Dec.{eqb}
 use lib.ListN.{length, take, drop, length-append, take-append-drop}
 use lib.Seq.{take_at, drop_at}
+use Rattle.std.specs.Prelude.{Option, None, Some, Ok, Result}
+use Rattle.refusal.specs.declared.Refusal.{Refusal}
 use Rattle.le.specs.Choice.{pick}
 use Rattle.page.specs.Page.{page_size}
 use Rattle.header.specs.Header.{decode_header}
 use Rattle.header.specs.declared.DbHeader.{DbHeader}
-use Rattle.header.specs.declared.HeaderDecoded.{HeaderDecoded}
-use Rattle.header.specs.declared.HeaderDecoded.TheVariants as main
 use Rattle.header.proofs.RoundTrip.{Plain}
 use Rattle.frame.specs.Frame.{frame_size, body_of, intact_at}
 use Rattle.mvcc.specs.Batch.{Each}
@@ -40,15 +39,15 @@ use Rattle.history.proofs.Frames.{last_in, batches_of}
 
 -- the main file's page, where its header says that it has it
 abbrev pub main_page : DbHeader → List ℕ → ℕ → Option (List ℕ)
-main_page mh m n = pick (has_page mh n) (some (page_from (page_size * n) m)) none
+main_page mh m n = pick (has_page mh n) (Some (page_from (page_size * n) m)) None
 
 -- the log's page, else the main file's
 abbrev pub view_of : List (List ℕ) → DbHeader → List ℕ → ℕ → Option (List ℕ)
 view_of S mh m n = or_else (last_in n S) (main_page mh m n)
 
 -- the header that counts
-unfoldable pub header_over : DbHeader → List (List ℕ) → HeaderDecoded
-header_over mh S = pick (eqb (place_from 0 0 S) 0) (main.Header (recounted mh (last_count S))) (decode_header (body_of (page_in 0 S)))
+unfoldable pub header_over : DbHeader → List (List ℕ) → Result DbHeader Refusal
+header_over mh S = pick (eqb (place_from 0 0 S) 0) (Ok (recounted mh (last_count S))) (decode_header (body_of (page_in 0 S)))
 
 -- the log: l is its header, S the committed frames, P good frames that aren't committed, t a rest with no good frame at its front
 pub record LogIs (f : File) (l : WalHeader) (S P : List (List ℕ)) (t : List ℕ) : Type 0 where
@@ -68,7 +67,7 @@ pub record MainIs (f : File) (mh : DbHeader) : Type 0 where
   pub fits : f.len ≤ main_area_size
   pub long : page_size ≤ f.len
   pub has : page_size * count_of mh ≤ f.len
-  pub head : decode_header (take page_size f.area) ≡ main.Header mh
+  pub head : decode_header (take page_size f.area) ≡ Ok mh
 
 -- commit times of 64 bits
 abbrev pub Timed : List Batch → Type 0
@@ -77,13 +76,13 @@ Timed bs = Each (λ (x : Batch). x.time < 2 ^ 64) bs
 -- committed frames over a main file are what the model has. Every committed or waiting time has 64 bits, since the body of an append is bytes;
 -- so the clock that a clean opening takes has, too.
 pub record ModelIs (m : List ℕ) (b : Model) (S : List (List ℕ)) (mh : DbHeader) : Type 0 where
-  pub top : header_over mh S ≡ main.Header b.header
+  pub top : header_over mh S ≡ Ok b.header
   pub plain : Plain b.header
   pub least : 1 ≤ count_of b.header
   pub most : count_of b.header ≤ page_limit
   pub pages : (n : ℕ) → 1 ≤ n → n < count_of b.header → view_of S mh m n ≡ b.pages n
-  pub there : (n : ℕ) → 1 ≤ n → n < count_of b.header → (x : List ℕ) × (b.pages n ≡ some x)
-  pub above : (n : ℕ) → count_of b.header ≤ n → b.pages n ≡ none
+  pub there : (n : ℕ) → 1 ≤ n → n < count_of b.header → (x : List ℕ) × (b.pages n ≡ Some x)
+  pub above : (n : ℕ) → count_of b.header ≤ n → b.pages n ≡ None
   pub batches : batches_of S ≡ b.committed
   pub times : Timed (b.committed ++ b.waiting)
 

@@ -3,10 +3,10 @@ use mathlib.Core.Path.{◌≡◌, refl, sym, ap, ◌∙◌}
 use mathlib.Core.Bool.{Bool, true, false}
 use mathlib.Core.List.{List, [], ◌∷◌, ◌++◌, append_assoc, append-nil}
 use mathlib.Core.Logic.{◌⊎◌, inl, inr}
-use mathlib.Core.Option.{Option, none, some}
 use Prim.Native.Nat.{ℕ, ◌+◌, ◌^◌, ◌<◌}
 use native.Mathlib.Omega.{arith}
 use lib.ListN.{length, take, drop}
+use Rattle.std.specs.Prelude.{Option, None, Some}
 use Rattle.le.specs.Le.{Bytes}
 use Rattle.refusal.specs.declared.Refusal.{Refusal}
 use Rattle.refusal.proofs.Rows.{accepted}
@@ -50,14 +50,14 @@ use Rattle.history.proofs.GuardModel.{world-after}
 
 clear-files : (w : World) (v : Option Refusal) → busy_refusal w.pager ≡ v → disk_of (on_store w (clear_staged w.pager).pager) ≡ disk_of w
 unfolding clear_staged
-clear-files w none e = rw e
-clear-files w (some r) e = rw e
+clear-files w None e = rw e
+clear-files w (Some r) e = rw e
 
 begin-files : (g : List ℕ) (w : World) (h : DbHeader) (salt : ℕ) (v : Option Refusal) → commit_refusal g w h ≡ v
     → disk_of (on_store w (begin_commit g w h salt).pager) ≡ disk_of w
 unfolding begin_commit
-begin-files g w h salt none e = rw e
-begin-files g w h salt (some r) e = rw e
+begin-files g w h salt None e = rw e
+begin-files g w h salt (Some r) e = rw e
 
 checkpoint-files : (g : List ℕ) (w : World) (salt : ℕ) (b : Bool) → checkpoint_begins g w ≡ b
     → disk_of (on_store w (begin_checkpoint g w salt).pager) ≡ disk_of w

@@ -2,7 +2,6 @@
 use mathlib.Core.Path.{◌≡◌, refl, sym, ap, ◌∙◌}
 use mathlib.Core.Bool.{Bool, true, false}
 use mathlib.Core.List.{List, [], ◌∷◌, ◌++◌, append_assoc, foldl, map, map-append}
-use mathlib.Core.Option.{Option, none, some}
 use Prim.Native.Nat.{ℕ, suc, ◌+◌, ◌*◌}
 use native.Mathlib.Nat.{add-zero}
 use native.Mathlib.Omega.{arith}
@@ -10,6 +9,7 @@ use borrow.Author.Tests.{eq-eqb, ne_eqb, eqb-true}
 use lib.Dec.{eqb}
 use lib.ListN.{length, drop, length-drop}
 use lib.Seq.{take_at, drop_at, drop-drop, drop-append-le}
+use Rattle.std.specs.Prelude.{Option, None, Some}
 use Rattle.le.specs.Choice.{pick, both}
 use Rattle.page.specs.Page.{page_size}
 use Rattle.frame.specs.Frame.{frame_size, body_of}
@@ -25,22 +25,22 @@ use Rattle.history.specs.Model.{Batch, batch_in, or_else}
 
 -- ---- options
 
-pub or_else-none : {A : Type 0} (x : Option A) → or_else x none ≡ x
-or_else-none none = refl
-or_else-none (some a) = refl
+pub or_else-none : {A : Type 0} (x : Option A) → or_else x None ≡ x
+or_else-none None = refl
+or_else-none (Some a) = refl
 
 pub or_else-assoc : {A : Type 0} (x y z : Option A) → or_else (or_else x y) z ≡ or_else x (or_else y z)
-or_else-assoc none y z = refl
-or_else-assoc (some a) y z = refl
+or_else-assoc None y z = refl
+or_else-assoc (Some a) y z = refl
 
 -- ---- the last frame of a page
 
 abbrev pub body_if : Bool → List ℕ → Option (List ℕ)
-body_if t f = pick t (some (body_of f)) none
+body_if t f = pick t (Some (body_of f)) None
 
 -- its body
 abbrev pub last_in : ℕ → List (List ℕ) → Option (List ℕ)
-last_in n [] = none
+last_in n [] = None
 last_in n (f ∷ fs) = or_else (last_in n fs) (body_if (eqb (page_of f) n) f)
 
 pub last-append : (n : ℕ) (fs gs : List (List ℕ)) → last_in n (fs ++ gs) ≡ or_else (last_in n gs) (last_in n fs)
@@ -49,7 +49,7 @@ last-append n (f ∷ fs) gs =
     ap (λ (x : Option (List ℕ)). or_else x (body_if (eqb (page_of f) n) f)) (last-append n fs gs)
     ∙ or_else-assoc (last_in n gs) (last_in n fs) (body_if (eqb (page_of f) n) f)
 
-pub last-same : (n : ℕ) (fs : List (List ℕ)) (f : List ℕ) → page_of f ≡ n → last_in n (fs ++ (f ∷ [])) ≡ some (body_of f)
+pub last-same : (n : ℕ) (fs : List (List ℕ)) (f : List ℕ) → page_of f ≡ n → last_in n (fs ++ (f ∷ [])) ≡ Some (body_of f)
 last-same n fs f e = last-append n fs (f ∷ []) ∙ rw (eq-eqb (page_of f) n e)
 
 pub last-other : (n : ℕ) (fs : List (List ℕ)) (f : List ℕ) → (page_of f ≡ n → ⊥) → last_in n (fs ++ (f ∷ [])) ≡ last_in n fs
@@ -57,14 +57,14 @@ last-other n fs f e = last-append n fs (f ∷ []) ∙ rw (ne_eqb (page_of f) n e
 
 -- an option's value, or another
 abbrev pub or_give : {A : Type 0} → Option A → A → A
-or_give none y = y
-or_give (some a) y = a
+or_give None y = y
+or_give (Some a) y = a
 
 give-step : (t : Bool) (x : Option (List ℕ)) (f acc : List ℕ) → or_give x (body_of (pick t f acc)) ≡ or_give (or_else x (body_if t f)) (body_of acc)
-give-step true none f acc = refl
-give-step false none f acc = refl
-give-step true (some a) f acc = refl
-give-step false (some a) f acc = refl
+give-step true None f acc = refl
+give-step false None f acc = refl
+give-step true (Some a) f acc = refl
+give-step false (Some a) f acc = refl
 
 page-checkpoint : (p : ℕ) (fs : List (List ℕ)) (acc : List ℕ)
     → body_of (foldl (λ (found f : List ℕ). pick (eqb (page_of f) p) f found) acc fs) ≡ or_give (last_in p fs) (body_of acc)
@@ -72,7 +72,7 @@ page-checkpoint p [] acc = refl
 page-checkpoint p (f ∷ fs) acc = page-checkpoint p fs (pick (eqb (page_of f) p) f acc) ∙ give-step (eqb (page_of f) p) (last_in p fs) f acc
 
 -- the same as the log's own search
-pub page-last : (p : ℕ) (fs : List (List ℕ)) (x : List ℕ) → last_in p fs ≡ some x → body_of (page_in p fs) ≡ x
+pub page-last : (p : ℕ) (fs : List (List ℕ)) (x : List ℕ) → last_in p fs ≡ Some x → body_of (page_in p fs) ≡ x
 unfolding page_in
 page-last p fs x e = page-checkpoint p fs [] ∙ rw e
 
@@ -81,14 +81,14 @@ unfolding body_of
 body-long f h = length-drop 16 f ∙ omega arith
 
 -- it has a page's length
-pub last-long : (n : ℕ) {fs : List (List ℕ)} (x : List ℕ) → Whole fs → last_in n fs ≡ some x → length x ≡ page_size
+pub last-long : (n : ℕ) {fs : List (List ℕ)} (x : List ℕ) → Whole fs → last_in n fs ≡ Some x → length x ≡ page_size
 last-long n x laid.none e = let z : ◌≡◌ {A = ℕ} 0 1 = cc in absurd (omega arith)
 last-long n x (laid.more {f} {fs} h w) e = go (last_in n fs) refl (eqb (page_of f) n) e (last-long n x w)
   where
-    go : (o : Option (List ℕ)) → last_in n fs ≡ o → (t : Bool) → or_else o (body_if t f) ≡ some x → (last_in n fs ≡ some x → length x ≡ page_size) → length x ≡ page_size
-    go (some y) p t q later = later (p ∙ q)
-    go none p true q later = let s : body_of f ≡ x = cc in ap length (sym s) ∙ body-long f h
-    go none p false q later = let z : ◌≡◌ {A = ℕ} 0 1 = cc in absurd (omega arith)
+    go : (o : Option (List ℕ)) → last_in n fs ≡ o → (t : Bool) → or_else o (body_if t f) ≡ Some x → (last_in n fs ≡ Some x → length x ≡ page_size) → length x ≡ page_size
+    go (Some y) p t q later = later (p ∙ q)
+    go None p true q later = let s : body_of f ≡ x = cc in ap length (sym s) ∙ body-long f h
+    go None p false q later = let z : ◌≡◌ {A = ℕ} 0 1 = cc in absurd (omega arith)
 
 -- ---- where it stands
 
@@ -126,15 +126,15 @@ place_other n fs f e = place-append n 0 fs (f ∷ []) ∙ rw (ne_eqb (page_of f)
 
 -- the page at a frame's place, 0 for none
 abbrev pub body_at : List ℕ → ℕ → Option (List ℕ)
-body_at l p = pick (eqb p 0) none (some (page_from (p + 16) l))
+body_at l p = pick (eqb p 0) None (Some (page_from (p + 16) l))
 
-at-pick : (l : List ℕ) (L c : ℕ) (e q : Bool) (f : List ℕ) → eqb L 0 ≡ q → body_at l c ≡ some (body_of f)
-    → body_at l (pick (both q e) c L) ≡ or_else (pick q none (some (page_from (L + 16) l))) (body_if e f)
+at-pick : (l : List ℕ) (L c : ℕ) (e q : Bool) (f : List ℕ) → eqb L 0 ≡ q → body_at l c ≡ Some (body_of f)
+    → body_at l (pick (both q e) c L) ≡ or_else (pick q None (Some (page_from (L + 16) l))) (body_if e f)
 at-pick l L c true true f h k = k
 at-pick l L c false true f h k = rw h
 at-pick l L c e false f h k = rw h
 
-body-here : (l f rest : List ℕ) (i : ℕ) → length f ≡ frame_size → drop (chunk_at i) l ≡ f ++ rest → body_at l (chunk_at i) ≡ some (body_of f)
+body-here : (l f rest : List ℕ) (i : ℕ) → length f ≡ frame_size → drop (chunk_at i) l ≡ f ++ rest → body_at l (chunk_at i) ≡ Some (body_of f)
 unfolding body_of
 body-here l f rest i h e =
     let q : header_size + frame_size * i ≡ 0 → ⊥ = λ k. omega arith in

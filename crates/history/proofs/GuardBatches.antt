@@ -2,11 +2,11 @@
 use mathlib.Core.Path.{◌≡◌, sym, ap, ◌∙◌}
 use mathlib.Core.Bool.{true}
 use mathlib.Core.List.{List, [], ◌∷◌, ◌++◌}
-use mathlib.Core.Option.{none}
 use Prim.Native.Nat.{ℕ, zero, suc, ◌+◌, ◌*◌, ◌^◌, ◌≤◌, ◌<◌}
 use native.Mathlib.Omega.{arith}
 use borrow.Author.Tests.{le-leb}
 use lib.ListN.{length, replicate}
+use Rattle.std.specs.Prelude.{None, Err}
 use Rattle.le.specs.Le.{put, Bytes}
 use Rattle.le.proofs.Stores.{length-put}
 use Rattle.le.proofs.Compare.{no_test}
@@ -27,8 +27,6 @@ use Rattle.pager_state.specs.World.{World, world, count_of, with_wal}
 use Rattle.pager_state.specs.Batches.{append_refusal, batch_frame, append_batch, append_after}
 use Rattle.pager_state.specs.Opening.{create_fine}
 use Rattle.pager_state.specs.Steps.{differing, commit_world, commit_start, commit_refusal}
-use Rattle.pager_state.specs.declared.CommitStart.TheVariants as commit
-use Rattle.pager_state.specs.declared.BatchAnswer.TheVariants as append
 use Rattle.pager_state.proofs.Made.{Made}
 use Rattle.history.specs.Model.{batch_in, first_model}
 use Rattle.history.specs.Calls.{Append, Commit, Words, refused_by, world_after}
@@ -107,11 +105,11 @@ module _ (h : DbHeader) (k : ℕ) (r : Run) (u : Ready h k r) (body : List ℕ) 
         writes = u.unrefused.writes;
       }
 
-  batch-full : k ≡ 1024 → (append_batch r.world.pager r.world.log body).answer ≡ append.Refused refusal.LogFull
+  batch-full : k ≡ 1024 → (append_batch r.world.pager r.world.log body).answer ≡ Err refusal.LogFull
   batch-full e = batch-told-full r.world.pager r.world.log body unrefused-by (omega (arith, u.log_file, e))
 
   module _ (low : k < 1024) where
-    append-none : append_refusal r.world.pager r.world.log body ≡ none
+    append-none : append_refusal r.world.pager r.world.log body ≡ None
     append-none =
         let room : r.world.pager.wal.len + frame_size ≤ wal_area = omega (arith, u.log_file) in
         unrefused-batch r.world.pager r.world.log body unrefused-by
@@ -166,7 +164,7 @@ module _ (h : DbHeader) (k : ℕ) (r : Run) (u : Ready h k r) (body : List ℕ) 
   none-differs : differing r.staging r.world ≡ 0
   none-differs = none_differ r.world u.unstaged r.staging
 
-  pub ready-begun : k < 1024 → commit_refusal r.staging r.world h ≡ none
+  pub ready-begun : k < 1024 → commit_refusal r.staging r.world h ≡ None
   ready-begun low = unrefused r.staging r.world h u.unrefused (omega (arith, u.log_file, none-differs))
 
   module _ (q : Made r.world) (low : k < 1024) (salt : ℕ) where
@@ -180,7 +178,7 @@ module _ (h : DbHeader) (k : ℕ) (r : Run) (u : Ready h k r) (body : List ℕ) 
     ready-checkpointed : 99 ≤ k → Empty (commit_world r.staging r.world h salt)
     ready-checkpointed e = ready-ends.above (omega (arith, u.frames, none-differs))
 
-  ready-full : k ≡ 1024 → commit_start r.staging r.world h ≡ commit.Refused refusal.LogFull
+  ready-full : k ≡ 1024 → commit_start r.staging r.world h ≡ Err refusal.LogFull
   ready-full e = told-full r.staging r.world h u.unrefused (omega (arith, u.log_file, none-differs, e))
 
 -- ---- from a new store on

@@ -1,10 +1,10 @@
 -- A checkpoint behind a commit that brought none on: nothing refuses it, and what it leaves. Assumes nothing.
 use mathlib.Core.Path.{◌≡◌, ap, ◌∙◌}
 use mathlib.Core.Bool.{true, false}
-use mathlib.Core.Option.{none}
 use Prim.Native.Nat.{ℕ, ◌≤◌}
 use native.Mathlib.Omega.{arith}
 use borrow.Author.Tests.{ne_eqb}
+use Rattle.std.specs.Prelude.{None, Ok}
 use Rattle.refusal.specs.Refusal.{number_of}
 use Rattle.header.specs.declared.DbHeader.{DbHeader}
 use Rattle.pager_state.specs.World.{read_only_by, read_only}
@@ -24,7 +24,7 @@ use Rattle.history.proofs.GuardModel.{world-after, staging-after}
 -- a commit that adds n frames and brings no checkpoint on
 pub record Commits (r : Run) (h : DbHeader) (salt n : ℕ) : Type 0 where
   pub made : Made r.world
-  pub taken : commit_refusal r.staging r.world h ≡ none
+  pub taken : commit_refusal r.staging r.world h ≡ None
   pub writes : read_only r.world.pager ≡ false
   pub some : 1 ≤ n
   pub ends : LongerBy r.world (commit_world r.staging r.world h salt) n
@@ -54,14 +54,14 @@ module _ {r : Run} {h : DbHeader} {salt n : ℕ} (k : Commits r h salt n) where
   unfolding nothing_to_checkpoint
   some-frames = rw (ne_eqb committed.world.pager.wal.frame_count 0 (λ e. omega (arith, e, longer.frames, k.some)))
 
-  checkpoint-none : checkpoint_refusal committed.staging committed.world ≡ none
+  checkpoint-none : checkpoint_refusal committed.staging committed.world ≡ None
   unfolding checkpoint_refusal
   checkpoint-none = rw (committed-fine, longer.rests, committed-writes)
 
   pub checkpoint-begins : checkpoint_begins committed.staging committed.world ≡ true
   checkpoint-begins = begins committed.staging committed.world checkpoint-none some-frames
 
-  pub checkpoint-starts : checkpoint_start committed.staging committed.world ≡ checkpoint.Begun
+  pub checkpoint-starts : checkpoint_start committed.staging committed.world ≡ (Ok checkpoint.Begun)
   unfolding checkpoint_start
   checkpoint-starts = rw (checkpoint-none, some-frames)
 

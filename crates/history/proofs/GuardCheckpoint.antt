@@ -3,13 +3,13 @@ use mathlib.Core.Path.{◌≡◌, refl, sym, ap, ◌∙◌}
 use mathlib.Core.Bool.{Bool, true, false, not}
 use mathlib.Core.List.{List, [], ◌∷◌}
 use mathlib.Core.Logic.{◌⊎◌, inl, inr}
-use mathlib.Core.Option.{Option, none, some}
 use Prim.Native.Nat.{ℕ, zero, suc, ◌+◌, ◌-◌, ◌*◌, ◌/◌, ◌%◌, ◌≤◌, ◌<◌}
 use native.Mathlib.Nat.{suc-add}
 use native.Mathlib.Omega.{arith}
 use borrow.Author.Tests.{le-leb, lt-leb, lt-ltb, leb-true, ltb-true, eqb-true, eqb-false, ne_eqb, not-true}
 use lib.Dec.{leb, ltb, eqb}
 use lib.ListN.{length, drop, replicate, get_or, length-take, length-drop}
+use Rattle.std.specs.Prelude.{Option, None, Some, Err, Ok}
 use Rattle.le.specs.Choice.{pick, both}
 use Rattle.le.proofs.Compare.{no_test, both_true}
 use Rattle.le.proofs.Tests.{le-or-lt, eq-or-not}
@@ -30,7 +30,6 @@ use Rattle.pager_state.specs.Steps.{nothing_to_checkpoint, checkpoint_refusal, c
 use Rattle.pager_state.specs.declared.Job.{Job}
 use Rattle.pager_state.specs.declared.Job.TheVariants as job
 use Rattle.pager_state.specs.declared.CheckpointStart.TheVariants as checkpoint
-use Rattle.pager_state.specs.declared.CheckpointAnswer.TheVariants as answer
 use Rattle.pager_state.proofs.Searches.{First, first, pages-none, pages-length}
 use Rattle.pager_state.proofs.Stored.{Lies, AllInside, length-grown, put-lies}
 use Rattle.pager_state.proofs.Entries.{part-before, checkpointed-none}
@@ -337,12 +336,12 @@ main-entry t n e z =
 -- ---- a checkpoint that is begun
 
 -- as the answer says
-begins-by : (v : Option Refusal) (b : Bool) → answered checkpoint.Refused (pick b checkpoint.Nothing checkpoint.Begun) v ≡ checkpoint.Begun → both (accepts v) (not b) ≡ true
-begins-by none false e = refl
-begins-by none true e = let z : ◌≡◌ {A = ℕ} 0 1 = cc in absurd (omega arith)
-begins-by (some r) b e = let z : ◌≡◌ {A = ℕ} 0 1 = cc in absurd (omega arith)
+begins-by : (v : Option Refusal) (b : Bool) → answered Err (pick b (Ok checkpoint.Nothing) (Ok checkpoint.Begun)) v ≡ (Ok checkpoint.Begun) → both (accepts v) (not b) ≡ true
+begins-by None false e = refl
+begins-by None true e = let z : ◌≡◌ {A = ℕ} 0 1 = cc in absurd (omega arith)
+begins-by (Some r) b e = let z : ◌≡◌ {A = ℕ} 0 1 = cc in absurd (omega arith)
 
-pub start-begins : (g : List ℕ) (w : World) → checkpoint_start g w ≡ checkpoint.Begun → checkpoint_begins g w ≡ true
+pub start-begins : (g : List ℕ) (w : World) → checkpoint_start g w ≡ (Ok checkpoint.Begun) → checkpoint_begins g w ≡ true
 unfolding checkpoint_start
 start-begins g w e = begins-by (checkpoint_refusal g w) (nothing_to_checkpoint w) e
 
@@ -408,7 +407,7 @@ module _ (g : List ℕ) (w : World) (salt : ℕ) (slots : length w.pager.staged.
             (inr (begun-checkpoints n a c ∙ e)) (record { bytes = refl; inside = h }));
       }
 
-  pub checkpointed-answer : checkpoint_answer g w ≡ answer.Written (checkpoint_count w)
+  pub checkpointed-answer : checkpoint_answer g w ≡ Ok (checkpoint_count w)
   unfolding checkpoint_answer
   checkpointed-answer =
       let x = both_true (accepts (checkpoint_refusal g w)) (not (nothing_to_checkpoint w)) b in

@@ -2,12 +2,12 @@
 use mathlib.Core.Path.{◌≡◌, refl, sym, ap, ◌∙◌}
 use mathlib.Core.Bool.{Bool}
 use mathlib.Core.List.{List, [], ◌∷◌, append-nil}
-use mathlib.Core.Option.{none}
 use Prim.Native.Nat.{ℕ, suc, ◌+◌, ◌-◌, ◌*◌, ◌^◌, ◌≤◌, ◌<◌}
 use native.Mathlib.Nat.{suc-add}
 use native.Mathlib.Omega.{arith}
 use borrow.Author.Tests.{le-leb, lt-leb}
 use lib.ListN.{length}
+use Rattle.std.specs.Prelude.{None}
 use Rattle.header.specs.declared.DbHeader.{DbHeader}
 use Rattle.frame.specs.Frame.{frame_size}
 use Rattle.wal.specs.Write.{longer}
@@ -100,7 +100,7 @@ module _ (g : List ℕ) (h : DbHeader) (salt answer : ℕ) where
 -- ---- a commit that is begun
 
 module _ (g : List ℕ) (w : World) (h : DbHeader) (salt : ℕ) (slots : length w.pager.staged.pages ≡ staged_limit)
-    (few : w.pager.wal.frame_count ≤ 1024) (b : commit_refusal g w h ≡ none) where
+    (few : w.pager.wal.frame_count ≤ 1024) (b : commit_refusal g w h ≡ None) where
   abbrev answer : ℕ
   answer = differing g w
 

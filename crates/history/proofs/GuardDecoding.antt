@@ -2,11 +2,11 @@
 use mathlib.Core.Path.{◌≡◌, refl, ap}
 use mathlib.Core.Bool.{Bool, true, false}
 use mathlib.Core.List.{List}
-use mathlib.Core.Option.{Option, none, some}
 use Prim.Native.Nat.{ℕ, zero, suc, ◌≤◌, ◌*◌}
 use native.Mathlib.Omega.{arith}
 use lib.Dec.{eqb}
 use lib.ListN.{take, drop}
+use Rattle.std.specs.Prelude.{Option, None, Some}
 use Rattle.le.specs.Choice.{pick}
 use Rattle.le.specs.Le.{field}
 use Rattle.text.specs.Utf8.{well_formed}
@@ -85,19 +85,19 @@ module _ (s : List ℕ) where
   unfolding records_at
   records-late = many-late (record_at s) record-late (field 2 16 s) 18
 
-late_by : (t n : ℕ) (x : Answer (List MvccLogRecord)) → Late x → (r : Refusal) → refusal_in (batch_end t n x) ≡ some r → 17 ≤ number r
+late_by : (t n : ℕ) (x : Answer (List MvccLogRecord)) → Late x → (r : Refusal) → refusal_in (batch_end t n x) ≡ Some r → 17 ≤ number r
 late_by t n (taken l end) p r e = let z : ◌≡◌ {A = ℕ} 0 1 = cc in absurd (omega arith)
 late_by t n (refused q) p r e = let z : number q ≡ number r = ap number_of e in omega arith
 
-pub decoding-late : (s : List ℕ) → heading_refusal s ≡ none → (r : Refusal) → decode_refusal s ≡ some r → 17 ≤ number r
+pub decoding-late : (s : List ℕ) → heading_refusal s ≡ None → (r : Refusal) → decode_refusal s ≡ Some r → 17 ≤ number r
 unfolding decode_refusal batch_of
 decoding-late s h r e = late_by (field 8 8 s) (field 2 16 s) (records_at s) (records-late s) r (rw h at e)
 
 -- so its number is none of the heading's
-late-number : (v : Option Refusal) → ((r : Refusal) → v ≡ some r → 17 ≤ number r) → (k : ℕ) → 1 ≤ k → k ≤ 16 → number_of v ≡ k → ⊥
-late-number none p k a b e = omega arith
-late-number (some r) p k a b e = omega (arith, p r refl)
+late-number : (v : Option Refusal) → ((r : Refusal) → v ≡ Some r → 17 ≤ number r) → (k : ℕ) → 1 ≤ k → k ≤ 16 → number_of v ≡ k → ⊥
+late-number None p k a b e = omega arith
+late-number (Some r) p k a b e = omega (arith, p r refl)
 
-pub decoding-number : (s : List ℕ) → heading_refusal s ≡ none → (k : ℕ) → 1 ≤ k → k ≤ 16 → refusal_of s ≡ k → ⊥
+pub decoding-number : (s : List ℕ) → heading_refusal s ≡ None → (k : ℕ) → 1 ≤ k → k ≤ 16 → refusal_of s ≡ k → ⊥
 unfolding refusal_of
 decoding-number s h = late-number (decode_refusal s) (decoding-late s h)

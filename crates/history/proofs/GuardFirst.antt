@@ -2,12 +2,12 @@
 use mathlib.Core.Path.{◌≡◌, sym, ap, ◌∙◌}
 use mathlib.Core.Bool.{Bool, true, false}
 use mathlib.Core.List.{List}
-use mathlib.Core.Option.{none, some}
 use Prim.Native.Nat.{ℕ, ◌+◌, ◌*◌, ◌^◌, ◌<◌}
 use native.Mathlib.Omega.{arith}
 use borrow.Author.Tests.{eq-eqb}
 use lib.Dec.{leb}
 use lib.ListN.{length, length-set}
+use Rattle.std.specs.Prelude.{Ok, None, Some}
 use Rattle.le.specs.Choice.{pick}
 use Rattle.le.specs.Le.{put, Bytes}
 use Rattle.le.proofs.Stores.{length-put}
@@ -39,17 +39,17 @@ use Rattle.history.proofs.GuardPages.{some_same, none-some, reads-back}
 
 module _ (w : World) (g : List ℕ) (n : ℕ) (f : step_fine g w ≡ true) (i : w.pager.job ≡ job.Idle) (z : w.pager.staged.count ≡ 0)
     (l : in_log w.table n ≡ false) where
-  found-main : find_page w g n ≡ pick (leb (count_of (header_of w.pager)) n) found.Nothing (pick (on_main w.table n) (found.Main (page_size * n)) found.Nothing)
+  found-main : find_page w g n ≡ Ok (pick (leb (count_of (header_of w.pager)) n) found.Nothing (pick (on_main w.table n) (found.Main (page_size * n)) found.Nothing))
   unfolding find_page read_refusal place_page below
   found-main = rw (f, i, none-staged w z n, l)
 
-  main-by : (bytes : List ℕ) (a b : Bool) → reading_at w g (pick a found.Nothing (pick b (found.Main (page_size * n)) found.Nothing)) ≡ some bytes
+  main-by : (bytes : List ℕ) (a b : Bool) → reading_at w g (Ok (pick a found.Nothing (pick b (found.Main (page_size * n)) found.Nothing))) ≡ Some bytes
       → page_from (page_size * n) w.main ≡ bytes
   main-by bytes true b e = none-some bytes e
   main-by bytes false true e = some_same _ bytes e
   main-by bytes false false e = none-some bytes e
 
-  read-main : (bytes : List ℕ) → reading_at w g (find_page w g n) ≡ some bytes → page_from (page_size * n) w.main ≡ bytes
+  read-main : (bytes : List ℕ) → reading_at w g (find_page w g n) ≡ Some bytes → page_from (page_size * n) w.main ≡ bytes
   read-main bytes e = main-by bytes (leb (count_of (header_of w.pager)) n) (on_main w.table n) (sym (ap (reading_at w g) found-main) ∙ e)
 
 -- ---- staging it
@@ -69,7 +69,7 @@ module _ (t l m g : List ℕ) (salt : ℕ) (f : create_fine t l m g ≡ true) (b
   unfolding start
   new-long = (fine-create t l m g f).staging
 
-  stage-none : stage_refusal (busy w.pager) w.pager.staged new.staging 1 bytes ≡ none
+  stage-none : stage_refusal (busy w.pager) w.pager.staged new.staging 1 bytes ≡ None
   unfolding stage_refusal
   stage-none = rw (eq-eqb (length new.staging) staging_area new-long, eq-eqb (length bytes) page_size long, new-idle t l m g salt f, slot-first)
 
@@ -98,7 +98,7 @@ module _ (t l m g : List ℕ) (salt : ℕ) (f : create_fine t l m g ≡ true) (b
   -- ---- committing it
 
   module _ (h : DbHeader) (next : ℕ) (k : GoodHeader h) (two : count_of h ≡ 2) where
-    first-begun : commit_refusal staged.staging staged.world h ≡ none
+    first-begun : commit_refusal staged.staging staged.world h ≡ None
     unfolding with_slot
     first-begun =
         let z : length slots.pages ≡ staged_limit = length-set w.pager.staged.pages (slot_of w.pager.staged 1) 1 ∙ (new-made t l m g salt f).slots in
@@ -139,7 +139,7 @@ module _ (t l m g : List ℕ) (salt : ℕ) (f : create_fine t l m g ≡ true) (b
       checkpointed = whole (Checkpoint last) committed
 
       -- no page is staged or in the log: it is read from the main file
-      in-main : reading checkpointed 1 ≡ some bytes → page_from page_size checkpointed.world.main ≡ bytes
+      in-main : reading checkpointed 1 ≡ Some bytes → page_from page_size checkpointed.world.main ≡ bytes
       in-main e =
           let ends = checkpoint-ends commits last in
           let to = checkpoint-to commits last in

@@ -26,7 +26,7 @@ use Rattle.history.specs.Demand3.{Sized, TypedEvent, AllTyped}
 use Rattle.history.specs.Guards.{after, Accepted}
 use Rattle.history.proofs.Frames.{batches_of}
 use Rattle.history.proofs.Disk.{DiskOk, recovered-is}
-use Rattle.history.proofs.Rest.{Held, Some, inv-held}
+use Rattle.history.proofs.Rest.{Held, ForSome, inv-held}
 use Rattle.history.proofs.Opening.{Areas, sized-areas, open-len, open-clock, cut_on}
 use Rattle.history.proofs.Reopening.{InvRun, Walk, on, world_is, opened-told}
 use Rattle.history.proofs.Creation.{created-inv}
@@ -103,7 +103,7 @@ module _ (t l m g : List ℕ) (salt : ℕ) (f : create_fine t l m g ≡ true) (s
   inv = inv-history es (start t l m g salt) typed (created-inv t l m g salt f small)
 
   -- what the store held before
-  held : Some (Held r.world r.staging r.model) r.kept
+  held : ForSome (Held r.world r.staging r.model) r.kept
   held = inv-held r.world.pager.job r.world r.staging r.model r.kept inv
 
   abbrev files : DiskOk (disk_of r.world) r.model r.kept

@@ -2,8 +2,8 @@
 use mathlib.Core.Path.{◌≡◌, refl}
 use mathlib.Core.Bool.{Bool, true, false}
 use mathlib.Core.List.{List, [], ◌∷◌}
-use mathlib.Core.Option.{Option, none, some}
 use Prim.Native.Nat.{ℕ}
+use Rattle.std.specs.Prelude.{Option, None, Some}
 use Rattle.refusal.specs.declared.Refusal.{Refusal}
 use Rattle.header.specs.declared.DbHeader.{DbHeader}
 use Rattle.pager_state.specs.World.{World}
@@ -41,13 +41,13 @@ module _ (m : AccessMode) (lent : Lent) (d : Disk) (w : World) (k : Made w) wher
 module _ (g : List ℕ) (w : World) (salt : ℕ) (k : Made w) where
   made-begun : (h : DbHeader) (v : Option Refusal) → commit_refusal g w h ≡ v → Made (on_store w (begin_commit g w h salt).pager)
   unfolding begin_commit
-  made-begun h none e = (commit-made g w h e salt k).made
-  made-begun h (some r) e = rw e k
+  made-begun h None e = (commit-made g w h e salt k).made
+  made-begun h (Some r) e = rw e k
 
   made-commit : (h : DbHeader) (v : Option Refusal) → commit_refusal g w h ≡ v → Made (commit_world g w h salt)
   unfolding commit_world
-  made-commit h none e = rw e (made-steps g most_steps (on_store w (begin_commit g w h salt).pager) (made-begun h none e))
-  made-commit h (some r) e = rw e k
+  made-commit h None e = rw e (made-steps g most_steps (on_store w (begin_commit g w h salt).pager) (made-begun h None e))
+  made-commit h (Some r) e = rw e k
 
   made-checkpointing : (b : Bool) → checkpoint_begins g w ≡ b → Made (on_store w (begin_checkpoint g w salt).pager)
   unfolding begin_checkpoint

@@ -2,10 +2,10 @@
 use mathlib.Core.Path.{◌≡◌, refl, ◌∙◌}
 use mathlib.Core.Bool.{Bool, true, false}
 use mathlib.Core.List.{List, [], ◌∷◌, ◌++◌, append-nil}
-use mathlib.Core.Option.{none, some}
 use Prim.Native.Nat.{ℕ, ◌≤◌, ◌<◌}
 use borrow.Author.Tests.{eq-eqb, lt-ltb, le-leb}
 use lib.Dec.{leb, eqb}
+use Rattle.std.specs.Prelude.{None, Some}
 use Rattle.le.specs.Choice.{pick}
 use Rattle.refusal.proofs.Rows.{accepted}
 use Rattle.header.specs.declared.DbHeader.{DbHeader}
@@ -29,10 +29,10 @@ use Rattle.history.proofs.GuardCommit.{frames_world}
 
 -- a page is entered and not staged
 pub record Shows (b : Model) (n : ℕ) (bytes : List ℕ) : Type 0 where
-  pub entered : b.pages n ≡ some bytes
-  pub unstaged : b.staged n ≡ none
+  pub entered : b.pages n ≡ Some bytes
+  pub unstaged : b.staged n ≡ None
 
-pub shows-read : (b : Model) (n : ℕ) (bytes : List ℕ) → Shows b n bytes → model_read b n ≡ some bytes
+pub shows-read : (b : Model) (n : ℕ) (bytes : List ℕ) → Shows b n bytes → model_read b n ≡ Some bytes
 unfolding model_read
 shows-read b n bytes k = rw (k.unstaged, k.entered)
 
@@ -140,7 +140,7 @@ module _ (h : DbHeader) (salt : ℕ) (r : Run) (k : Accepted (Commit h salt) r) 
   commit-header = rw commit-model (checkpoint-header commit_frames_world.pager.job commit_frames_world (model_commit (model_header h r.model)))
 
   -- a page that was staged for it
-  pub commit-shows : (n : ℕ) (bytes : List ℕ) → r.model.staged n ≡ some bytes → 1 ≤ n → n < count_of h → Shows (whole (Commit h salt) r).model n bytes
+  pub commit-shows : (n : ℕ) (bytes : List ℕ) → r.model.staged n ≡ Some bytes → 1 ≤ n → n < count_of h → Shows (whole (Commit h salt) r).model n bytes
   unfolding model_pages
   commit-shows n bytes e a b =
       rw commit-model

@@ -2,11 +2,11 @@
 use mathlib.Core.Path.{◌≡◌, refl, sym, ap, subst, ◌∙◌}
 use mathlib.Core.Bool.{true, false}
 use mathlib.Core.List.{List, []}
-use mathlib.Core.Option.{none}
 use Prim.Native.Nat.{ℕ, ◌+◌, ◌≤◌}
 use native.Mathlib.Omega.{arith}
 use borrow.Author.Tests.{ltb-true, le-leb, le-ltb}
 use lib.ListN.{length, length-take}
+use Rattle.std.specs.Prelude.{None}
 use Rattle.le.proofs.Compare.{no_test}
 use Rattle.page.specs.Page.{page_size, empty_table_page}
 use Rattle.page.proofs.Written.{length-empty_table_page}
@@ -120,7 +120,7 @@ module _ (t l m g : List ℕ) (salt : ℕ) (f : create_fine t l m g ≡ true) wh
   new-len = rw new_is (empty-len (created_header salt))
 
   pub new-begun : (s : Staged) → length s.pages ≡ staged_limit → (h : DbHeader) → GoodHeader h → Joined (with_slots (new_store t l m g salt) s) h
-      → (staging : List ℕ) → length staging ≡ staging_area → commit_refusal staging (with_slots (new_store t l m g salt) s) h ≡ none
+      → (staging : List ℕ) → length staging ≡ staging_area → commit_refusal staging (with_slots (new_store t l m g salt) s) h ≡ None
   new-begun s z h k j staging e =
       let w : World = with_slots (new_store t l m g salt) s in
       unrefused staging w h (new-unrefused s h k j staging e) (omega (arith, new-len, few-differ staging w z))
@@ -162,7 +162,7 @@ module _ (t l m g : List ℕ) (salt : ℕ) (f : create_fine t l m g ≡ true) wh
   none-counted = none_differ new new_none g
 
   module _ (h : DbHeader) (k : GoodHeader h) (c : count_of h ≤ 2) where
-    alone-begun : commit_refusal g new h ≡ none
+    alone-begun : commit_refusal g new h ≡ None
     alone-begun =
         new-begun t l m g salt f new.pager.staged (new-made t l m g salt f).slots h k (λ n a b d. absurd (omega (arith, new-count, b, c, d))) g (fine-create t l m g f).staging
 

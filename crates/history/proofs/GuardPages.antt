@@ -2,12 +2,13 @@
 use mathlib.Core.Path.{◌≡◌, refl, ap, ◌∙◌}
 use mathlib.Core.Bool.{Bool, true, false}
 use mathlib.Core.List.{List}
-use mathlib.Core.Option.{none, some}
 use Prim.Native.Nat.{ℕ, ◌^◌, ◌≤◌, ◌<◌}
 use native.Mathlib.Omega.{arith}
 use borrow.Author.Tests.{eq-eqb}
+use Rattle.std.specs.Prelude.{Result, Err, None, Some, Ok}
 use Rattle.le.specs.Le.{Bytes}
 use Rattle.refusal.proofs.Rows.{accepted}
+use Rattle.refusal.specs.declared.Refusal.{Refusal}
 use Rattle.header.specs.declared.DbHeader.{DbHeader}
 use Rattle.pager_state.specs.World.{World, count_of, busy_with}
 use Rattle.pager_state.specs.Overlay.{find_page, read_page, bytes_at}
@@ -18,7 +19,6 @@ use Rattle.pager_state.specs.declared.AccessMode.TheVariants as mode
 use Rattle.pager_state.specs.declared.Job.TheVariants as job
 use Rattle.pager_state.specs.declared.PageFound.{PageFound}
 use Rattle.pager_state.specs.declared.PageFound.TheVariants as found
-use Rattle.pager_state.specs.declared.HeaderRead.TheVariants as head
 use Rattle.pager_state.proofs.Made.{Made}
 use Rattle.pager_state.proofs.Done.{commit-done, checkpoint-done}
 use Rattle.history.specs.Calls.{ReadMode, Ask, Open, Stage, Commit, Checkpoint, Words, refused_by, world_after}
@@ -50,18 +50,18 @@ module _ (r : Run) (k : Made r.world) (salt : ℕ) where
 
 -- ---- a reading's bytes
 
-pub some_same : (x y : List ℕ) → some x ≡ some y → x ≡ y
+pub some_same : (x y : List ℕ) → Some x ≡ Some y → x ≡ y
 some_same x y e = cc
 
-pub none-some : {A : Type 0} (y : List ℕ) → none ≡ some y → A
+pub none-some : {A : Type 0} (y : List ℕ) → None ≡ Some y → A
 none-some y e = let z : ◌≡◌ {A = ℕ} 0 1 = cc in absurd (omega arith)
 
-read-bytes : (w : World) (g : List ℕ) (x : PageFound) (bytes : List ℕ) → reading_at w g x ≡ some bytes → bytes_at w g x ≡ bytes
-read-bytes w g (found.Staged at) bytes e = some_same _ bytes e
-read-bytes w g (found.Log at) bytes e = some_same _ bytes e
-read-bytes w g (found.Main at) bytes e = some_same _ bytes e
-read-bytes w g found.Nothing bytes e = none-some bytes e
-read-bytes w g (found.Refused r) bytes e = none-some bytes e
+read-bytes : (w : World) (g : List ℕ) (x : Result PageFound Refusal) (bytes : List ℕ) → reading_at w g x ≡ Some bytes → bytes_at w g x ≡ bytes
+read-bytes w g (Ok (found.Staged at)) bytes e = some_same _ bytes e
+read-bytes w g (Ok (found.Log at)) bytes e = some_same _ bytes e
+read-bytes w g (Ok (found.Main at)) bytes e = some_same _ bytes e
+read-bytes w g (Ok found.Nothing) bytes e = none-some bytes e
+read-bytes w g (Err r) bytes e = none-some bytes e
 
 -- ---- where demand 3 holds
 
@@ -70,17 +70,17 @@ module _ (d : Demand3) (t l m g : List ℕ) (salt : ℕ) (f : create_fine t l m 
   new = start t l m g salt
 
   pub header-back : {r : Run} → Reached new r → (h : DbHeader) (next : ℕ) → Words h → next < 2 ^ 32 → Accepted (Commit h next) r
-      → header (whole (Commit h next) r).world.pager ≡ head.Header h
+      → header (whole (Commit h next) r).world.pager ≡ Ok h
   header-back {r} k h next v s c =
       reads-header d t l m g salt f small (reached-whole k (Commit h next) (v, s)) (ap busy_with (commit-rests r (reached-made k (new-made t l m g salt f)) next h c))
-      ∙ ap head.Header (commit-header h next r c)
+      ∙ ap Ok (commit-header h next r c)
 
   -- a page that the model shows, at rest
   shown : {r : Run} → Reached new r → r.world.pager.job ≡ job.Idle → Made r.world → (n : ℕ) (bytes : List ℕ) → 1 ≤ n → Shows r.model n bytes
       → ReadsBack r n bytes
   unfolding read_page
   shown {r} k i q n bytes a y =
-      let now : reading r n ≡ some bytes = reads d t l m g salt f small k (ap busy_with i) n a ∙ shows-read r.model n bytes y in
+      let now : reading r n ≡ Some bytes = reads d t l m g salt f small k (ap busy_with i) n a ∙ shows-read r.model n bytes y in
       record {
         now = now;
         bytes = read-bytes r.world r.staging (find_page r.world r.staging n) bytes now;
@@ -105,7 +105,7 @@ module _ (d : Demand3) (t l m g : List ℕ) (salt : ℕ) (f : create_fine t l m 
     reached-committed : Reached new (committed_page n bytes h next r)
     reached-committed = reached-whole reached-staged (Commit h next) (v, s)
 
-    page-waits : (whole (Stage n bytes) r).model.staged n ≡ some bytes
+    page-waits : (whole (Stage n bytes) r).model.staged n ≡ Some bytes
     page-waits = rw (stage-model n bytes r e, eq-eqb n n refl)
 
     pub reads-back : ReadsBack (committed_page n bytes h next r) n bytes

@@ -4,13 +4,13 @@ use mathlib.Core.Bool.{Bool, true, false}
 use mathlib.Core.List.{List, [], ◌∷◌, ◌++◌}
 use Prim.Native.Nat.{ℕ, ◌^◌, ◌≤◌, ◌<◌}
 use lib.Dec.{eqb}
+use Rattle.std.specs.Prelude.{Ok}
 use Rattle.refusal.proofs.Rows.{numbered}
 use Rattle.pager_state.specs.World.{World, busy, busy_with}
 use Rattle.pager_state.specs.Queries.{header}
 use Rattle.pager_state.specs.Stores.{Disk, disk_of, cut_all}
 use Rattle.pager_state.specs.Opening.{create_fine, open_refusal}
 use Rattle.pager_state.specs.declared.AccessMode.TheVariants as mode
-use Rattle.pager_state.specs.declared.HeaderRead.TheVariants as head
 use Rattle.pager_state.specs.Opened.{Opens}
 use Rattle.pager_state.specs.Opened as opened
 use Rattle.pager_state.proofs.Made.{Made}
@@ -122,7 +122,7 @@ module _ (d : Demand3) (t l m g : List ℕ) (salt : ℕ) (f : create_fine t l m 
     same : AtRest r (Same r)
     same = subst (λ (x : Run). AtRest x (Same x)) k.is (holds-end k.events new (all_hold k.events k.typed))
 
-    pub reads-header : busy r.world.pager ≡ false → header r.world.pager ≡ head.Header r.model.header
+    pub reads-header : busy r.world.pager ≡ false → header r.world.pager ≡ Ok r.model.header
     reads-header e = (same e).same_header
 
     pub reads : busy r.world.pager ≡ false → (n : ℕ) → 1 ≤ n → reading r n ≡ model_read r.model n

@@ -4,12 +4,12 @@ use mathlib.Core.Path.{◌≡◌, refl, sym, ap, ◌∙◌}
 use mathlib.Core.Bool.{Bool, true, false, not}
 use mathlib.Core.List.{List}
 use mathlib.Core.Logic.{◌⊎◌, inl, inr}
-use mathlib.Core.Option.{Option, none, some}
 use Prim.Native.Nat.{ℕ, ◌+◌, ◌*◌, ◌≤◌, ◌<◌}
 use native.Mathlib.Omega.{arith}
 use borrow.Author.Tests.{leb-true, leb-false, ltb-true, le-leb, lt-leb, lt-ltb, eq-eqb, not-true, not-false, eqb-true}
 use lib.Dec.{leb, ltb, eqb}
 use lib.ListN.{length}
+use Rattle.std.specs.Prelude.{Result, Option, None, Some, Err, Ok}
 use Rattle.le.specs.Choice.{pick, both}
 use Rattle.le.specs.Le.{field}
 use Rattle.le.proofs.Compare.{no_test, both_true}
@@ -35,8 +35,6 @@ use Rattle.pager_state.specs.Batches.{append_refusal, append_batch}
 use Rattle.pager_state.specs.Steps.{header_good, differing, lacking, room_for, table_fits, commit_fine, commit_start, commit_refusal, step_fine}
 use Rattle.pager_state.specs.declared.Pager.{Pager}
 use Rattle.pager_state.specs.declared.Staged.{Staged}
-use Rattle.pager_state.specs.declared.CommitStart.TheVariants as commit
-use Rattle.pager_state.specs.declared.BatchAnswer.TheVariants as append
 use Rattle.pager_state.proofs.Searches.{no-lowest, lowest, pages-none}
 use Rattle.pager_state.proofs.Made.{Fine, ready-fine, fine-ready}
 use Rattle.pager_state.proofs.Before.{stands-frame, before-staged, staged-before}
@@ -47,23 +45,23 @@ use Rattle.history.proofs.GuardDecoding.{decoding-late, decoding-number}
 -- ---- judgements that came out with v
 
 module _ {v : Option Refusal} where
-  passed : (b : Bool) (r : Refusal) (rest : Option Refusal) → (some r ≡ v → ⊥) → unless b r rest ≡ v → (b ≡ true) × (rest ≡ v)
+  passed : (b : Bool) (r : Refusal) (rest : Option Refusal) → (Some r ≡ v → ⊥) → unless b r rest ≡ v → (b ≡ true) × (rest ≡ v)
   passed true r rest n e = (refl, e)
   passed false r rest n e = absurd (n e)
 
-  passed_first : (a rest : Option Refusal) → ((r : Refusal) → a ≡ some r → some r ≡ v → ⊥) → first a rest ≡ v → (a ≡ none) × (rest ≡ v)
-  passed_first none rest n e = (refl, e)
-  passed_first (some r) rest n e = absurd (n r refl e)
+  passed_first : (a rest : Option Refusal) → ((r : Refusal) → a ≡ Some r → Some r ≡ v → ⊥) → first a rest ≡ v → (a ≡ None) × (rest ≡ v)
+  passed_first None rest n e = (refl, e)
+  passed_first (Some r) rest n e = absurd (n r refl e)
 
 -- another number is another refusal
-apart : {q r : Refusal} → (number q ≡ number r → ⊥) → some q ≡ some r → ⊥
+apart : {q r : Refusal} → (number q ≡ number r → ⊥) → Some q ≡ Some r → ⊥
 apart n e = n (ap number_of e)
 
 -- an answer that is a refusal comes of that refusal
 told-by : {A : Type 0} (refused : Refusal → A) (result : A) (r : Refusal) → (result ≡ refused r → ⊥) → ((q : Refusal) → refused q ≡ refused r → q ≡ r)
-    → (v : Option Refusal) → answered refused result v ≡ refused r → v ≡ some r
-told-by refused result r n same none e = absurd (n e)
-told-by refused result r n same (some q) e = ap {B = Option Refusal} some (same q e)
+    → (v : Option Refusal) → answered refused result v ≡ refused r → v ≡ Some r
+told-by refused result r n same None e = absurd (n e)
+told-by refused result r n same (Some q) e = ap {B = Option Refusal} Some (same q e)
 
 -- ---- 13
 
@@ -126,10 +124,10 @@ module _ (w : World) (h : DbHeader) where
 module _ (g : List ℕ) (w : World) (h : DbHeader) where
   -- the last of its tests
   abbrev last_test : Option Refusal
-  last_test = unless (room_for w (differing g w + 1)) refusal.LogFull none
+  last_test = unless (room_for w (differing g w + 1)) refusal.LogFull None
 
   -- none of the first five
-  past : (v : Option Refusal) → ((r : Refusal) → number r < 15 → some r ≡ v → ⊥) → commit_refusal g w h ≡ v → Unrefused g w h × (last_test ≡ v)
+  past : (v : Option Refusal) → ((r : Refusal) → number r < 15 → Some r ≡ v → ⊥) → commit_refusal g w h ≡ v → Unrefused g w h × (last_test ≡ v)
   unfolding commit_refusal
   past v late e =
       let a = passed (commit_fine g w) refusal.Area _ (late refusal.Area (omega arith)) e in
@@ -177,57 +175,57 @@ module _ (g : List ℕ) (w : World) (h : DbHeader) where
         le-leb page_limit (lacking w h) (by-joined w h u.joined),
       )
 
-  pub refused-told : (r : Refusal) → commit_start g w h ≡ commit.Refused r → commit_refusal g w h ≡ some r
+  pub refused-told : (r : Refusal) → commit_start g w h ≡ Err r → commit_refusal g w h ≡ Some r
   unfolding commit_start
-  refused-told r e = told-by commit.Refused commit.Begun r begun-not (λ q s. cc) (commit_refusal g w h) e
+  refused-told r e = told-by Err (Ok tt) r begun-not (λ q s. cc) (commit_refusal g w h) e
     where
-      begun-not : commit.Begun ≡ commit.Refused r → ⊥
+      begun-not : ◌≡◌ {A = Result (Unit {0}) Refusal} (Ok tt) (Err r) → ⊥
       begun-not q = let z : ◌≡◌ {A = ℕ} 0 1 = cc in omega arith
 
-  pub full-told : commit_start g w h ≡ commit.Refused refusal.LogFull → Unrefused g w h × Full w.pager (differing g w + 1)
+  pub full-told : commit_start g w h ≡ Err refusal.LogFull → Unrefused g w h × Full w.pager (differing g w + 1)
   full-told e =
-      let a = past (some refusal.LogFull) (λ q l. apart (λ s. omega (arith, l, s))) (refused-told refusal.LogFull e) in
+      let a = past (Some refusal.LogFull) (λ q l. apart (λ s. omega (arith, l, s))) (refused-told refusal.LogFull e) in
       (a.0, full_by (room_for w (differing g w + 1)) refl a.1)
     where
-      full_by : (b : Bool) → room_for w (differing g w + 1) ≡ b → unless b refusal.LogFull none ≡ some refusal.LogFull → Full w.pager (differing g w + 1)
+      full_by : (b : Bool) → room_for w (differing g w + 1) ≡ b → unless b refusal.LogFull None ≡ Some refusal.LogFull → Full w.pager (differing g w + 1)
       full_by true k q = let z : ◌≡◌ {A = ℕ} 0 1 = cc in absurd (omega arith)
       full_by false k q = leb-false _ _ k
 
-  pub told-full : Unrefused g w h → Full w.pager (differing g w + 1) → commit_start g w h ≡ commit.Refused refusal.LogFull
+  pub told-full : Unrefused g w h → Full w.pager (differing g w + 1) → commit_start g w h ≡ Err refusal.LogFull
   unfolding commit_start
   told-full u f = rw (reached u, lt-leb (w.pager.wal.len + frame_size * (differing g w + 1)) wal_area f)
 
-  pub begun-none : commit_start g w h ≡ commit.Begun → commit_refusal g w h ≡ none
+  pub begun-none : commit_start g w h ≡ Ok tt → commit_refusal g w h ≡ None
   unfolding commit_start
-  begun-none e = (resulted commit.Refused commit.Begun commit.Begun refused-not (commit_refusal g w h) e).0
+  begun-none e = (resulted Err (Ok tt) (Ok tt) refused-not (commit_refusal g w h) e).0
     where
-      refused-not : (r : Refusal) → commit.Refused r ≡ commit.Begun → ⊥
+      refused-not : (r : Refusal) → ◌≡◌ {A = Result (Unit {0}) Refusal} (Err r) (Ok tt) → ⊥
       refused-not r q = let z : ◌≡◌ {A = ℕ} 0 1 = cc in omega arith
 
-  pub none-begun : commit_refusal g w h ≡ none → commit_start g w h ≡ commit.Begun
+  pub none-begun : commit_refusal g w h ≡ None → commit_start g w h ≡ Ok tt
   unfolding commit_start
   none-begun e = rw e
 
-  pub begun-told : commit_start g w h ≡ commit.Begun → Unrefused g w h × (w.pager.wal.len + frame_size * (differing g w + 1) ≤ wal_area)
+  pub begun-told : commit_start g w h ≡ Ok tt → Unrefused g w h × (w.pager.wal.len + frame_size * (differing g w + 1) ≤ wal_area)
   begun-told e =
-      let a = past none (λ r l q. numbered r (ap number_of q)) (begun-none e) in
-      (a.0, leb-true _ _ (met (room_for w (differing g w + 1)) refusal.LogFull none a.1).0)
+      let a = past None (λ r l q. numbered r (ap number_of q)) (begun-none e) in
+      (a.0, leb-true _ _ (met (room_for w (differing g w + 1)) refusal.LogFull None a.1).0)
 
-  pub unrefused : Unrefused g w h → w.pager.wal.len + frame_size * (differing g w + 1) ≤ wal_area → commit_refusal g w h ≡ none
+  pub unrefused : Unrefused g w h → w.pager.wal.len + frame_size * (differing g w + 1) ≤ wal_area → commit_refusal g w h ≡ None
   unrefused u f = reached u ∙ rw (le-leb (w.pager.wal.len + frame_size * (differing g w + 1)) wal_area f)
 
-  pub told-begun : Unrefused g w h → w.pager.wal.len + frame_size * (differing g w + 1) ≤ wal_area → commit_start g w h ≡ commit.Begun
+  pub told-begun : Unrefused g w h → w.pager.wal.len + frame_size * (differing g w + 1) ≤ wal_area → commit_start g w h ≡ Ok tt
   told-begun u f = none-begun (unrefused u f)
 
 -- ---- a batch append
 
 -- a heading's refusals are others
-heading-by : (a b : Bool) → unless a refusal.Short (unless b refusal.Magic none) ≡ some refusal.LogFull → ⊥
+heading-by : (a b : Bool) → unless a refusal.Short (unless b refusal.Magic None) ≡ Some refusal.LogFull → ⊥
 heading-by true true e = let z : ◌≡◌ {A = ℕ} 0 15 = ap number_of e in omega arith
 heading-by true false e = let z : ◌≡◌ {A = ℕ} 3 15 = ap number_of e in omega arith
 heading-by false b e = let z : ◌≡◌ {A = ℕ} 2 15 = ap number_of e in omega arith
 
-heading-apart : (body : List ℕ) → heading_refusal body ≡ some refusal.LogFull → ⊥
+heading-apart : (body : List ℕ) → heading_refusal body ≡ Some refusal.LogFull → ⊥
 unfolding heading_refusal
 heading-apart body e = heading-by (leb 18 (length body)) (eqb (field 8 0 body) batch_magic) e
 
@@ -244,11 +242,11 @@ module _ (p : Pager) (l body : List ℕ) where
         u.writes,
       )
 
-  pub batch-full-told : (append_batch p l body).answer ≡ append.Refused refusal.LogFull → UnrefusedBatch p l body × Full p 1
+  pub batch-full-told : (append_batch p l body).answer ≡ Err refusal.LogFull → UnrefusedBatch p l body × Full p 1
   unfolding append_batch append_refusal
   batch-full-told e =
-      let v : Option Refusal = some refusal.LogFull in
-      let r : append_refusal p l body ≡ v = told-by append.Refused append.Appended refusal.LogFull (λ q. appended-not q) (λ q s. cc) (append_refusal p l body) e in
+      let v : Option Refusal = Some refusal.LogFull in
+      let r : append_refusal p l body ≡ v = told-by Err (Ok tt) refusal.LogFull (λ q. appended-not q) (λ q s. cc) (append_refusal p l body) e in
       let a = passed (both (log_fine p.wal.len l) (leb (length body) page_size)) refusal.Area _ (apart (λ s. omega arith)) r in
       let b = passed_first (heading_refusal body) _ heading-not a.1 in
       let c = passed (not (busy p)) refusal.Busy _ (apart (λ s. omega arith)) b.1 in
@@ -267,16 +265,16 @@ module _ (p : Pager) (l body : List ℕ) where
         full_by b.0 (has_room p.wal) refl d.1,
       )
     where
-      appended-not : append.Appended ≡ append.Refused refusal.LogFull → ⊥
+      appended-not : ◌≡◌ {A = Result (Unit {0}) Refusal} (Ok tt) (Err refusal.LogFull) → ⊥
       appended-not q = let z : ◌≡◌ {A = ℕ} 0 1 = cc in omega arith
 
-      heading-not : (r : Refusal) → heading_refusal body ≡ some r → some r ≡ some refusal.LogFull → ⊥
+      heading-not : (r : Refusal) → heading_refusal body ≡ Some r → Some r ≡ Some refusal.LogFull → ⊥
       heading-not r h q = heading-apart body (h ∙ q)
 
-      full_by : heading_refusal body ≡ none → (b : Bool) → has_room p.wal ≡ b → unless b refusal.LogFull (decode_refusal body) ≡ some refusal.LogFull → Full p 1
+      full_by : heading_refusal body ≡ None → (b : Bool) → has_room p.wal ≡ b → unless b refusal.LogFull (decode_refusal body) ≡ Some refusal.LogFull → Full p 1
       full_by h true k q = absurd (omega (arith, decoding-late body h refusal.LogFull q))
       full_by h false k q = let z = leb-false (p.wal.len + frame_size) wal_area k in omega arith
 
-  pub batch-told-full : UnrefusedBatch p l body → Full p 1 → (append_batch p l body).answer ≡ append.Refused refusal.LogFull
+  pub batch-told-full : UnrefusedBatch p l body → Full p 1 → (append_batch p l body).answer ≡ Err refusal.LogFull
   unfolding append_batch
   batch-told-full u f = rw (unrefused-batch u, lt-leb (p.wal.len + frame_size) wal_area (omega arith))

@@ -2,10 +2,10 @@
 use mathlib.Core.Path.{◌≡◌, refl, ap}
 use mathlib.Core.Bool.{Bool, true, false, not}
 use mathlib.Core.List.{List}
-use mathlib.Core.Option.{Option, none}
 use Prim.Native.Nat.{ℕ, ◌+◌}
 use native.Mathlib.Omega.{arith}
 use lib.Dec.{leb}
+use Rattle.std.specs.Prelude.{Option, None, Err}
 use Rattle.refusal.specs.Refusal.{number, unless, number_of}
 use Rattle.refusal.specs.declared.Refusal.{Refusal}
 use Rattle.refusal.specs.declared.Refusal.TheVariants as refusal
@@ -13,7 +13,6 @@ use Rattle.header.specs.declared.DbHeader.{DbHeader}
 use Rattle.pager_state.specs.World.{World, page_limit, busy, read_only}
 use Rattle.pager_state.specs.Steps.{header_good, differing, lacking, room_for, table_fits, commit_fine, commit_refusal, commit_start, step_fine}
 use Rattle.pager_state.specs.declared.Job.TheVariants as job
-use Rattle.pager_state.specs.declared.CommitStart.TheVariants as commit
 use Rattle.pager_state.proofs.Before.{staged-before}
 use Rattle.pager_state.proofs.Begun.{not-busy}
 use Rattle.pager_state.proofs.Made.{Made, ready-fine}
@@ -44,8 +43,8 @@ module _ (g : List ℕ) (w : World) (h : DbHeader) (k : Made w) (f : step_fine g
       (later (not (read_only w.pager)) refusal.ReadOnly _ (λ q. omega arith)
       (later (header_good h) refusal.NewHeader _ (λ q. omega arith)
       (later (leb page_limit (lacking w h)) (refusal.Joining (lacking w h)) _ (λ q. omega arith)
-      (later (room_for w (differing g w + 1)) refusal.LogFull none (λ q. omega arith) (λ q. omega arith)))))
+      (later (room_for w (differing g w + 1)) refusal.LogFull None (λ q. omega arith) (λ q. omega arith)))))
       (rw (table-fine (busy w.pager) refl) at e)
 
-  pub table_taken : commit_start g w h ≡ commit.Refused refusal.Area → ⊥
+  pub table_taken : commit_start g w h ≡ Err refusal.Area → ⊥
   table_taken e = area-not (ap number_of (refused-told g w h refusal.Area e))

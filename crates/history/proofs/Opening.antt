@@ -2,7 +2,6 @@
 use mathlib.Core.Path.{◌≡◌, refl, sym, ap, ◌∙◌}
 use mathlib.Core.Bool.{Bool, true, false}
 use mathlib.Core.List.{List, [], ◌∷◌, ◌++◌, map, append-nil}
-use mathlib.Core.Option.{Option, none, some}
 use Prim.Native.Nat.{ℕ, zero, suc, ◌+◌, ◌*◌, ◌^◌, max, ◌≤◌, ◌<◌}
 use native.Mathlib.Nat.{add-zero, zero-add}
 use native.Mathlib.Omega.{arith}
@@ -10,6 +9,7 @@ use borrow.Author.Tests.{eq-eqb, le-leb, leb-true, eqb-true}
 use lib.Dec.{leb, ltb, eqb}
 use lib.ListN.{length, take, drop, get_or, length-append, length-drop}
 use lib.Seq.{take_at, take-take}
+use Rattle.std.specs.Prelude.{Option, None, Some, Ok}
 use Rattle.le.specs.Choice.{pick, both}
 use Rattle.le.specs.Le.{field}
 use Rattle.le.proofs.Fields.{drop-take, field-part}
@@ -18,13 +18,11 @@ use Rattle.page.specs.Page.{page_size}
 use Rattle.mvcc.specs.Batch.{Each}
 use Rattle.header.specs.Header.{decode_header, header_in}
 use Rattle.header.specs.declared.DbHeader.{DbHeader}
-use Rattle.header.specs.declared.HeaderDecoded.TheVariants as main
 use Rattle.header.proofs.RoundTrip.{decoded-as}
 use Rattle.wal.specs.Header.{header_size, encode_wal_header, decode_wal_header}
 use Rattle.wal.specs.Recovery.{chunk_at, good_front, last_count, batches_in, Recovered, recovered, committed_frames, commit_point, wal_of, wal_area}
 use Rattle.wal.specs.Write.{with_clock}
 use Rattle.wal.specs.declared.WalHeader.{WalHeader}
-use Rattle.wal.specs.declared.WalHeaderDecoded.TheVariants as log
 use Rattle.wal.specs.declared.Wal.{Wal}
 use Rattle.wal.proofs.HeaderRoundTrip.{decode-encode}
 use Rattle.wal.proofs.Frames.{all-good-cons}
@@ -60,12 +58,12 @@ part_same a c len at n e h =
 main-same : (mh : DbHeader) (a c : List ℕ) (len n : ℕ) → take len a ≡ take len c → page_size * count_of mh ≤ len → main_page mh a n ≡ main_page mh c n
 main-same mh a c len n e h = go (leb 1 n) (ltb n (count_of mh)) refl
   where
-    go : (s t : Bool) → ltb n (count_of mh) ≡ t → pick (both s t) (some (page_from (page_size * n) a)) none ≡ pick (both s t) (some (page_from (page_size * n) c)) none
+    go : (s t : Bool) → ltb n (count_of mh) ≡ t → pick (both s t) (Some (page_from (page_size * n) a)) None ≡ pick (both s t) (Some (page_from (page_size * n) c)) None
     go false t q = refl
     go true false q = refl
     go true true q =
         let k : page_size * n + page_size ≤ len = omega (arith, leb-true (suc n) (count_of mh) q) in
-        ap {B = Option (List ℕ)} some (part_same a c len (page_size * n) page_size e k)
+        ap {B = Option (List ℕ)} Some (part_same a c len (page_size * n) page_size e k)
 
 -- the same log in another file, and the same model over another main file
 pub log-again : {f : File} {l : WalHeader} {S P : List (List ℕ)} {t : List ℕ} → LogIs f l S P t → (g : File) → content g ≡ content f → length g.area ≡ wal_area
@@ -84,7 +82,7 @@ log-again o g e a n =
     }
 
 pub model-over : {m : List ℕ} {b : Model} {S : List (List ℕ)} {mh : DbHeader} → ModelIs m b S mh → {k : List ℕ} {own : DbHeader}
-    → header_over own S ≡ main.Header b.header → ((n : ℕ) → 1 ≤ n → n < count_of b.header → view_of S own k n ≡ b.pages n) → ModelIs k b S own
+    → header_over own S ≡ Ok b.header → ((n : ℕ) → 1 ≤ n → n < count_of b.header → view_of S own k n ≡ b.pages n) → ModelIs k b S own
 model-over o top pages =
     record {
       top = top;
@@ -125,7 +123,7 @@ re-model o c e₁ e₂ e₃ times =
       main = o.main;
       model =
           record {
-            top = o.model.top ∙ ap main.Header (sym e₁);
+            top = o.model.top ∙ ap Ok (sym e₁);
             plain = rw e₁ o.model.plain;
             least = rw e₁ o.model.least;
             most = rw e₁ o.model.most;
@@ -272,7 +270,7 @@ module _ {x : Disk} {b : Model} {l : WalHeader} {S P : List (List ℕ)} {t : Lis
       let late = greatest-timed b.committed (each_left (λ (x : Batch). x.time < 2 ^ 64) b.committed b.waiting o.model.times) in
       rw (open-clock, o.model.batches) (omega (arith, o.log.written.clock, late))
 
-  main-is : main_header_of x.main ≡ main.Header mh
+  main-is : main_header_of x.main ≡ Ok mh
   unfolding main_header_of
   main-is = rw (le-leb page_size x.main.len o.main.long) o.main.head
 
@@ -288,11 +286,11 @@ module _ {x : Disk} {b : Model} {l : WalHeader} {S P : List (List ℕ)} {t : Lis
   unfolding found_by found_in kept_of
   found-log m = refl
 
-  header-by : (m : AccessMode) → header_by mh (found_by (cleanly m) x.log) ≡ main.Header b.header
+  header-by : (m : AccessMode) → header_by mh (found_by (cleanly m) x.log) ≡ Ok b.header
   unfolding header_by header_over
   header-by m = rw (found-frames m, found-last m) o.model.top
 
-  log-decodes : decode_wal_header (content x.log) ≡ log.Header l
+  log-decodes : decode_wal_header (content x.log) ≡ Ok l
   log-decodes = rw o.log.bytes (decode-encode l (joined (S ++ P) ++ t) o.log.written)
 
   judged-is : (m : AccessMode) → judged (cleanly m) x mh ≡ opened_store (cleanly m) x mh (found_by (cleanly m) x.log) b.header
@@ -411,7 +409,7 @@ empty-none n = refl
 pub rests : (x : Disk) (b : Model) (l : WalHeader) (S : List (List ℕ)) (mh own : DbHeader) (v : Wal) (end : ℕ) (G : List ℕ)
     → OnDisk x b l S [] [] mh → v.len ≡ x.log.len → v.header.salt ≡ l.salt → l.clock_high_water ≤ v.header.clock_high_water
     → v.header.clock_high_water < 2 ^ 64 → length G ≡ staging_area
-    → ((n : ℕ) → b.staged n ≡ none) → b.waiting ≡ []
+    → ((n : ℕ) → b.staged n ≡ None) → b.waiting ≡ []
     → Resting (world (opens_as b.header own x.main.len v end opening.Clean) (table_of mh S) x.log.area x.main.area) G b l S [] mh
 unfolding opens_as batches_in
 rests x b l S mh own v end G o e₁ e₂ older e₃ e₄ e₅ e₆ =

@@ -2,9 +2,9 @@
 use mathlib.Core.Path.{◌≡◌, refl}
 use mathlib.Core.Bool.{Bool, true, false}
 use mathlib.Core.List.{List, [], ◌∷◌}
-use mathlib.Core.Option.{Option, none, some}
 use Prim.Native.Nat.{ℕ}
 use borrow.Author.Tests.{ne_eqb}
+use Rattle.std.specs.Prelude.{Option, None, Some, Err}
 use Rattle.le.specs.Choice.{pick}
 use Rattle.refusal.specs.Refusal.{accepts, number_of}
 use Rattle.refusal.specs.declared.Refusal.{Refusal}
@@ -18,7 +18,6 @@ use Rattle.pager_state.specs.Stores.{Act, Disk, disk_of, inside}
 use Rattle.pager_state.specs.Steps.{commit_refusal, begin_commit, checkpoint_refusal, begin_checkpoint, todo, advance, answer_of, named_by, named, done, step_fine, step_answer, stepped, step_refusal, commit_world, checkpoint_world}
 use Rattle.pager_state.specs.Opened.{Opens}
 use Rattle.pager_state.specs.Opened as opened
-use Rattle.pager_state.specs.declared.StepAnswer.TheVariants as step
 use Rattle.pager_state.specs.Staging as staging
 use Rattle.history.specs.Calls.{Call, Ask, Open, Stage, Clear, Append, Observe, Commit, Checkpoint, BeginCommit, BeginCheckpoint, Step, cleanly, read_into, opening, opened_or, opened_world, refused_by, world_after, staging_after}
 
@@ -27,8 +26,8 @@ open_stays (opened.Opened p) w t l m n = absurd (n refl)
 open_stays (opened.Refused r) w t l m n = refl
 
 pub unaccepted : (v : Option Refusal) → (number_of v ≡ 0 → ⊥) → accepts v ≡ false
-unaccepted none n = absurd (n refl)
-unaccepted (some r) n = refl
+unaccepted None n = absurd (n refl)
+unaccepted (Some r) n = refl
 
 named-taken : (answer : ℕ) (a : Act) (rest : List Act) → step_refusal (named_by answer a rest) ≡ 0
 named-taken answer a [] = refl
@@ -39,7 +38,7 @@ unfolding named done
 done-stays answer [] v w n = refl
 done-stays answer (a ∷ rest) v w n = go (inside a) n
   where
-    go : (t : Bool) → (step_refusal (pick t (named_by answer a rest) (step.Refused refusal.Area)) ≡ 0 → ⊥) → pick t v w ≡ w
+    go : (t : Bool) → (step_refusal (pick t (named_by answer a rest) (Err refusal.Area)) ≡ 0 → ⊥) → pick t v w ≡ w
     go true r = absurd (r (named-taken answer a rest))
     go false r = refl
 
@@ -47,7 +46,7 @@ step_stays : (g : List ℕ) (w : World) → (step_refusal (step_answer g w) ≡ 
 unfolding step_answer stepped
 step_stays g w n = go (step_fine g w) n
   where
-    go : (t : Bool) → (step_refusal (pick t (named (answer_of w.pager.job) (todo g w)) (step.Refused refusal.Area)) ≡ 0 → ⊥) → pick t (done (todo g w) (advance g w) w) w ≡ w
+    go : (t : Bool) → (step_refusal (pick t (named (answer_of w.pager.job) (todo g w)) (Err refusal.Area)) ≡ 0 → ⊥) → pick t (done (todo g w) (advance g w) w) w ≡ w
     go true r = done-stays (answer_of w.pager.job) (todo g w) (advance g w) w r
     go false r = refl
 

@@ -8,6 +8,8 @@ use native.Mathlib.Omega.{arith}
 use borrow.Author.Tests.{eq-eqb, le-leb}
 use lib.ListN.{length, take, drop, get_or, length-take, length-drop, drop_of_length-le}
 use lib.Seq.{take-take}
+use Rattle.std.specs.Prelude.{Err, None, Ok, Option, Result, Some}
+use Rattle.refusal.specs.declared.Refusal.{Refusal}
 use Rattle.le.specs.Choice.{pick}
 use Rattle.le.proofs.Fields.{part-part}
 use Rattle.frame.specs.Frame.{frame_size, frame_at, body_of}
@@ -15,19 +17,16 @@ use Rattle.frame.proofs.Places.{body-there}
 use Rattle.wal.specs.Header.{header_size}
 use Rattle.wal.specs.Recovery.{chunks, chunk_at, is_batch, batches_in, wal_area}
 use Rattle.wal.specs.Read.{batch_from, next_batch}
-use Rattle.wal.specs.declared.BatchFound.{BatchFound}
-use Rattle.wal.specs.declared.BatchFound.TheVariants as batch
 use Rattle.wal.proofs.Places.{get-chunk}
 use Rattle.wal.proofs.Recovered.{committed-committed}
 use Rattle.wal.proofs.Reading.{Walked, batches-walked}
+use Rattle.wal.specs.declared.BatchAt.{BatchAt}
 use Rattle.pager_state.specs.World.{World, world, log_fine, busy}
 use Rattle.pager_state.specs.Overlay.{page_from}
 use Rattle.pager_state.specs.Opening.{table_of, opens_as, open_refusal}
-use Rattle.pager_state.specs.Batches.{recovered_batch, recovered_refusal, next_recovered}
+use Rattle.pager_state.specs.Batches.{recovered_refusal, next_recovered}
 use Rattle.pager_state.specs.Stores.{Disk, content}
 use Rattle.pager_state.specs.declared.AccessMode.TheVariants as mode
-use Rattle.pager_state.specs.declared.RecoveredFound.{RecoveredFound}
-use Rattle.pager_state.specs.declared.RecoveredFound.TheVariants as found
 use Rattle.history.specs.Model.{Model, Batch, batch_in, model_open, model_stores}
 use Rattle.history.specs.Calls.{Lent, read_into, opened_world}
 use Rattle.history.specs.Run.{Run, Left, Attempt, kept_after, cut_opening, reopening, reopened}
@@ -43,35 +42,35 @@ InvRun r = Inv r.world r.staging r.model r.kept
 -- ---- walking the batches
 
 -- what is told of each batch that an open store gives, from a frame's index on
-abbrev pub told_at : {A : Type 0} → (List ℕ → A) → RecoveredFound → List ℕ → (ℕ → List A) → List A
-told_at tell (found.Batch i at) l rest = tell (page_from (at + 16) l) ∷ rest (i + 1)
-told_at tell found.Nothing l rest = []
-told_at tell (found.Refused r) l rest = []
+abbrev pub told_at : {A : Type 0} → (List ℕ → A) → Result (Option BatchAt) Refusal → List ℕ → (ℕ → List A) → List A
+told_at tell (Ok (Some b)) l rest = tell (page_from (b.offset + 16) l) ∷ rest (b.index + 1)
+told_at tell (Ok None) l rest = []
+told_at tell (Err r) l rest = []
 
 pub record Walk {A : Type 0} (tell : List ℕ → A) (w : World) (by : ℕ → ℕ → List A) : Type 0 where
   pub none : (i : ℕ) → by 0 i ≡ []
   pub more : (k i : ℕ) → by (suc k) i ≡ told_at tell (next_recovered w.pager w.log i) w.log (by k)
 
 -- demand 3's is one
-told-walked : (f : RecoveredFound) (l : List ℕ) (rest : ℕ → List Batch) → walked_at f l rest ≡ told_at batch_in f l rest
-told-walked (found.Batch i at) l rest = refl
-told-walked found.Nothing l rest = refl
-told-walked (found.Refused r) l rest = refl
+told-walked : (f : Result (Option BatchAt) Refusal) (l : List ℕ) (rest : ℕ → List Batch) → walked_at f l rest ≡ told_at batch_in f l rest
+told-walked (Ok (Some b)) l rest = refl
+told-walked (Ok None) l rest = refl
+told-walked (Err r) l rest = refl
 
 pub walked-walk : (w : World) → Walk batch_in w (λ k i. walked k w i)
 unfolding walked
 walked-walk w = record { none = λ i. refl; more = λ k i. told-walked (next_recovered w.pager w.log i) w.log (walked k w) }
 
 -- a batch that is found is one of the frames
-Within : ℕ → BatchFound → Type 0
-Within e (batch.Batch j at) = j < e
-Within e batch.Nothing = Unit {0}
+Within : ℕ → Option BatchAt → Type 0
+Within e (Some b) = b.index < e
+Within e None = Unit {0}
 
-within_step : (i k : ℕ) (t : Bool) (r : BatchFound) → Within (suc i + k) r → Within (i + suc k) (pick t (batch.Batch i (chunk_at i)) r)
+within_step : (i k : ℕ) (t : Bool) (r : Option BatchAt) → Within (suc i + k) r → Within (i + suc k) (pick t (Some (record { index = i; offset = chunk_at i })) r)
 unfolding Within
 within_step i k true r h = omega arith
-within_step i k false (batch.Batch j at) h = omega arith
-within_step i k false batch.Nothing h = tt
+within_step i k false (Some b) h = omega arith
+within_step i k false None h = tt
 
 batch-within : (i : ℕ) (fs : List (List ℕ)) → Within (i + length fs) (batch_from i fs)
 unfolding batch_from Within
@@ -80,14 +79,14 @@ batch-within i (f ∷ fs) =
     let e : i + 1 ≡ suc i = omega arith in
     within_step i (length fs) (is_batch f) (batch_from (i + 1) fs) (rw e (batch-within (suc i) fs))
 
-within_more : (e n : ℕ) (r : BatchFound) → e ≤ n → Within e r → Within n r
+within_more : (e n : ℕ) (r : Option BatchAt) → e ≤ n → Within e r → Within n r
 unfolding Within
-within_more e n (batch.Batch j at) h w = omega arith
-within_more e n batch.Nothing h w = tt
+within_more e n (Some b) h w = omega arith
+within_more e n None h w = tt
 
 module _ (w : World) (S : List (List ℕ)) (fine : log_fine w.pager.wal.len w.log ≡ true) (idle : busy w.pager ≡ false)
     (end : w.pager.recovered ≡ chunk_at (length S)) (front : chunks (take (chunk_at (length S)) w.log) ≡ S) (long : header_size + frame_size * length S ≤ length w.log) where
-  next-is : (i : ℕ) → next_recovered w.pager w.log i ≡ recovered_batch (batch_from i (drop i S))
+  next-is : (i : ℕ) → next_recovered w.pager w.log i ≡ Ok (batch_from i (drop i S))
   unfolding next_recovered recovered_refusal next_batch
   next-is i = rw (fine, idle, end, front)
 
@@ -111,14 +110,14 @@ module _ (w : World) (S : List (List ℕ)) (fine : log_fine w.pager.wal.len w.lo
     abbrev told : List (List ℕ) → List A
     told fs = map (λ (f : List ℕ). tell (body_of f)) fs
 
-    walk_step : (k i : ℕ) → ((m : ℕ) → length S ≤ k + m → by k m ≡ told (batches_in (drop m S))) → length S ≤ suc k + i → (r : BatchFound)
-        → Walked S i r → Within (length S) r → told_at tell (recovered_batch r) w.log (by k) ≡ told (batches_in (drop i S))
+    walk_step : (k i : ℕ) → ((m : ℕ) → length S ≤ k + m → by k m ≡ told (batches_in (drop m S))) → length S ≤ suc k + i → (r : Option BatchAt)
+        → Walked S i r → Within (length S) r → told_at tell (Ok r) w.log (by k) ≡ told (batches_in (drop i S))
     unfolding Within
-    walk_step k i later h batch.Nothing f b = sym (ap told f)
-    walk_step k i later h (batch.Batch j at) f b =
-        let n : length S ≤ k + (j + 1) = omega (arith, f.behind) in
-        let p : page_from (at + 16) w.log ≡ body_of (get_or S j []) = rw f.place (body_is j b) in
-        rw (p, later (j + 1) n) (sym (ap told f.batches))
+    walk_step k i later h None f b = sym (ap told f)
+    walk_step k i later h (Some found) f b =
+        let n : length S ≤ k + (found.index + 1) = omega (arith, f.behind) in
+        let p : page_from (found.offset + 16) w.log ≡ body_of (get_or S found.index []) = rw f.place (body_is found.index b) in
+        rw (p, later (found.index + 1) n) (sym (ap told f.batches))
 
     walk_is : (k i : ℕ) → length S ≤ k + i → by k i ≡ told (batches_in (drop i S))
     unfolding batches_in

@@ -3,12 +3,12 @@ use mathlib.Core.Path.{◌≡◌, refl, sym, ap, ◌∙◌}
 use mathlib.Core.Bool.{Bool, true, false, not}
 use mathlib.Core.List.{List, [], ◌++◌}
 use mathlib.Core.Logic.{◌⊎◌, inl, inr}
-use mathlib.Core.Option.{Option, none, some}
 use Prim.Native.Nat.{ℕ, suc, ◌+◌, ◌*◌, ◌%◌, ◌^◌, ◌≤◌, ◌<◌}
 use native.Mathlib.Omega.{arith}
 use borrow.Author.Tests.{eq-eqb, le-leb, lt-leb, not-true, not-false}
 use lib.Dec.{leb, eqb}
 use lib.ListN.{length, drop, get_or}
+use Rattle.std.specs.Prelude.{Err, Option, None, Ok, Some}
 use Rattle.le.specs.Choice.{pick}
 use Rattle.le.proofs.Tests.{le-or-lt}
 use Rattle.page.specs.Page.{page_size}
@@ -32,7 +32,6 @@ use Rattle.pager_state.specs.declared.Job.{Job}
 use Rattle.pager_state.specs.declared.Job.TheVariants as job
 use Rattle.pager_state.specs.declared.Opening.TheVariants as opening
 use Rattle.pager_state.specs.declared.PageFound.TheVariants as found
-use Rattle.pager_state.specs.declared.HeaderRead.TheVariants as head
 use Rattle.pager_state.specs.declared.Staged.{Staged}
 use Rattle.pager_state.specs.declared.PageFound.{PageFound}
 use Rattle.history.specs.Model.{Model, model_read, or_else}
@@ -63,11 +62,11 @@ Tabled w fs mh = (n : ℕ) → n < page_limit → get_or w.table n 0 ≡ entry (
 
 -- no page's frame is among these
 abbrev pub Loose : List (List ℕ) → Type 0
-Loose P = (n : ℕ) → n < page_limit → last_in n P ≡ none
+Loose P = (n : ℕ) → n < page_limit → last_in n P ≡ None
 
 -- the log's page, else the main file's, by the table
 abbrev pub world_page : World → ℕ → Option (List ℕ)
-world_page w n = pick (in_log w.table n) (some (log_bytes w.table w.log n)) (pick (on_main w.table n) (some (page_from (page_size * n) w.main)) none)
+world_page w n = pick (in_log w.table n) (Some (log_bytes w.table w.log n)) (pick (on_main w.table n) (Some (page_from (page_size * n) w.main)) None)
 
 -- ---- what is part done
 
@@ -85,8 +84,8 @@ pub record Committing (h : DbHeader) (salt p : ℕ) (w : World) (g : List ℕ) (
   pub least : 1 ≤ count_of h
   pub most : count_of h ≤ page_limit
   pub fits : salt < 2 ^ 32
-  pub unstaged : (n : ℕ) → n < page_limit → is_staged w.pager.staged n ≡ false → last_in n P ≡ none
-  pub done : (n : ℕ) → n < page_limit → n < p → is_staged w.pager.staged n ≡ true → world_page w n ≡ some (staged_bytes w.pager.staged g n)
+  pub unstaged : (n : ℕ) → n < page_limit → is_staged w.pager.staged n ≡ false → last_in n P ≡ None
+  pub done : (n : ℕ) → n < page_limit → n < p → is_staged w.pager.staged n ≡ true → world_page w n ≡ Some (staged_bytes w.pager.staged g n)
   pub joins : (n : ℕ) → 1 ≤ n → count_of b.header ≤ n → n < count_of h → is_staged w.pager.staged n ≡ true
   pub room : w.pager.wal.len + frame_size * (length (pages_from (differs g w) p) + 1) ≤ wal_area
 
@@ -96,14 +95,14 @@ pub record Checkpointing (salt p : ℕ) (w : World) (g : List ℕ) (b : Model) (
   pub table : Tabled w (S ++ P) mh
   pub loose : Loose P
   pub fits : salt < 2 ^ 32
-  pub stored : (n : ℕ) (x : List ℕ) → 1 ≤ n → n < p → n < count_of b.header → last_in n S ≡ some x
+  pub stored : (n : ℕ) (x : List ℕ) → 1 ≤ n → n < p → n < count_of b.header → last_in n S ≡ Some x
       → (page_from (page_size * n) w.main ≡ x) × (page_size * suc n ≤ w.pager.storage.len)
 
 -- the main file alone has every page, with the header that counts
 pub record Flattened (salt : ℕ) (w : World) (g : List ℕ) (b : Model) (l : WalHeader) (S P : List (List ℕ)) (mh : DbHeader) : Type 0 where
   pub held : Held w g b l S P mh
   pub own : mh ≡ b.header
-  pub flat : (n : ℕ) → 1 ≤ n → n < count_of b.header → b.pages n ≡ some (page_from (page_size * n) w.main)
+  pub flat : (n : ℕ) → 1 ≤ n → n < count_of b.header → b.pages n ≡ Some (page_from (page_size * n) w.main)
   pub full : (n : ℕ) → 1 ≤ n → n < count_of b.header → get_or w.table n 0 ≡ 0 → ⊥
   pub fits : salt < 2 ^ 32
 
@@ -117,7 +116,7 @@ pub record Bared (salt : ℕ) (w : World) (g : List ℕ) (b : Model) (l : WalHea
   pub fits : salt < 2 ^ 32
 
 -- for some log and main header; z: the committed frames' bytes
-pub record Some (Q : WalHeader → List (List ℕ) → List (List ℕ) → DbHeader → Type 0) (z : List ℕ) : Type 0 where
+pub record ForSome (Q : WalHeader → List (List ℕ) → List (List ℕ) → DbHeader → Type 0) (z : List ℕ) : Type 0 where
   pub l : WalHeader
   pub S : List (List ℕ)
   pub P : List (List ℕ)
@@ -126,12 +125,12 @@ pub record Some (Q : WalHeader → List (List ℕ) → List (List ℕ) → DbHea
   pub kept : joined S ≡ z
 
 abbrev pub InvJob : Job → World → List ℕ → Model → List ℕ → Type 0
-InvJob job.Idle w g b z = Some (Resting w g b) z
-InvJob (job.Commit h salt p answer) w g b z = Some (Committing h salt p w g b) z
-InvJob (job.Checkpoint salt p answer) w g b z = Some (Checkpointing salt p w g b) z
-InvJob (job.MainLength salt answer) w g b z = Some (Flattened salt w g b) z
-InvJob (job.LogLength salt answer) w g b z = Some (Flattened salt w g b) z
-InvJob (job.LogHeader salt answer) w g b z = Some (Bared salt w g b) z
+InvJob job.Idle w g b z = ForSome (Resting w g b) z
+InvJob (job.Commit h salt p answer) w g b z = ForSome (Committing h salt p w g b) z
+InvJob (job.Checkpoint salt p answer) w g b z = ForSome (Checkpointing salt p w g b) z
+InvJob (job.MainLength salt answer) w g b z = ForSome (Flattened salt w g b) z
+InvJob (job.LogLength salt answer) w g b z = ForSome (Flattened salt w g b) z
+InvJob (job.LogHeader salt answer) w g b z = ForSome (Bared salt w g b) z
 
 abbrev pub Inv : World → List ℕ → Model → List ℕ → Type 0
 Inv w g b z = InvJob w.pager.job w g b z
@@ -143,10 +142,10 @@ pub held-disk : {w : World} {g : List ℕ} {b : Model} {z : List ℕ} {l : WalHe
 held-disk {w} {g} {b} {z} {l} {S} {P} {mh} k e = record { l = l; S = S; P = P; t = []; mh = mh; on = k.on; kept = e }
 
 some-held : {Q R : WalHeader → List (List ℕ) → List (List ℕ) → DbHeader → Type 0} {z : List ℕ}
-    → ((l : WalHeader) (S P : List (List ℕ)) (mh : DbHeader) → Q l S P mh → R l S P mh) → Some Q z → Some R z
+    → ((l : WalHeader) (S P : List (List ℕ)) (mh : DbHeader) → Q l S P mh → R l S P mh) → ForSome Q z → ForSome R z
 some-held f k = record { l = k.l; S = k.S; P = k.P; mh = k.mh; it = f k.l k.S k.P k.mh k.it; kept = k.kept }
 
-pub inv-held : (j : Job) (w : World) (g : List ℕ) (b : Model) (z : List ℕ) → InvJob j w g b z → Some (Held w g b) z
+pub inv-held : (j : Job) (w : World) (g : List ℕ) (b : Model) (z : List ℕ) → InvJob j w g b z → ForSome (Held w g b) z
 inv-held job.Idle w g b z i = some-held (λ l S P mh k. k.held) i
 inv-held (job.Commit h salt p answer) w g b z i = some-held (λ l S P mh k. k.held) i
 inv-held (job.Checkpoint salt p answer) w g b z i = some-held (λ l S P mh k. k.held) i
@@ -211,7 +210,7 @@ entry-main t n at false e = let z : get_or t n 0 % 2 ≡ 0 = omega arith in rw z
 -- ---- pages by the table
 
 log-page : (l : List ℕ) (p : ℕ) (y : Option (List ℕ)) (t : Bool) → eqb p 0 ≡ t
-    → pick (not t) (some (page_from (p + 16) l)) y ≡ or_else (pick t none (some (page_from (p + 16) l))) y
+    → pick (not t) (Some (page_from (p + 16) l)) y ≡ or_else (pick t None (Some (page_from (p + 16) l))) y
 log-page l p y true e = refl
 log-page l p y false e = refl
 
@@ -229,7 +228,7 @@ module _ {w : World} {g : List ℕ} {b : Model} {l : WalHeader} {S P : List (Lis
       ∙ ap (λ (x : Option (List ℕ)). or_else x (main_page mh w.main n)) (in-log n h))
 
   -- the log has the page, or has it not
-  pub log-has : (n : ℕ) → n < page_limit → in_log w.table n ≡ true → last_in n (S ++ P) ≡ some (log_bytes w.table w.log n)
+  pub log-has : (n : ℕ) → n < page_limit → in_log w.table n ≡ true → last_in n (S ++ P) ≡ Some (log_bytes w.table w.log n)
   unfolding in_log log_bytes
   log-has n h e =
       let p : ℕ = place_from n 0 (S ++ P) in
@@ -237,7 +236,7 @@ module _ {w : World} {g : List ℕ} {b : Model} {l : WalHeader} {S P : List (Lis
       let z : eqb p 0 ≡ false = not-true (eqb p 0) (rw f at e) in
       sym (in-log n h) ∙ rw (f, z)
 
-  pub log-lacks : (n : ℕ) → n < page_limit → in_log w.table n ≡ false → last_in n (S ++ P) ≡ none
+  pub log-lacks : (n : ℕ) → n < page_limit → in_log w.table n ≡ false → last_in n (S ++ P) ≡ None
   unfolding in_log
   log-lacks n h e =
       let p : ℕ = place_from n 0 (S ++ P) in
@@ -246,7 +245,7 @@ module _ {w : World} {g : List ℕ} {b : Model} {l : WalHeader} {S P : List (Lis
       sym (in-log n h) ∙ rw z
 
   -- where no frame of the page waits, it is the committed frames'
-  pub page-committed : (n : ℕ) → n < page_limit → last_in n P ≡ none → world_page w n ≡ view_of S mh w.main n
+  pub page-committed : (n : ℕ) → n < page_limit → last_in n P ≡ None → world_page w n ≡ view_of S mh w.main n
   page-committed n h e = page-view n h ∙ rw (last-append n S P, e)
 
 pub committed-bytes : (w : World) (n : ℕ) → committed_bytes w n ≡ or_give (world_page w n) []
@@ -254,7 +253,7 @@ unfolding committed_in
 committed-bytes w n = go (in_log w.table n) (on_main w.table n)
   where
     go : (i m : Bool) → pick i (log_bytes w.table w.log n) (pick m (page_from (page_size * n) w.main) [])
-        ≡ or_give (pick i (some (log_bytes w.table w.log n)) (pick m (some (page_from (page_size * n) w.main)) none)) []
+        ≡ or_give (pick i (Some (log_bytes w.table w.log n)) (pick m (Some (page_from (page_size * n) w.main)) None)) []
     go true m = refl
     go false true = refl
     go false false = refl
@@ -262,29 +261,29 @@ committed-bytes w n = go (in_log w.table n) (on_main w.table n)
 -- ---- reads at rest
 
 reading-below : (w : World) (g : List ℕ) (n : ℕ) (i m : Bool)
-    → reading_at w g (pick i (found.Log (log_at w.table n)) (pick m (found.Main (page_size * n)) found.Nothing))
-    ≡ pick i (some (log_bytes w.table w.log n)) (pick m (some (page_from (page_size * n) w.main)) none)
+    → reading_at w g (Ok (pick i (found.Log (log_at w.table n)) (pick m (found.Main (page_size * n)) found.Nothing)))
+    ≡ pick i (Some (log_bytes w.table w.log n)) (pick m (Some (page_from (page_size * n) w.main)) None)
 unfolding log_bytes
 reading-below w g n true m = refl
 reading-below w g n false true = refl
 reading-below w g n false false = refl
 
 -- what is found is numbered as the reading's refusal
-place-number : (count : ℕ) (s : Staged) (t : List ℕ) (n : ℕ) → find_refusal (place_page count s t n) ≡ 0
+place-number : (count : ℕ) (s : Staged) (t : List ℕ) (n : ℕ) → find_refusal (Ok (place_page count s t n)) ≡ 0
 unfolding place_page below
 place-number count s t n = go (is_staged s n) (leb count n) (in_log t n) (on_main t n)
   where
     go : (a c i m : Bool)
-        → find_refusal (pick a (found.Staged (staged_at s n)) (pick c found.Nothing (pick i (found.Log (log_at t n)) (pick m (found.Main (main_at n)) found.Nothing)))) ≡ 0
+        → find_refusal (Ok (pick a (found.Staged (staged_at s n)) (pick c found.Nothing (pick i (found.Log (log_at t n)) (pick m (found.Main (main_at n)) found.Nothing))))) ≡ 0
     go true c i m = refl
     go false true i m = refl
     go false false true m = refl
     go false false false true = refl
     go false false false false = refl
 
-answer-number : (v : Option Refusal) (f : PageFound) → find_refusal f ≡ 0 → find_refusal (answered found.Refused f v) ≡ number_of v
-answer-number none f e = e
-answer-number (some r) f e = refl
+answer-number : (v : Option Refusal) (f : PageFound) → find_refusal (Ok f) ≡ 0 → find_refusal (answered Err (Ok f) v) ≡ number_of v
+answer-number None f e = e
+answer-number (Some r) f e = refl
 
 pub find-number : (w : World) (g : List ℕ) (n : ℕ) → find_refusal (find_page w g n) ≡ number_of (read_refusal w g)
 unfolding find_page
@@ -293,34 +292,34 @@ find-number w g n =
 
 module _ (r : Run) (l : WalHeader) (S P : List (List ℕ)) (mh : DbHeader) (k : Resting r.world r.staging r.model l S P mh)
     (idle : busy r.world.pager ≡ false) where
-  read_none : read_refusal r.world r.staging ≡ none
+  read_none : read_refusal r.world r.staging ≡ None
   unfolding read_refusal
   read_none = rw (held-fine k.held, eq-eqb (length r.staging) staging_area k.held.staging_long, idle)
 
-  find-is : (n : ℕ) → find_page r.world r.staging n ≡ overlay r.world.pager r.world.table n
+  find-is : (n : ℕ) → find_page r.world r.staging n ≡ Ok (overlay r.world.pager r.world.table n)
   unfolding find_page
   find-is n = rw read_none
 
   model-staged : (n : ℕ) (t : Bool) → is_staged r.world.pager.staged n ≡ t
-      → r.model.staged n ≡ pick t (some (staged_bytes r.world.pager.staged r.staging n)) none
+      → r.model.staged n ≡ pick t (Some (staged_bytes r.world.pager.staged r.staging n)) None
   model-staged n t e = sym (k.held.staged n) ∙ rw e
 
   below-is : (n : ℕ) → 1 ≤ n → (n < count_of r.model.header) ⊎ (count_of r.model.header < suc n)
-      → reading_at r.world r.staging (below (count_of (header_of r.world.pager)) r.world.table n) ≡ r.model.pages n
+      → reading_at r.world r.staging (Ok (below (count_of (header_of r.world.pager)) r.world.table n)) ≡ r.model.pages n
   unfolding below
   below-is n h (inl c) =
       let hn : n < page_limit = omega (arith, k.held.on.model.most) in
-      ap (λ (c : ℕ). reading_at r.world r.staging (below c r.world.table n)) (ap count_of k.held.header)
+      ap (λ (c : ℕ). reading_at r.world r.staging (Ok (below c r.world.table n))) (ap count_of k.held.header)
       ∙ rw (lt-leb (count_of r.model.header) n c)
       (reading-below r.world r.staging n (in_log r.world.table n) (on_main r.world.table n)
       ∙ page-committed k.held k.table n hn (k.loose n hn) ∙ k.held.on.model.pages n h c)
   below-is n h (inr c) =
       let q : count_of r.model.header ≤ n = omega arith in
-      ap (λ (c : ℕ). reading_at r.world r.staging (below c r.world.table n)) (ap count_of k.held.header)
+      ap (λ (c : ℕ). reading_at r.world r.staging (Ok (below c r.world.table n))) (ap count_of k.held.header)
       ∙ rw (le-leb (count_of r.model.header) n q) (sym (k.held.on.model.above n q))
 
   page-is : (n : ℕ) → 1 ≤ n → (t : Bool) → is_staged r.world.pager.staged n ≡ t
-      → reading_at r.world r.staging (overlay r.world.pager r.world.table n) ≡ model_read r.model n
+      → reading_at r.world r.staging (Ok (overlay r.world.pager r.world.table n)) ≡ model_read r.model n
   unfolding place_page model_read staged_bytes
   page-is n h true e = rw (e, model-staged n true e)
   page-is n h false e = rw (e, model-staged n false e) (below-is n h (le-or-lt (suc n) (count_of r.model.header)))
@@ -329,7 +328,7 @@ module _ (r : Run) (l : WalHeader) (S P : List (List ℕ)) (mh : DbHeader) (k : 
   unfolding header
   same-at-rest =
       record {
-        same_header = rw idle (ap head.Header k.held.header);
+        same_header = rw idle (ap Ok k.held.header);
         answered = λ n. find-number r.world r.staging n ∙ ap number_of read_none;
         same_page = λ n h. rw (find-is n) (page-is n h (is_staged r.world.pager.staged n) refl);
       }

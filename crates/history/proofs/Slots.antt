@@ -3,13 +3,13 @@ use mathlib.Core.Path.{◌≡◌, refl, sym, ap, subst, ◌∙◌}
 use mathlib.Core.Bool.{Bool, true, false}
 use mathlib.Core.List.{List, [], ◌∷◌, ◌++◌}
 use mathlib.Core.Logic.{◌⊎◌, inl, inr, ⊎_elim}
-use mathlib.Core.Option.{Option, none, some}
 use Prim.Native.Nat.{ℕ, suc, ◌+◌, ◌*◌, max, ◌≤◌, ◌<◌}
 use native.Mathlib.Omega.{arith}
 use borrow.Author.Tests.{eq-eqb, ne_eqb, lt-ltb, le-ltb, ltb-true}
 use lib.Dec.{ltb, eqb}
 use lib.ListN.{length, drop, get_or, set, length-append, length-take, length-drop, length-set}
 use lib.Seq.{length-take-le, get_or-take, get_or-set_same, get_or-set_other, set-get_or, take-suc-set}
+use Rattle.std.specs.Prelude.{Option, None, Some}
 use Rattle.le.specs.Choice.{pick}
 use Rattle.le.specs.Le.{put}
 use Rattle.le.proofs.Tests.{le-or-lt, eq-or-not}
@@ -23,7 +23,7 @@ use Rattle.history.proofs.Files.{page-other, page-same}
 
 -- what is staged for a page
 abbrev pub staged_for : Staged → List ℕ → ℕ → Option (List ℕ)
-staged_for s g n = pick (is_staged s n) (some (staged_bytes s g n)) none
+staged_for s g n = pick (is_staged s n) (Some (staged_bytes s g n)) None
 
 pub record Slots (s : Staged) : Type 0 where
   pub few : s.count ≤ staged_limit
@@ -54,18 +54,18 @@ find-out (x ∷ xs) ys n h = go (eqb x n) h (find-out xs ys n)
 -- ---- the view of a list of slots
 
 abbrev slot_for : List ℕ → List ℕ → ℕ → Option (List ℕ)
-slot_for xs g n = pick (ltb (find_in xs n) (length xs)) (some (page_from (page_size * find_in xs n) g)) none
+slot_for xs g n = pick (ltb (find_in xs n) (length xs)) (Some (page_from (page_size * find_in xs n) g)) None
 
 module _ (xs g bytes : List ℕ) (n : ℕ) (hb : length bytes ≡ page_size) (hg : page_size * length xs ≤ length g) where
   -- the page has a slot
-  again : find_in xs n < length xs → (m : ℕ) → slot_for xs (put g (page_size * find_in xs n) bytes) m ≡ pick (eqb m n) (some bytes) (slot_for xs g m)
+  again : find_in xs n < length xs → (m : ℕ) → slot_for xs (put g (page_size * find_in xs n) bytes) m ≡ pick (eqb m n) (Some bytes) (slot_for xs g m)
   again h m = go (eq-or-not m n) (le-or-lt (suc (find_in xs m)) (length xs))
     where
       room : page_size * find_in xs n ≤ length g
       room = omega arith
 
       go : (m ≡ n) ⊎ (m ≡ n → ⊥) → (find_in xs m < length xs) ⊎ (length xs < suc (find_in xs m))
-          → slot_for xs (put g (page_size * find_in xs n) bytes) m ≡ pick (eqb m n) (some bytes) (slot_for xs g m)
+          → slot_for xs (put g (page_size * find_in xs n) bytes) m ≡ pick (eqb m n) (Some bytes) (slot_for xs g m)
       go (inl e) c = rw (e, eq-eqb n n refl, lt-ltb (find_in xs n) (length xs) h, page-same g (find_in xs n) bytes (omega arith) room hb)
       go (inr e) (inl c) =
           let ne : find_in xs m ≡ find_in xs n → ⊥ = λ q. e (sym (find-there xs m c) ∙ ap (λ (k : ℕ). get_or xs k 0) q ∙ find-there xs n h) in
@@ -73,7 +73,7 @@ module _ (xs g bytes : List ℕ) (n : ℕ) (hb : length bytes ≡ page_size) (hg
       go (inr e) (inr c) = rw (ne_eqb m n e, le-ltb (find_in xs m) (length xs) (omega arith))
 
   -- it gets the next
-  more : length xs ≤ find_in xs n → (m : ℕ) → slot_for (xs ++ (n ∷ [])) (put g (page_size * find_in xs n) bytes) m ≡ pick (eqb m n) (some bytes) (slot_for xs g m)
+  more : length xs ≤ find_in xs n → (m : ℕ) → slot_for (xs ++ (n ∷ [])) (put g (page_size * find_in xs n) bytes) m ≡ pick (eqb m n) (Some bytes) (slot_for xs g m)
   more h m = go (eq-or-not m n) (le-or-lt (suc (find_in xs m)) (length xs))
     where
       here : find_in xs n ≡ length xs
@@ -86,7 +86,7 @@ module _ (xs g bytes : List ℕ) (n : ℕ) (hb : length bytes ≡ page_size) (hg
       long = length-append xs (n ∷ [])
 
       go : (m ≡ n) ⊎ (m ≡ n → ⊥) → (find_in xs m < length xs) ⊎ (length xs < suc (find_in xs m))
-          → slot_for (xs ++ (n ∷ [])) (put g (page_size * find_in xs n) bytes) m ≡ pick (eqb m n) (some bytes) (slot_for xs g m)
+          → slot_for (xs ++ (n ∷ [])) (put g (page_size * find_in xs n) bytes) m ≡ pick (eqb m n) (Some bytes) (slot_for xs g m)
       go (inl e) c =
           let f : find_in (xs ++ (n ∷ [])) n ≡ find_in xs n = find-out xs (n ∷ []) n h ∙ rw (eq-eqb n n refl) (omega (arith, here)) in
           let lt : find_in xs n < length xs + 1 = omega (arith, here) in
@@ -200,7 +200,7 @@ module _ (s : Staged) (k : Slots s) where
 
     -- "that page is staged anew"
     pub staged-anew : (g bytes : List ℕ) → length g ≡ staging_area → length bytes ≡ page_size → (m : ℕ)
-        → staged_for (with_slot s (slot_of s n) n) (put g (page_size * slot_of s n) bytes) m ≡ pick (eqb m n) (some bytes) (staged_for s g m)
+        → staged_for (with_slot s (slot_of s n) n) (put g (page_size * slot_of s n) bytes) m ≡ pick (eqb m n) (Some bytes) (staged_for s g m)
     unfolding is_staged staged_bytes slot_of
     staged-anew g bytes hg hb m = go (le-or-lt (suc (find_in (staged_pages s) n)) (length (staged_pages s)))
       where
@@ -208,6 +208,6 @@ module _ (s : Staged) (k : Slots s) where
         room = omega (arith, slots-few, k.few)
 
         go : (find_in (staged_pages s) n < length (staged_pages s)) ⊎ (length (staged_pages s) < suc (find_in (staged_pages s) n))
-            → staged_for (with_slot s (slot_of s n) n) (put g (page_size * slot_of s n) bytes) m ≡ pick (eqb m n) (some bytes) (staged_for s g m)
+            → staged_for (with_slot s (slot_of s n) n) (put g (page_size * slot_of s n) bytes) m ≡ pick (eqb m n) (Some bytes) (staged_for s g m)
         go (inl h) = rw (slot-again h) (again (staged_pages s) g bytes n hb room h m)
         go (inr h) = rw (pages-more (omega arith)) (more (staged_pages s) g bytes n hb room (omega arith) m)

@@ -2,12 +2,12 @@
 use mathlib.Core.Path.{◌≡◌, refl, sym, ap, ◌∙◌, subst}
 use mathlib.Core.Bool.{not}
 use mathlib.Core.List.{List, []}
-use mathlib.Core.Option.{none, some}
 use Prim.Native.Nat.{ℕ, ◌<◌}
 use native.Mathlib.Omega.{arith}
 use borrow.Author.Tests.{eqb-true, ltb-true}
 use lib.Dec.{ltb, eqb}
 use lib.ListN.{length}
+use Rattle.std.specs.Prelude.{Some, None}
 use Rattle.le.specs.Choice.{pick, both}
 use Rattle.le.specs.Le.{put}
 use Rattle.le.proofs.Compare.{both_true}
@@ -29,14 +29,14 @@ use Rattle.history.specs.Calls.{Stage, refused_by, stores_of, world_after}
 use Rattle.history.specs.Run.{kept_after}
 use Rattle.history.proofs.Slots.{slotted-slots, staged-anew}
 use Rattle.history.proofs.Opening.{re-model}
-use Rattle.history.proofs.Rest.{Resting, Some, Inv, held-disk}
+use Rattle.history.proofs.Rest.{Resting, ForSome, Inv, held-disk}
 use Rattle.history.proofs.Running.{cut-none}
 use Rattle.history.proofs.Taken.{Taken, at_rest, rest-inv}
 
 -- ---- staging
 
 module _ (w : World) (g : List ℕ) (b : Model) (z : List ℕ) (i : Inv w g b z) (n : ℕ) (bytes : List ℕ) (ok : refused_by (Stage n bytes) w g ≡ 0) where
-  taken : stage_refusal (busy w.pager) w.pager.staged g n bytes ≡ none
+  taken : stage_refusal (busy w.pager) w.pager.staged g n bytes ≡ None
   unfolding refused_by
   taken = accepted _ ok
 
@@ -52,7 +52,7 @@ module _ (w : World) (g : List ℕ) (b : Model) (z : List ℕ) (i : Inv w g b z)
       let a = met (both (staging_fine g) (eqb (length bytes) page_size)) refusal.Area _ taken in
       let c = met (not (busy w.pager)) refusal.Busy _ a.1 in
       let d = met (ltb n page_limit) refusal.Page _ c.1 in
-      let f = met (ltb (slot_of w.pager.staged n) staged_limit) refusal.Staging none d.1 in
+      let f = met (ltb (slot_of w.pager.staged n) staged_limit) refusal.Staging None d.1 in
       record {
         long = eqb-true _ _ (both_true (staging_fine g) (eqb (length bytes) page_size) a.0).1;
         idle = not-busy w.pager.job (off _ c.0);
@@ -77,7 +77,7 @@ module _ (w : World) (g : List ℕ) (b : Model) (z : List ℕ) (i : Inv w g b z)
   unfolding staging_bytes
   staging-is = rw taken
 
-  k : Some (Resting w g b) z
+  k : ForSome (Resting w g b) z
   k = at_rest w g b z i staging-ok.idle
 
   resting : Resting v g' (model_stage n bytes b) k.l k.S k.P k.mh
@@ -97,7 +97,7 @@ module _ (w : World) (g : List ℕ) (b : Model) (z : List ℕ) (i : Inv w g b z)
               header = q.header;
               clean = q.clean;
               slots = slotted-slots w.pager.staged q.slots n low staging-ok.page;
-              staged = λ m. staged-anew w.pager.staged q.slots n low g bytes q.staging_long long m ∙ ap (pick (eqb m n) (some bytes)) (q.staged m);
+              staged = λ m. staged-anew w.pager.staged q.slots n low g bytes q.staging_long long m ∙ ap (pick (eqb m n) (Some bytes)) (q.staged m);
               waiting = q.waiting;
             };
         table = k.it.table;

@@ -3,11 +3,11 @@ use mathlib.Core.Path.{◌≡◌, refl, sym, ap, ◌∙◌}
 use mathlib.Core.Bool.{Bool, true, false, not}
 use mathlib.Core.List.{List, [], ◌∷◌, ◌++◌}
 use mathlib.Core.Logic.{◌⊎◌, inl, inr}
-use mathlib.Core.Option.{Option, none, some}
 use Prim.Native.Nat.{ℕ, ◌+◌, ◌≤◌, ◌<◌}
 use native.Mathlib.Omega.{arith}
 use lib.ListN.{length, get_or, set}
 use lib.Seq.{get_or-set_same, get_or-set_other}
+use Rattle.std.specs.Prelude.{Option, None, Some}
 use Rattle.le.specs.Choice.{both}
 use Rattle.le.proofs.Tests.{eq-or-not}
 use Rattle.le.proofs.Compare.{same-equal}
@@ -66,9 +66,9 @@ table-entered t fs mh f n at tl hn e a k m hm = go (eq-or-not m n)
 
 -- ---- a staged page that does not differ is the log's or the main file's
 
-some_of : (x : Option (List ℕ)) (y : List ℕ) → or_give x [] ≡ y → length y ≡ page_size → x ≡ some y
-some_of none y e h = let z : ◌≡◌ {A = ℕ} 0 page_size = ap length e ∙ h in absurd (omega arith)
-some_of (some a) y e h = ap {B = Option (List ℕ)} some e
+some_of : (x : Option (List ℕ)) (y : List ℕ) → or_give x [] ≡ y → length y ≡ page_size → x ≡ Some y
+some_of None y e h = let z : ◌≡◌ {A = ℕ} 0 page_size = ap length e ∙ h in absurd (omega arith)
+some_of (Some a) y e h = ap {B = Option (List ℕ)} Some e
 
 both_right : (a b : Bool) → both a b ≡ false → a ≡ true → b ≡ false
 both_right true b e h = e
@@ -79,7 +79,7 @@ not-not true e = refl
 not-not false e = let z : ◌≡◌ {A = ℕ} 0 1 = cc in absurd (omega arith)
 
 pub settled : (g : List ℕ) (w : World) (n : ℕ) → differs g w n ≡ false → is_staged w.pager.staged n ≡ true
-    → length (staged_bytes w.pager.staged g n) ≡ page_size → world_page w n ≡ some (staged_bytes w.pager.staged g n)
+    → length (staged_bytes w.pager.staged g n) ≡ page_size → world_page w n ≡ Some (staged_bytes w.pager.staged g n)
 unfolding differs_in
 settled g w n e s h =
     let x : List ℕ = staged_bytes w.pager.staged g n in

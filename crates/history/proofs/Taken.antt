@@ -2,8 +2,8 @@
 use mathlib.Core.Path.{◌≡◌, sym, subst}
 use mathlib.Core.Bool.{not}
 use mathlib.Core.List.{List}
-use mathlib.Core.Option.{none}
 use Prim.Native.Nat.{ℕ}
+use Rattle.std.specs.Prelude.{None}
 use Rattle.refusal.specs.declared.Refusal.TheVariants as refusal
 use Rattle.refusal.proofs.Judged.{met}
 use Rattle.pager_state.specs.World.{World, busy, busy_refusal}
@@ -15,7 +15,7 @@ use Rattle.pager_state.specs.declared.Pager.{Pager}
 use Rattle.history.specs.Model.{Model, model_stores}
 use Rattle.history.specs.Calls.{Call, stores_of, world_after, staging_after, model_first, body_lent}
 use Rattle.history.specs.Run.{kinds, kept_after}
-use Rattle.history.proofs.Rest.{Resting, Some, Inv, InvJob}
+use Rattle.history.proofs.Rest.{Resting, ForSome, Inv, InvJob}
 use Rattle.history.proofs.Running.{CutOk}
 
 -- what a call that is not refused leaves, whole or cut
@@ -36,12 +36,12 @@ taken-by c w g b z {v} e f after cut =
     }
 
 -- a call that refusal 9 alone can be given comes where nothing is part done
-pub rests-by : (p : Pager) → busy_refusal p ≡ none → p.job ≡ job.Idle
-rests-by p e = not-busy p.job (off _ (met (not (busy p)) refusal.Busy none e).0)
+pub rests-by : (p : Pager) → busy_refusal p ≡ None → p.job ≡ job.Idle
+rests-by p e = not-busy p.job (off _ (met (not (busy p)) refusal.Busy None e).0)
 
 -- at rest, by the store's own job
-pub at_rest : (w : World) (g : List ℕ) (b : Model) (z : List ℕ) → Inv w g b z → w.pager.job ≡ job.Idle → Some (Resting w g b) z
+pub at_rest : (w : World) (g : List ℕ) (b : Model) (z : List ℕ) → Inv w g b z → w.pager.job ≡ job.Idle → ForSome (Resting w g b) z
 at_rest w g b z i e = subst (λ (j : Job). InvJob j w g b z) e i
 
-pub rest-inv : (w : World) (g : List ℕ) (b : Model) (z : List ℕ) → w.pager.job ≡ job.Idle → Some (Resting w g b) z → Inv w g b z
+pub rest-inv : (w : World) (g : List ℕ) (b : Model) (z : List ℕ) → w.pager.job ≡ job.Idle → ForSome (Resting w g b) z → Inv w g b z
 rest-inv w g b z e i = subst (λ (j : Job). InvJob j w g b z) (sym e) i

@@ -1,19 +1,17 @@
 -- The statement of demand 3.
-use Rattle.std.specs.Prelude.{◌≡◌, true, false, List, [], ◌∷◌, ℕ, zero, suc, ◌+◌, ◌<◌, ◌≤◌, ◌^◌, length, take, drop}
-use Rattle.std.proofs.Math.Option.{Option, none, some}
+use Rattle.std.specs.Prelude.{Option, Err, None, Ok, Result, Some, ◌≡◌, true, false, List, [], ◌∷◌, ℕ, zero, suc, ◌+◌, ◌<◌, ◌≤◌, ◌^◌, length, take, drop}
+use Rattle.refusal.specs.declared.Refusal.{Refusal}
 use Rattle.wal.specs.Header.{header_size}
 use Rattle.wal.specs.Recovery.{wal_area}
+use Rattle.wal.specs.declared.BatchAt.{BatchAt}
 use Rattle.pager_state.specs.World.{World, main_area_size, staging_area, page_limit, busy}
 use Rattle.pager_state.specs.Overlay.{page_from, find_page, find_refusal, bytes_at}
 use Rattle.pager_state.specs.Batches.{next_recovered}
 use Rattle.pager_state.specs.Queries.{header}
 use Rattle.pager_state.specs.Stores.{content}
 use Rattle.pager_state.specs.Opening.{open_refusal, create_fine}
-use Rattle.pager_state.specs.declared.HeaderRead.TheVariants as head
 use Rattle.pager_state.specs.declared.PageFound.{PageFound}
 use Rattle.pager_state.specs.declared.PageFound.TheVariants as found
-use Rattle.pager_state.specs.declared.RecoveredFound.{RecoveredFound}
-use Rattle.pager_state.specs.declared.RecoveredFound.TheVariants as batch
 use Rattle.history.specs.Model.{Batch, batch_in, model_read}
 use Rattle.history.specs.Calls.{Lent, Call, effect, refused_by}
 use Rattle.history.specs.Run.{Run, Left, cut_call, Attempt, cut_opening, reopening, reopened, whole, Event, Whole, Cut, next, start}
@@ -21,16 +19,16 @@ use Rattle.history.specs.Run.{Run, Left, cut_call, Attempt, cut_opening, reopeni
 -- ---- "header, pages and recovered batches are exactly the plain book's"
 
 -- "its bytes or none"
-abbrev pub reading_at : World → List ℕ → PageFound → Option (List ℕ)
-reading_at w g (found.Staged at) = some (bytes_at w g (found.Staged at))
-reading_at w g (found.Log at) = some (bytes_at w g (found.Log at))
-reading_at w g (found.Main at) = some (bytes_at w g (found.Main at))
-reading_at w g found.Nothing = none
-reading_at w g (found.Refused r) = none
+abbrev pub reading_at : World → List ℕ → Result PageFound Refusal → Option (List ℕ)
+reading_at w g (Ok (found.Staged at)) = Some (bytes_at w g (Ok (found.Staged at)))
+reading_at w g (Ok (found.Log at)) = Some (bytes_at w g (Ok (found.Log at)))
+reading_at w g (Ok (found.Main at)) = Some (bytes_at w g (Ok (found.Main at)))
+reading_at w g (Ok found.Nothing) = None
+reading_at w g (Err r) = None
 
 -- "the store's header and the reading of every page from 1 up"; neither is refused
 pub record Same (r : Run) : Type 0 where
-  pub same_header : header r.world.pager ≡ head.Header r.model.header
+  pub same_header : header r.world.pager ≡ Ok r.model.header
   pub answered : (n : ℕ) → find_refusal (find_page r.world r.staging n) ≡ 0
   pub same_page : (n : ℕ) → 1 ≤ n → reading_at r.world r.staging (find_page r.world r.staging n) ≡ model_read r.model n
 
@@ -39,10 +37,10 @@ abbrev pub AtRest : Run → Type 0 → Type 0
 AtRest r A = busy r.world.pager ≡ false → A
 
 -- the batches that an open store gives, walked from a frame's index on; no log has more than 1,024 frames
-abbrev pub walked_at : RecoveredFound → List ℕ → (ℕ → List Batch) → List Batch
-walked_at (batch.Batch i at) l rest = batch_in (page_from (at + 16) l) ∷ rest (i + 1)
-walked_at batch.Nothing l rest = []
-walked_at (batch.Refused r) l rest = []
+abbrev pub walked_at : Result (Option BatchAt) Refusal → List ℕ → (ℕ → List Batch) → List Batch
+walked_at (Ok (Some b)) l rest = batch_in (page_from (b.offset + 16) l) ∷ rest (b.index + 1)
+walked_at (Ok None) l rest = []
+walked_at (Err r) l rest = []
 
 unfoldable pub walked : ℕ → World → ℕ → List Batch
 walked zero w i = []

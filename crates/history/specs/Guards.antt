@@ -1,7 +1,6 @@
 -- Statements which show that the definitions and demand 3 are not empty: what is refused and what is not, what a commit, a checkpoint and an
 -- opening come to. Each is proved in proofs/Guards.antt. Numbers are document 01's.
-use Rattle.std.specs.Prelude.{◌≡◌, true, false, List, [], ◌∷◌, ◌++◌, ℕ, suc, ◌+◌, ◌*◌, ◌^◌, ◌≤◌, ◌<◌, length, replicate, ℤ, pos}
-use Rattle.std.proofs.Math.Option.{Option, some}
+use Rattle.std.specs.Prelude.{Option, Some, Err, Ok, ◌≡◌, true, false, List, [], ◌∷◌, ◌++◌, ℕ, suc, ◌+◌, ◌*◌, ◌^◌, ◌≤◌, ◌<◌, length, replicate, ℤ, pos}
 use Rattle.std.proofs.Common.{SFits}
 use Rattle.std.specs.Int.{w64}
 use Rattle.le.specs.Le.{Bytes}
@@ -24,12 +23,7 @@ use Rattle.pager_state.specs.declared.AccessMode.TheVariants as mode
 use Rattle.pager_state.specs.declared.Staged.{Staged}
 use Rattle.pager_state.specs.declared.Job.TheVariants as job
 use Rattle.pager_state.specs.declared.Pager.{Pager}
-use Rattle.pager_state.specs.declared.CommitStart.TheVariants as commit
-use Rattle.pager_state.specs.declared.CommitAnswer.TheVariants as committed
-use Rattle.pager_state.specs.declared.HeaderRead.TheVariants as head
 use Rattle.pager_state.specs.declared.CheckpointStart.TheVariants as checkpoint
-use Rattle.pager_state.specs.declared.CheckpointAnswer.TheVariants as written
-use Rattle.pager_state.specs.declared.BatchAnswer.TheVariants as append
 use Rattle.history.specs.Model.{batch_in}
 use Rattle.history.specs.Calls.{Lent, ReadMode, Call, Ask, Open, Stage, Append, Commit, Checkpoint, Words, refused_by}
 use Rattle.history.specs.Run.{Run, whole, Attempt, Event, Whole, Cut, next, start}
@@ -82,15 +76,15 @@ Full p n = wal_area < p.wal.len + frame_size * n
 unfoldable pub LogFullGuard : Type 0
 LogFullGuard =
     (g : List ℕ) (w : World) (h : DbHeader)
-    → (commit_start g w h ≡ commit.Refused refusal.LogFull → Unrefused g w h × Full w.pager (differing g w + 1))
-    × (Unrefused g w h → Full w.pager (differing g w + 1) → commit_start g w h ≡ commit.Refused refusal.LogFull)
+    → (commit_start g w h ≡ Err refusal.LogFull → Unrefused g w h × Full w.pager (differing g w + 1))
+    × (Unrefused g w h → Full w.pager (differing g w + 1) → commit_start g w h ≡ Err refusal.LogFull)
 
 -- and it is begun exactly where no refusal applies
 unfoldable pub BegunGuard : Type 0
 BegunGuard =
     (g : List ℕ) (w : World) (h : DbHeader)
-    → (commit_start g w h ≡ commit.Begun → Unrefused g w h × (w.pager.wal.len + frame_size * (differing g w + 1) ≤ wal_area))
-    × (Unrefused g w h → w.pager.wal.len + frame_size * (differing g w + 1) ≤ wal_area → commit_start g w h ≡ commit.Begun)
+    → (commit_start g w h ≡ Ok tt → Unrefused g w h × (w.pager.wal.len + frame_size * (differing g w + 1) ≤ wal_area))
+    × (Unrefused g w h → w.pager.wal.len + frame_size * (differing g w + 1) ≤ wal_area → commit_start g w h ≡ (Ok tt))
 
 -- of a batch append's refusals 1, 2, 3, 9 and 10 none applies
 pub record UnrefusedBatch (p : Pager) (l body : List ℕ) : Type 0 where
@@ -106,8 +100,8 @@ pub record UnrefusedBatch (p : Pager) (l body : List ℕ) : Type 0 where
 unfoldable pub BatchFullGuard : Type 0
 BatchFullGuard =
     (p : Pager) (l body : List ℕ)
-    → ((append_batch p l body).answer ≡ append.Refused refusal.LogFull → UnrefusedBatch p l body × Full p 1)
-    × (UnrefusedBatch p l body → Full p 1 → (append_batch p l body).answer ≡ append.Refused refusal.LogFull)
+    → ((append_batch p l body).answer ≡ Err refusal.LogFull → UnrefusedBatch p l body × Full p 1)
+    × (UnrefusedBatch p l body → Full p 1 → (append_batch p l body).answer ≡ Err refusal.LogFull)
 
 -- ---- a commit in a new store is not refused
 
@@ -120,7 +114,7 @@ unfoldable pub CommitGuard : Type 0
 CommitGuard =
     (t l m g : List ℕ) (salt : ℕ) → create_fine t l m g ≡ true → (s : Staged) → length s.pages ≡ staged_limit → (h : DbHeader) → GoodHeader h
     → Joined (with_slots (new_store t l m g salt) s) h → (staging : List ℕ) → length staging ≡ staging_area
-    → commit_start staging (with_slots (new_store t l m g salt) s) h ≡ commit.Begun
+    → commit_start staging (with_slots (new_store t l m g salt) s) h ≡ Ok tt
 
 -- ---- what a commit that is begun comes to
 
@@ -142,7 +136,7 @@ pub record Empty (v : World) : Type 0 where
 
 -- "answer: number of differing pages"; "At 100 frames or more it then folds": "A commit bringing frames to 99 doesn't fold; to 100 does"
 pub record Ends (g : List ℕ) (w : World) (h : DbHeader) (salt : ℕ) : Type 0 where
-  pub answer : commit_answer g w h ≡ committed.Committed (differing g w)
+  pub answer : commit_answer g w h ≡ Ok (differing g w)
   pub below : w.pager.wal.frame_count + (differing g w + 1) < checkpoint_frames → LongerBy w (commit_world g w h salt) (differing g w + 1)
   pub above : checkpoint_frames ≤ w.pager.wal.frame_count + (differing g w + 1) → Empty (commit_world g w h salt)
 
@@ -150,12 +144,12 @@ pub record Ends (g : List ℕ) (w : World) (h : DbHeader) (salt : ℕ) : Type 0 
 unfoldable pub CommitEndsGuard : Type 0
 CommitEndsGuard =
     (g : List ℕ) (w : World) (h : DbHeader) (salt : ℕ) → length w.pager.staged.pages ≡ staged_limit → w.pager.wal.frame_count ≤ 1024
-    → commit_start g w h ≡ commit.Begun → Ends g w h salt
+    → commit_start g w h ≡ Ok tt → Ends g w h salt
 
 -- with nothing staged in a new store: one frame, the commit frame
 pub record CommittedAlone (g : List ℕ) (w : World) (h : DbHeader) (salt : ℕ) : Type 0 where
-  pub begun : commit_start g w h ≡ commit.Begun
-  pub answer : commit_answer g w h ≡ committed.Committed 0
+  pub begun : commit_start g w h ≡ Ok tt
+  pub answer : commit_answer g w h ≡ Ok 0
   pub rests : (commit_world g w h salt).pager.job ≡ job.Idle
   pub log_file : (commit_world g w h salt).pager.wal.len ≡ header_size + frame_size
   pub frames : (commit_world g w h salt).pager.wal.frame_count ≡ 1
@@ -186,8 +180,8 @@ FramesInside w = (n : ℕ) → n < page_limit → in_log w.table n ≡ true → 
 -- "It answers the pages written"
 unfoldable pub CheckpointGuard : Type 0
 CheckpointGuard =
-    (g : List ℕ) (w : World) (salt : ℕ) → length w.pager.staged.pages ≡ staged_limit → FramesInside w → checkpoint_start g w ≡ checkpoint.Begun
-    → (checkpoint_answer g w ≡ written.Written (checkpoint_count w)) × CheckpointedTo w (checkpoint_world g w salt)
+    (g : List ℕ) (w : World) (salt : ℕ) → length w.pager.staged.pages ≡ staged_limit → FramesInside w → checkpoint_start g w ≡ (Ok checkpoint.Begun)
+    → (checkpoint_answer g w ≡ Ok (checkpoint_count w)) × CheckpointedTo w (checkpoint_world g w salt)
 
 -- ---- histories
 
@@ -216,7 +210,7 @@ Accepted c r = refused_by c r.world r.staging ≡ 0
 
 -- refusal 1 of a commit is of the lengths alone: no table that the calls make is refused, whatever is part done
 unfoldable pub TableGuard : Type 0
-TableGuard = Always (λ (r : Run). (h : DbHeader) → step_fine r.staging r.world ≡ true → commit_start r.staging r.world h ≡ commit.Refused refusal.Area → ⊥)
+TableGuard = Always (λ (r : Run). (h : DbHeader) → step_fine r.staging r.world ≡ true → commit_start r.staging r.world h ≡ Err refusal.Area → ⊥)
 
 -- a clean opening, read-write, in areas of the right lengths, is not, cut or no cut before it
 unfoldable pub OpeningGuard : Type 0
@@ -228,7 +222,7 @@ OpeningGuard = Always (λ (r : Run). (lent : Lent) → Sized lent → Accepted (
 unfoldable pub HeaderGuard : Type 0
 HeaderGuard =
     Always (λ (r : Run).
-    (h : DbHeader) (salt : ℕ) → Words h → salt < 2 ^ 32 → Accepted (Commit h salt) r → header (whole (Commit h salt) r).world.pager ≡ head.Header h)
+    (h : DbHeader) (salt : ℕ) → Words h → salt < 2 ^ 32 → Accepted (Commit h salt) r → header (whole (Commit h salt) r).world.pager ≡ Ok h)
 
 -- a page's reading: its bytes, or none
 abbrev pub reading : Run → ℕ → Option (List ℕ)
@@ -236,12 +230,12 @@ reading r n = reading_at r.world r.staging (find_page r.world r.staging n)
 
 -- at once, after a clean opening, after the power is lost there and in openings too, and after a checkpoint
 pub record ReadsBack (r : Run) (n : ℕ) (x : List ℕ) : Type 0 where
-  pub now : reading r n ≡ some x
+  pub now : reading r n ≡ Some x
   pub bytes : read_page r.world r.staging n ≡ x
   pub opens : (lent : Lent) → Sized lent → Accepted (Open mode.ReadWrite lent) r
-  pub opened : (lent : Lent) → Sized lent → reading (whole (Open mode.ReadWrite lent) r) n ≡ some x
-  pub lost : (attempts : List Attempt) → AllSized attempts → (lent : Lent) → Sized lent → reading (next (Cut (Ask ReadMode) 0 0 attempts lent) r) n ≡ some x
-  pub checkpointed : (salt : ℕ) → salt < 2 ^ 32 → Accepted (Checkpoint salt) r → reading (whole (Checkpoint salt) r) n ≡ some x
+  pub opened : (lent : Lent) → Sized lent → reading (whole (Open mode.ReadWrite lent) r) n ≡ Some x
+  pub lost : (attempts : List Attempt) → AllSized attempts → (lent : Lent) → Sized lent → reading (next (Cut (Ask ReadMode) 0 0 attempts lent) r) n ≡ Some x
+  pub checkpointed : (salt : ℕ) → salt < 2 ^ 32 → Accepted (Checkpoint salt) r → reading (whole (Checkpoint salt) r) n ≡ Some x
 
 -- the store with the page staged and then committed
 abbrev pub committed_page : ℕ → List ℕ → DbHeader → ℕ → Run → Run
@@ -259,7 +253,7 @@ pub record Keeps (r : Run) (bytes : List ℕ) (h : DbHeader) (salt : ℕ) : Type
   pub staged : Accepted (Stage 1 bytes) r
   pub committed : Accepted (Commit h salt) (whole (Stage 1 bytes) r)
   pub reads : ReadsBack (committed_page 1 bytes h salt r) 1 bytes
-  pub begins : checkpoint_start (committed_page 1 bytes h salt r).staging (committed_page 1 bytes h salt r).world ≡ checkpoint.Begun
+  pub begins : checkpoint_start (committed_page 1 bytes h salt r).staging (committed_page 1 bytes h salt r).world ≡ (Ok checkpoint.Begun)
   pub checkpointed : (next : ℕ) → next < 2 ^ 32 → page_from page_size (whole (Checkpoint next) (committed_page 1 bytes h salt r)).world.main ≡ bytes
 
 unfoldable pub NewPageGuard : Type 0
@@ -309,9 +303,9 @@ pub record Filled (r : Run) (body : List ℕ) (h : DbHeader) (k : ℕ) : Type 0 
   pub log_file : r.world.pager.wal.len ≡ header_size + frame_size * k
   pub longer : k < 99 → (salt : ℕ) → LongerBy r.world (commit_world r.staging r.world h salt) 1
   pub checkpointed : 99 ≤ k → k < 1024 → (salt : ℕ) → Empty (commit_world r.staging r.world h salt)
-  pub room : k < 1024 → commit_start r.staging r.world h ≡ commit.Begun
-  pub full : k ≡ 1024 → commit_start r.staging r.world h ≡ commit.Refused refusal.LogFull
-  pub full_batch : k ≡ 1024 → (append_batch r.world.pager r.world.log body).answer ≡ append.Refused refusal.LogFull
+  pub room : k < 1024 → commit_start r.staging r.world h ≡ Ok tt
+  pub full : k ≡ 1024 → commit_start r.staging r.world h ≡ Err refusal.LogFull
+  pub full_batch : k ≡ 1024 → (append_batch r.world.pager r.world.log body).answer ≡ Err refusal.LogFull
 
 unfoldable pub FilledGuard : Type 0
 FilledGuard =

@@ -1,6 +1,5 @@
 -- The model (document 01's plain book): what the store must come to, told of calls and of whole stores, never of files.
-use Rattle.std.specs.Prelude.{List, [], ◌∷◌, ◌++◌, ℕ, leb, ltb, eqb}
-use Rattle.std.proofs.Math.Option.{Option, none, some}
+use Rattle.std.specs.Prelude.{Option, None, Some, List, [], ◌∷◌, ◌++◌, ℕ, leb, ltb, eqb}
 use Rattle.le.specs.Choice.{pick}
 use Rattle.page.specs.Page.{empty_table_page}
 use Rattle.header.specs.declared.DbHeader.{DbHeader}
@@ -29,11 +28,11 @@ pub record Model : Type 0 where
 
 -- the first that is there
 abbrev pub or_else : {A : Type 0} → Option A → Option A → Option A
-or_else none y = y
-or_else (some a) y = some a
+or_else None y = y
+or_else (Some a) y = Some a
 
 abbrev pub nothing : ℕ → Option (List ℕ)
-nothing n = none
+nothing n = None
 
 -- "A page reads as staged, else as entered, else none"
 unfoldable pub model_read : Model → ℕ → Option (List ℕ)
@@ -45,7 +44,7 @@ first_model =
     record {
       header = first_header;
       given = first_header;
-      pages = λ (n : ℕ). pick (eqb n 1) (some empty_table_page) none;
+      pages = λ (n : ℕ). pick (eqb n 1) (Some empty_table_page) None;
       staged = nothing;
       waiting = [];
       committed = [];
@@ -64,7 +63,7 @@ model_stage m bytes b =
       header = b.header;
       given = b.given;
       pages = b.pages;
-      staged = λ (n : ℕ). pick (eqb n m) (some bytes) (b.staged n);
+      staged = λ (n : ℕ). pick (eqb n m) (Some bytes) (b.staged n);
       waiting = b.waiting;
       committed = b.committed;
     }
@@ -93,7 +92,7 @@ model_wait x b =
 
 -- "the staged pages from 1 are entered, pages at or above the new count dropped"
 unfoldable pub model_pages : Model → ℕ → Option (List ℕ)
-model_pages b n = pick (ltb n (count_of b.given)) (pick (leb 1 n) (or_else (b.staged n) (b.pages n)) (b.pages n)) none
+model_pages b n = pick (ltb n (count_of b.given)) (pick (leb 1 n) (or_else (b.staged n) (b.pages n)) (b.pages n)) None
 
 -- "Seal whole: the given header and the staged pages from 1 are entered, pages at or above the new count dropped, the staging emptied,
 -- waiting batches sealed, in order"

@@ -1,17 +1,16 @@
 -- Laws of little-endian fields, each stated once over the width. Assumes nothing.
-use mathlib.Core.Path.{◌≡◌, refl, sym, ap}
+use mathlib.Core.Path.{◌≡◌, refl, sym, ap, ◌∙◌}
 use mathlib.Core.List.{List, [], ◌∷◌, ◌++◌}
-use mathlib.Core.Logic.{⊎_elim}
 use Prim.Native.Nat.{ℕ, zero, suc, ◌+◌, ◌-◌, ◌*◌, ◌/◌, ◌%◌, ◌^◌, ◌≤◌, ◌<◌}
-use native.Mathlib.Nat.{mul-add, mul_assoc, add_assoc, zero-add, suc-add, div-one, pow-succ', pow-suc, one-le-pow, div-lt_iff_lt-mul, div-div-eq-div-mul}
+use native.Mathlib.Nat.{mul-add, mul_comm, mul_assoc, add_assoc, zero-add, suc-add, div-one, pow-succ', pow-suc, one-le-pow, div-lt_iff_lt-mul, div-div-eq-div-mul}
 use native.Mathlib.Numerals.{add-one}
 use native.Mathlib.Omega.{arith}
 use borrow.Author.Tests.{le-leb, lt-leb}
 use lib.Arith.{mod-mul, digits_div, digits_mod}
-use lib.ListN.{length, take, drop, get_or, length-take, length-drop, drop_of_length-le}
-use lib.Seq.{take-add, take_all, take_at, drop-append-add, take-nil, take-take, drop-drop, drop-cons}
+use lib.ListN.{length, take, drop, get_or, replicate, length-take, drop_of_length-le}
+use lib.Seq.{take-suc, take_all, take_at, drop-append-add, take-nil, take-take, drop-drop, drop-cons}
+use Rattle.std.specs.Int.{sum_through, byte_worth, bytes_low_first}
 use Rattle.le.specs.Le.{Bytes, le_of, le_bytes, field, whole_field}
-use Rattle.le.proofs.Tests.{le-or-lt}
 
 -- ---- reading
 
@@ -26,17 +25,6 @@ unfolding le_of
 field-none zero at l h = refl
 field-none (suc n) at l h = rw (drop_of_length-le l h)
 
-split-within : (n m at : ℕ) (l : List ℕ) → at + n ≤ length l → field (n + m) at l ≡ field n at l + 256 ^ n * field m (at + n) l
-split-within n m at l h =
-    let e : length (take n (drop at l)) ≡ n = simp (length-take, length-drop) (omega arith) in
-    rw (take-add, le_of-append, e, drop-drop)
-
-split-past : (n m at : ℕ) (l : List ℕ) → length l < at + n → field (n + m) at l ≡ field n at l + 256 ^ n * field m (at + n) l
-split-past n m at l h =
-    let k : length (drop at l) ≤ n = rw length-drop (omega arith) in
-    let j : length (drop at l) ≤ n + m = omega arith in
-    rw (take_all (n + m) (drop at l) j, take_all n (drop at l) k, field-none m (at + n) l (omega arith)) (omega arith)
-
 -- a field that is wholly there, and one that is not
 pub field-whole : (n at : ℕ) (l : List ℕ) → at + n ≤ length l → whole_field n at l ≡ field n at l
 unfolding whole_field
@@ -45,10 +33,6 @@ field-whole n at l h = rw (le-leb _ _ h)
 pub field_cut : (n at : ℕ) (l : List ℕ) → length l < at + n → whole_field n at l ≡ 0
 unfolding whole_field
 field_cut n at l h = rw (lt-leb _ _ h)
-
--- a field of n + m bytes is one of n and, times 256 ^ n, one of m
-pub field-split : (n m at : ℕ) (l : List ℕ) → field (n + m) at l ≡ field n at l + 256 ^ n * field m (at + n) l
-field-split n m at l = ⊎_elim (split-within n m at l) (split-past n m at l) (le-or-lt (at + n) (length l))
 
 -- the first byte of a field, and the others
 pub field-cons : (n at : ℕ) (l : List ℕ) → at < length l → field (suc n) at l ≡ get_or l at 0 + 256 * field n (at + 1) l
@@ -59,10 +43,6 @@ field-cons n at l h = rw (add-one, drop-cons l at 0)
 pub field-one : (at : ℕ) (l : List ℕ) → at < length l → field 1 at l ≡ get_or l at 0
 unfolding le_of
 field-one at l h = rw (field-cons 0 at l h) (omega arith)
-
--- a field of two bytes
-pub field-two : (at : ℕ) (l : List ℕ) → at < length l → field 2 at l ≡ get_or l at 0 + 256 * field 1 (at + 1) l
-field-two at l h = field-cons 1 at l h
 
 pub drop-take : (k m : ℕ) (l : List ℕ) → drop k (take (k + m) l) ≡ take m (drop k l)
 drop-take zero m l = rw zero-add
@@ -81,18 +61,52 @@ part-part n k m at l h =
 pub field-part : (n k m at : ℕ) (l : List ℕ) → k + n ≤ m → field n k (take m (drop at l)) ≡ field n (at + k) l
 field-part n k m at l h = ap le_of (part-part n k m at l h)
 
+-- ---- the library's numbers of bytes
+
+-- the n bytes from `at` on, where that many are there, and zeros where not
+pub whole_field-there : (n at : ℕ) (l : List ℕ) {bs : List ℕ} → at + n ≤ length l → bs ≡ take (at + n - at) (drop at l) → le_of bs ≡ whole_field n at l
+whole_field-there n at l h e =
+    let k : at + n - at ≡ n = omega arith in
+    rw (field-whole n at l h, e, k)
+
+le_of-zeros : (n : ℕ) → le_of (replicate n 0) ≡ 0
+unfolding le_of
+le_of-zeros zero = refl
+le_of-zeros (suc n) = rw (le_of-zeros n) (omega arith)
+
+pub whole_field-zeros : (n at : ℕ) (l : List ℕ) → length l < at + n → le_of (replicate n 0) ≡ whole_field n at l
+whole_field-zeros n at l h = rw (field_cut n at l h, le_of-zeros n)
+
+-- `from_le_bytes`
+pub sum_through-le_of : (k : ℕ) (xs : List ℕ) → k < length xs → sum_through (λ i. byte_worth i (get_or xs i 0)) k ≡ le_of (take (suc k) xs)
+unfolding le_of
+sum_through-le_of zero xs h = sym (field-one 0 xs h)
+sum_through-le_of (suc k) xs h =
+    let i : k < length xs = omega arith in
+    let e : length (take (suc k) xs) ≡ suc k = rw length-take (omega arith) in
+    rw (take-suc xs (suc k) 0, le_of-append, e, sum_through-le_of k xs i) (omega (arith, mul_comm (256 ^ suc k) (get_or xs (suc k) 0)))
+
+pub from_bytes : (k : ℕ) (xs : List ℕ) {r w : ℕ} → length xs ≡ suc k → r ≡ sum_through (λ i. byte_worth i (get_or xs i 0)) k → le_of xs ≡ w → r ≡ w
+from_bytes k xs h e f =
+    let i : k < length xs = omega arith in
+    let j : length xs ≤ suc k = omega arith in
+    e ∙ sum_through-le_of k xs i ∙ ap le_of (take_all (suc k) xs j) ∙ f
+
+-- `to_le_bytes`
+pub bytes_low_first-le_bytes : (n i x : ℕ) → bytes_low_first i n x ≡ le_bytes n (x / 256 ^ i)
+unfolding le_bytes
+bytes_low_first-le_bytes zero i x = refl
+bytes_low_first-le_bytes (suc n) zero x = rw (bytes_low_first-le_bytes n 1 x, div-one)
+bytes_low_first-le_bytes (suc n) (suc i) x =
+    let e : x / 256 ^ suc i / 256 ≡ x / 256 ^ suc (suc i) = rw (pow-suc 256 (suc i), div-div-eq-div-mul) in
+    rw (bytes_low_first-le_bytes n (suc (suc i)) x, e)
+
 -- ---- writing
 
 pub length-le_bytes : (n x : ℕ) → length (le_bytes n x) ≡ n
 unfolding le_bytes
 length-le_bytes zero x = refl
 length-le_bytes (suc n) x = ap suc (length-le_bytes n (x / 256))
-
--- a field of n + m bytes is one of n and behind it one of m
-pub le_bytes-split : (n m x : ℕ) → le_bytes (n + m) x ≡ le_bytes n x ++ le_bytes m (x / 256 ^ n)
-unfolding le_bytes
-le_bytes-split zero m x = rw (zero-add, div-one)
-le_bytes-split (suc n) m x = rw (suc-add, pow-succ' 256, le_bytes-split n m (x / 256), div-div-eq-div-mul)
 
 -- the n lowest bytes of x are those of what x leaves at 256 ^ n
 pub le_bytes-mod : (n x : ℕ) → le_bytes n (x % 256 ^ n) ≡ le_bytes n x

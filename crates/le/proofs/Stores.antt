@@ -1,21 +1,25 @@
 -- Laws of the one store operation. Assumes nothing.
-use mathlib.Core.Path.{◌≡◌, refl, sym, ap, ◌∙◌}
+use mathlib.Core.Path.{◌≡◌, sym, ap, ◌∙◌}
 use mathlib.Core.Bool.{true, false}
 use mathlib.Core.List.{List, [], ◌∷◌, ◌++◌, append_assoc, append-nil}
 use mathlib.Core.Logic.{⊎_elim}
-use Prim.Native.Nat.{ℕ, ◌+◌, ◌-◌, ◌/◌, ◌%◌, ◌^◌, ◌≤◌, ◌<◌}
-use native.Mathlib.Nat.{add_assoc, add-zero, zero-add}
+use Prim.Native.Nat.{ℕ, ◌+◌, ◌-◌, ◌/◌, ◌^◌, ◌≤◌, ◌<◌}
+use native.Mathlib.Nat.{div-one, add_assoc, add-zero, zero-add}
 use native.Mathlib.Numerals.{add-one}
 use native.Mathlib.Omega.{arith}
 use borrow.Author.Tests.{le-leb, lt-leb}
 use lib.Dec.{leb}
-use lib.ListN.{length, take, drop, get_or, set, length-append, length-take, length-drop, take-append-drop, replicate, replicate-append-replicate, length-replicate}
-use lib.Seq.{drop-length, drop-drop, set_split, take-suc, take-append_seam, take_at, drop_at, drop-append-add, take-append-le, take-take}
+use lib.ListN.{length, take, drop, set, length-append, length-take, length-drop, take-append-drop, replicate, replicate-append-replicate, length-replicate}
+use lib.Seq.{drop-length, drop-drop, set_split, take-append_seam, take_at, drop_at, drop-append-add, take-append-le, take-take}
+use borrow.Rule.Slice.PartMut.{put_mid}
+use Rattle.std.specs.Int.{bytes_low_first}
+use Rattle.std.specs.Prelude.{Err, Ok, Result}
+use Rattle.refusal.specs.declared.Refusal.{Refusal}
+use Rattle.refusal.specs.declared.Refusal.TheVariants as refusal
 use Rattle.le.specs.Le.{le_bytes, put, store}
 use Rattle.le.specs.Answers.{stored_of}
-use Rattle.le.specs.declared.Stored.TheVariants.{Done, Area}
 use Rattle.le.proofs.Tests.{le-or-lt}
-use Rattle.le.proofs.Fields.{length-le_bytes, le_bytes-mod, le_bytes-split}
+use Rattle.le.proofs.Fields.{length-le_bytes, bytes_low_first-le_bytes}
 
 -- ---- putting bytes where they fit
 
@@ -120,18 +124,6 @@ put-more n l at xs b e h =
     let j : at + n < length (put l at xs) = rw (length-put l at xs (rw e (omega arith))) h in
     rw (set-put (put l at xs) (at + n) b j, put_next n l at xs (b ∷ []) e (omega arith))
 
--- two stores of a byte
-pub set-two : (l : List ℕ) (i a b : ℕ) → i + 2 ≤ length l → set (set l i a) (i + 1) b ≡ put l i (a ∷ b ∷ [])
-set-two l i a b h =
-    let k : i < length l = omega arith in
-    rw (set-put l i a k) (put-more 1 l i (a ∷ []) b refl (omega arith))
-
--- one byte more of a copy
-pub put_copy : (l : List ℕ) (at : ℕ) (src : List ℕ) (i : ℕ) → at + length src ≤ length l → i < length src
-    → set (put l at (take i src)) (at + i) (get_or src i 0) ≡ put l at (take (i + 1) src)
-put_copy l at src i h k =
-    rw (put-more i l at (take i src) (get_or src i 0) (simp length-take (omega arith)) (omega arith), add-one, take-suc src i 0)
-
 -- one zero more
 pub put-zero : (l : List ℕ) (at i : ℕ) → at + i < length l
     → set (put l at (replicate i 0)) (at + i) 0 ≡ put l at (replicate (i + 1) 0)
@@ -142,13 +134,14 @@ put-zero l at i h =
 pub part-put : (n : ℕ) (l : List ℕ) (at : ℕ) (xs : List ℕ) → length xs ≡ n → at ≤ length l → take n (drop at (put l at xs)) ≡ xs
 part-put n l at xs e h = rw e at (get-put l at xs h)
 
--- ---- fields
+-- ---- through a part of the slice
 
--- a field of n + m bytes stored as one of n and one of m
-pub put-split : (n m : ℕ) (l : List ℕ) (at v : ℕ) → at + n ≤ length l
-    → put (put l at (le_bytes n (v % 256 ^ n))) (at + n) (le_bytes m (v / 256 ^ n)) ≡ put l at (le_bytes (n + m) v)
-put-split n m l at v h =
-    rw (le_bytes-mod, le_bytes-split n m v) (put_next n l at (le_bytes n v) (le_bytes m (v / 256 ^ n)) (length-le_bytes n v) h)
+-- what a slice holds once the part of n bytes from `at` on holds ys
+pub put_mid-put : (l : List ℕ) (at n : ℕ) (xs : List ℕ) {ys : List ℕ} → ys ≡ xs → length xs ≡ n → put_mid at (at + n - at) l ys ≡ put l at xs
+unfolding put
+put_mid-put l at n xs e f =
+    let k : at + n - at ≡ n = omega arith in
+    rw (e, f, k, drop-drop)
 
 -- ---- total stores
 
@@ -175,10 +168,19 @@ store-next n k l at xs ys {m} e f h p q =
 
 -- what a store of n bytes that passed the test answers and leaves, and one that did not
 module _ (l : List ℕ) (at n : ℕ) (xs : List ℕ) (e : length xs ≡ n) where
-  pub stored : {m : List ℕ} → leb (at + n) (length l) ≡ true → m ≡ put l at xs → (Done ≡ stored_of l at n) × (m ≡ store l at xs)
+  pub stored : {m : List ℕ} → leb (at + n) (length l) ≡ true → m ≡ put l at xs → (Ok tt ≡ stored_of l at n) × (m ≡ store l at xs)
   unfolding store
   stored t p = (rw t, rw (e, t) p)
 
-  pub refused : leb (at + n) (length l) ≡ false → (Area ≡ stored_of l at n) × (l ≡ store l at xs)
+  pub refused : leb (at + n) (length l) ≡ false → (Err refusal.Area ≡ stored_of l at n) × (l ≡ store l at xs)
   unfolding store
   refused t = (rw t, rw (e, t))
+
+-- a store of the n bytes of a number, as `to_le_bytes` gives them
+pub stored-bytes : (l : List ℕ) (at n v : ℕ) {xs m : List ℕ} {r : (Result (Unit {0}) Refusal)} → xs ≡ bytes_low_first 0 n v → r ≡ stored_of l at (length xs)
+    → m ≡ store l at xs → (r ≡ stored_of l at n) × (m ≡ store l at (le_bytes n v))
+stored-bytes l at n v {xs} e p q =
+    let one : v / 256 ^ 0 ≡ v = div-one v in
+    let f : xs ≡ le_bytes n v = rw one at (e ∙ bytes_low_first-le_bytes n 0 v) in
+    let k : length xs ≡ n = rw f (length-le_bytes n v) in
+    (rw k at p, rw f at q)

@@ -1,14 +1,9 @@
--- What a store answers, and document 01's number for it.
-use Rattle.std.specs.Prelude.{List, ℕ, ◌+◌, leb, length}
+-- What a store answers: refusal 1, "a wrong area length", where it does not fit.
+use Rattle.std.specs.Prelude.{Err, Ok, Result, List, ℕ, ◌+◌, leb, length}
+use Rattle.refusal.specs.declared.Refusal.{Refusal}
+use Rattle.refusal.specs.declared.Refusal.TheVariants as refusal
 use Rattle.le.specs.Choice.{pick}
-use Rattle.le.specs.declared.Stored.{Stored}
-use Rattle.le.specs.declared.Stored.TheVariants.{Done, Area}
 
 -- a store of n bytes at `at` is done where it fits
-abbrev pub stored_of : List ℕ → ℕ → ℕ → Stored
-stored_of l at n = pick (leb (at + n) (length l)) Done Area
-
--- refusal 1, "a wrong area length"; 0 is none
-abbrev pub stored_refusal : Stored → ℕ
-stored_refusal Done = 0
-stored_refusal Area = 1
+abbrev pub stored_of : List ℕ → ℕ → ℕ → Result (Unit {0}) Refusal
+stored_of l at n = pick (leb (at + n) (length l)) (Ok tt) (Err refusal.Area)

@@ -9,19 +9,18 @@ use native.Mathlib.Omega.{arith}
 use borrow.Author.Tests.{le-leb, lt-leb, eq-eqb, ne_eqb}
 use lib.ListN.{length, take, drop, get_or, length-take, length-drop}
 use lib.Seq.{take_all, take-suc, get_or-take}
+use Rattle.std.specs.Prelude.{None, Option, Result, Some}
 use Rattle.le.specs.Choice.{pick}
 use Rattle.le.specs.Le.{field, whole_field}
 use Rattle.le.proofs.Compare.{no_test}
 use Rattle.le.proofs.Tests.{le-or-lt}
 use Rattle.le.proofs.Stores.{get-put}
 use Rattle.refusal.specs.declared.Refusal.TheVariants as refusal
+use Rattle.refusal.specs.declared.Refusal.{Refusal}
 use Rattle.frame.specs.Frame.{frame_at, frame_header, body_of}
 use Rattle.wal.specs.Recovery.{chunks, chunk_at, readable, Recovered, recovered, frame_count_of, wal_of, open_log}
 use Rattle.frame.specs.declared.FrameHeader.{FrameHeader}
 use Rattle.wal.specs.declared.Wal.{Wal}
-use Rattle.wal.specs.declared.LastCommit.{LastCommit}
-use Rattle.wal.specs.declared.LastCommit.TheVariants as commit
-use Rattle.wal.specs.declared.WalOpened.{WalOpened}
 use Rattle.wal.proofs.Places.{get-chunk}
 use Rattle.wal.proofs.Recovered.{frames-front, frame-readable, stopped-unreadable}
 use Rattle.wal.proofs.Opening.{frame_count_of-most}
@@ -104,11 +103,11 @@ module _ {n at : ℕ} {l after : List ℕ} {end : ℕ} where
   unfolding frame_line
   frame-added i h f e a = rw e at a
 
-  pub count-added : (k : ℕ) (last : LastCommit) → last ≡ commit.Count k → Added n l at (number_text k) after end → Added n l at (last_text last) after end
+  pub count-added : (k : ℕ) (last : Option ℕ) → last ≡ Some k → Added n l at (number_text k) after end → Added n l at (last_text last) after end
   unfolding last_text
   count-added k last e a = rw e a
 
-  pub none-added : (last : LastCommit) → last ≡ commit.Nothing → Added n l at (32 ∷ 45 ∷ []) after end → Added n l at (last_text last) after end
+  pub none-added : (last : Option ℕ) → last ≡ None → Added n l at (32 ∷ 45 ∷ []) after end → Added n l at (last_text last) after end
   unfolding last_text
   none-added last e a = rw e a
 
@@ -122,7 +121,7 @@ module _ {n at : ℕ} {l after : List ℕ} {end : ℕ} where
   unfolding listing
   long-added file h a = rw (lt-leb _ _ h) a
 
-  pub listing-added : (file : List ℕ) (o : WalOpened) → length file ≤ 61712 → open_log file ≡ o → Added n l at (listing_of file o) after end
+  pub listing-added : (file : List ℕ) (o : Result Wal Refusal) → length file ≤ 61712 → open_log file ≡ o → Added n l at (listing_of file o) after end
       → Added n l at (listing file) after end
   unfolding listing
   listing-added file o h e a = rw (le-leb _ _ h, e) a

@@ -1,5 +1,5 @@
 -- The lines that document 01 prints of a log, as bytes: "The program `loglist` reads a log ..".
-use Rattle.std.specs.Prelude.{List, [], ◌∷◌, ◌++◌, ℕ, zero, suc, ◌+◌, ◌/◌, ◌%◌, leb, ltb, eqb, length}
+use Rattle.std.specs.Prelude.{Err, None, Ok, Option, Result, Some, List, [], ◌∷◌, ◌++◌, ℕ, zero, suc, ◌+◌, ◌/◌, ◌%◌, leb, ltb, eqb, length}
 use Rattle.le.specs.Choice.{pick}
 use Rattle.le.specs.Le.{field}
 use Rattle.io.specs.Digits.{last_digits}
@@ -9,10 +9,7 @@ use Rattle.refusal.specs.declared.Refusal.TheVariants as refusal
 use Rattle.frame.specs.Frame.{body_of}
 use Rattle.wal.specs.Recovery.{batch_page, page_of, commit_count, Recovered, recovered, frame_count_of, commit_point, last_commit_of, open_log}
 use Rattle.wal.specs.declared.WalHeader.{WalHeader}
-use Rattle.wal.specs.declared.LastCommit.{LastCommit}
-use Rattle.wal.specs.declared.LastCommit.TheVariants as commit
-use Rattle.wal.specs.declared.WalOpened.{WalOpened}
-use Rattle.wal.specs.declared.WalOpened.TheVariants as opened
+use Rattle.wal.specs.declared.Wal.{Wal}
 
 -- ---- pieces
 
@@ -76,12 +73,12 @@ frame_lines i [] = []
 frame_lines i (f ∷ fs) = frame_line i f ++ frame_lines (i + 1) fs
 
 -- "last commit count or `-`"
-unfoldable pub last_text : LastCommit → List ℕ
-last_text commit.Nothing = word_none
-last_text (commit.Count n) = number_text n
+unfoldable pub last_text : Option ℕ → List ℕ
+last_text None = word_none
+last_text (Some n) = number_text n
 
 -- "End: frame count, commit point, last commit count or `-`"
-unfoldable pub end_line : ℕ → ℕ → LastCommit → List ℕ
+unfoldable pub end_line : ℕ → ℕ → Option ℕ → List ℕ
 end_line frames point last = word_end ++ number_text frames ++ number_text point ++ last_text last ++ newline
 
 -- "A refused header: `refused` and the number"
@@ -95,9 +92,9 @@ unfoldable pub opened_text : Recovered → List ℕ
 opened_text r = log_line r.header ++ frame_lines 0 r.frames ++ end_line (frame_count_of r) (commit_point r) (last_commit_of r)
 
 -- of what opening says
-abbrev pub listing_of : List ℕ → WalOpened → List ℕ
-listing_of l (opened.Opened w) = opened_text (recovered l)
-listing_of l (opened.Refused r) = refused_line r
+abbrev pub listing_of : List ℕ → Result Wal Refusal → List ℕ
+listing_of l (Ok w) = opened_text (recovered l)
+listing_of l (Err r) = refused_line r
 
 -- "reads a log of at most 61,712 bytes (15 frames) ..; a longer one prints `refused 1`"
 unfoldable pub listing : List ℕ → List ℕ

@@ -11,7 +11,7 @@ ghost use Rattle.log_listing.specs.Answer.{Added, listed_answer, listed_after};
 use frame::FRAME_SIZE;
 use mvcc::MVCC_FRAME_MARKER;
 use refusal::Refusal;
-use wal::{LastCommit, WAL_HEADER_SIZE, Wal, WalHeader, WalOpened};
+use wal::{WAL_HEADER_SIZE, Wal, WalHeader};
 
 // The longest log that is listed: the header and 15 frames.
 pub const LISTED_SIZE: usize = 61_712;
@@ -24,7 +24,7 @@ fn add_text(out: &mut [u8], at: usize, text: &[u8]) -> usize
     requires { at + length text.now ≤ length out.old }
     ensures { Added (length text.now) out.old at text.now out.new result }
 {
-    le::write_bytes(out, at, text);
+    let _ = le::write_bytes(out, at, text);
     at + text.len()
 }
 
@@ -54,7 +54,7 @@ fn add_salt(out: &mut [u8], at: usize, salt: u32) -> usize
 {
     let end = add_text(out, at, b" ");
     let mut digits = [0u8; 16];
-    let k = io::hex(salt as u64, 8, &mut digits);
+    let k = io::hex(u64::from(salt), 8, &mut digits);
     add_text(out, end, &digits[..k])
 }
 
@@ -64,9 +64,9 @@ fn add_header(out: &mut [u8], at: usize, header: WalHeader) -> usize
     ensures { Added 76 out.old at (log_line header) out.new result }
 {
     let word = add_text(out, at, b"log");
-    let version = add_number(out, word, header.version as u64);
+    let version = add_number(out, word, u64::from(header.version));
     let salt = add_salt(out, version, header.salt);
-    let seq = add_number(out, salt, header.checkpoint_seq as u64);
+    let seq = add_number(out, salt, u64::from(header.checkpoint_seq));
     let clock = add_number(out, seq, header.clock_high_water);
     add_text(out, clock, b"\n")
 }
@@ -79,10 +79,10 @@ fn add_kind(file: &[u8], offset: usize, page_num: u32, out: &mut [u8], at: usize
     if page_num == MVCC_FRAME_MARKER {
         let records = le::read_u16(frame::frame_body(file, offset), 16);
         let word = add_text(out, at, b" batch");
-        return add_number(out, word, records as u64);
+        return add_number(out, word, u64::from(records));
     }
     let word = add_text(out, at, b" page");
-    add_number(out, word, page_num as u64)
+    add_number(out, word, u64::from(page_num))
 }
 
 // Adds the line of a frame.
@@ -93,7 +93,7 @@ fn add_frame(file: &[u8], offset: usize, index: usize, out: &mut [u8], at: usize
     let header = frame::read_frame_header(file, offset);
     let first = add_decimal(out, at, index as u64);
     let kind = add_kind(file, offset, header.page_num, out, first);
-    let count = add_number(out, kind, header.commit_page_count as u64);
+    let count = add_number(out, kind, u64::from(header.commit_page_count));
     add_text(out, count, b"\n")
 }
 
@@ -103,26 +103,24 @@ fn add_frames(file: &[u8], count: usize, out: &mut [u8], at: usize) -> usize
     ensures { Added 1035 out.old at (frame_lines 0 (recovered file.now).frames) out.new result }
 {
     let mut end = at;
-    let mut i = 0;
-    while i < count {
+    for i in 0..count {
         let offset = WAL_HEADER_SIZE + FRAME_SIZE * i;
         if !wal::is_readable(file, offset) {
             return end;
         }
         end = add_frame(file, offset, i, out, end);
-        i += 1;
     }
     end
 }
 
 // Adds the last commit count, or `-`.
-fn add_last(out: &mut [u8], at: usize, last: LastCommit) -> usize
+fn add_last(out: &mut [u8], at: usize, last: Option<u32>) -> usize
     requires { at + 21 ≤ length out.old }
     ensures { Added 21 out.old at (last_text last) out.new result }
 {
     match last {
-        LastCommit::Count(count) => add_number(out, at, count as u64),
-        LastCommit::Nothing => add_text(out, at, b" -"),
+        Some(count) => add_number(out, at, count as u64),
+        None => add_text(out, at, b" -"),
     }
 }
 
@@ -157,7 +155,7 @@ fn add_refused(out: &mut [u8], row: Refusal) -> usize
     ensures { Added 2048 out.old 0 (refused_line row) out.new result }
 {
     let word = add_text(out, 0, b"refused");
-    let end = add_number(out, word, refusal::number(row) as u64);
+    let end = add_number(out, word, u64::from(refusal::number(row)));
     add_text(out, end, b"\n")
 }
 
@@ -170,26 +168,17 @@ fn add_listing(file: &[u8], out: &mut [u8]) -> usize
         return add_refused(out, Refusal::Area);
     }
     match Wal::open(file) {
-        WalOpened::Opened(wal) => add_opened(file, wal, out),
-        WalOpened::Refused(row) => add_refused(out, row),
+        Ok(wal) => add_opened(file, wal, out),
+        Err(row) => add_refused(out, row),
     }
 }
 
-// What listing answers.
-#[derive(Clone, Copy)]
-pub enum Listed {
-    // How many bytes were written.
-    Bytes(usize),
-    // Area: the buffer is too short, and stays as it was.
-    Refused(Refusal),
-}
-
-// Writes the listing of a log at the front of `out`.
-pub fn list_log(file: &[u8], out: &mut [u8]) -> Listed
+// Writes the listing of a log at the front of `out`, and answers its length; a buffer that is too short is refused (Area) and stays as it was.
+pub fn list_log(file: &[u8], out: &mut [u8]) -> Result<usize, Refusal>
     ensures { (result ≡ listed_answer file.now out.old) × (out.new ≡ listed_after file.now out.old) }
 {
     if out.len() < LISTING_SIZE {
-        return Listed::Refused(Refusal::Area);
+        return Err(Refusal::Area);
     }
-    Listed::Bytes(add_listing(file, out))
+    Ok(add_listing(file, out))
 }

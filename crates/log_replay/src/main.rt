@@ -1,8 +1,8 @@
 // Replays the list of logs (compare/README.md).
 #![tactic(auto)]
 
-use replay_lists::List;
+use replay_lists::Logs;
 
 fn main(rt: HostRuntime) {
-    replay_lists::run(&rt, List::Logs);
+    replay_lists::run::<Logs>(&rt);
 }

@@ -1,8 +1,7 @@
 // Lists the log on standard input in document 01's lines.
 #![tactic(auto)]
 
-use input::Input;
-use log_listing::{LISTED_SIZE, LISTING_SIZE, Listed};
+use log_listing::{LISTED_SIZE, LISTING_SIZE};
 
 // One byte more than is listed, so that a longer log is noticed.
 const LOG_SIZE: usize = LISTED_SIZE + 1;
@@ -10,27 +9,24 @@ const LOG_SIZE: usize = LISTED_SIZE + 1;
 fn main(rt: HostRuntime) {
     let mut space = [0u8; LOG_SIZE];
     match input::read_full(&mut rt.stdin(), &mut space) {
-        Input::Bytes(n) => list(&rt, le::part(&space, 0, n)),
-        Input::Failed => not_read(&rt),
+        Ok(n) => list(&rt, &space[..n]),
+        Err(e) => {
+            let _ = eprintln!(rt; "loglist: {e}");
+        }
     }
-}
-
-// Says that the log could not be read.
-fn not_read(rt: &impl Eprint) {
-    let _ = rt.eprint("loglist: reading standard input failed\n");
 }
 
 fn list(rt: &(impl Print + Eprint), log: &[u8]) {
     let mut out = [0u8; LISTING_SIZE];
     match log_listing::list_log(log, &mut out) {
-        Listed::Bytes(end) => print(rt, le::part(&out, 0, end)),
-        Listed::Refused(_) => print(rt, b""),
+        Ok(end) => print(rt, le::part(&out, 0, end)),
+        Err(_) => print(rt, b""),
     }
 }
 
 // Prints a text, or says that it could not be written.
 fn print(rt: &(impl Print + Eprint), text: &[u8]) {
     if rt.write_all(text).is_err() {
-        let _ = rt.eprint("loglist: writing standard output failed\n");
+        let _ = eprintln!(rt; "loglist: writing standard output failed");
     }
 }

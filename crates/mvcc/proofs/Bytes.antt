@@ -1,24 +1,39 @@
 -- Lists whose elements are bytes, and how large their fields are. Assumes nothing.
 use mathlib.Core.List.{List, [], ◌∷◌, ◌++◌}
 use mathlib.Core.Logic.{⊎_elim}
-use Prim.Native.Nat.{ℕ, zero, suc, ◌+◌, ◌/◌, ◌^◌, ◌<◌}
+use Prim.Native.Nat.{ℕ, zero, suc, ◌+◌, ◌-◌, ◌*◌, ◌/◌, ◌^◌, ◌≤◌, ◌<◌}
 use native.Mathlib.Nat.{pow-succ', one-le-pow}
 use native.Mathlib.Omega.{arith}
 use lib.Dec.{lit<}
-use lib.ListN.{length, take, drop, replicate}
+use lib.ListN.{length, get_or, take, drop, replicate}
+use mathlib.Core.Path.{◌≡◌}
 use Rattle.le.specs.Le.{Bytes, le_of, le_bytes, field}
 use Rattle.le.proofs.Tests.{le-or-lt}
 use Rattle.le.proofs.Fields.{field-none, field-cons}
 
--- a field of n bytes is below 256 ^ n
-pub field-small : (n at : ℕ) (l : List ℕ) → Bytes l → field n at l < 256 ^ n
+-- a field of n bytes is below 256 ^ m, for every m that is no less than n
+pub field-below : (n m at : ℕ) (l : List ℕ) → n ≤ m → Bytes l → field n at l < 256 ^ m
 unfolding le_of
-field-small zero at l b = lit< tt
-field-small (suc n) at l b =
+field-below zero m at l h b = one-le-pow m 256 (lit< tt)
+field-below (suc n) zero at l h b = absurd (omega (arith, h))
+field-below (suc n) (suc m) at l h b =
     ⊎_elim
-    (λ h. rw (field-none (suc n) at l h) (one-le-pow (suc n) 256 (lit< tt)))
-    (λ h. rw (field-cons n at l h, pow-succ') (omega (arith, b at, field-small n (at + 1) l b)))
+    (λ k. rw (field-none (suc n) at l k) (one-le-pow (suc m) 256 (lit< tt)))
+    (λ k. rw (field-cons n at l k, pow-succ') (omega (arith, b at, field-below n m (at + 1) l (omega (arith, h)) b)))
     (le-or-lt (length l) at)
+
+pub field-small : (n at : ℕ) (l : List ℕ) → Bytes l → field n at l < 256 ^ n
+field-small n at l b = field-below n n at l (omega arith) b
+
+-- a field with the byte before it
+pub field-before : (n i at : ℕ) (l : List ℕ) → 0 < i → i ≤ n → at + n ≤ length l
+    → 256 * field (n - i) (at + i) l + get_or l (at + (i - 1)) 0 ≡ field (n - (i - 1)) (at + (i - 1)) l
+field-before n i at l a b h =
+    let k : suc (n - i) ≡ n - (i - 1) = omega arith in
+    let j : at + (i - 1) + 1 ≡ at + i = omega arith in
+    let r = field-cons (n - i) (at + (i - 1)) l (omega arith) in
+    let q = rw (k, j) at r in
+    omega (arith, q)
 
 pub bytes-none : Bytes []
 bytes-none i = lit< tt

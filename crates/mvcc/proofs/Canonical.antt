@@ -2,10 +2,11 @@
 use mathlib.Core.Path.{◌≡◌, sym, ap, ◌∙◌}
 use mathlib.Core.Bool.{true}
 use mathlib.Core.List.{List, ◌++◌}
-use mathlib.Core.Option.{none}
 use Prim.Native.Nat.{ℕ, ◌-◌, ◌≤◌}
 use native.Mathlib.Omega.{arith}
 use lib.ListN.{length, replicate, length-append, length-replicate}
+use Rattle.std.specs.Prelude.{Ok}
+use Rattle.std.specs.Prelude.{None}
 use Rattle.le.specs.Le.{Bytes}
 use Rattle.refusal.specs.Refusal.{accepts, number_of}
 use Rattle.refusal.proofs.Rows.{accepted}
@@ -13,7 +14,6 @@ use Rattle.refusal.proofs.Judged.{accepts-none}
 use Rattle.mvcc.specs.Decode.{batch_of}
 use Rattle.mvcc.specs.Batch.{Rec, encode_batch, padded, encode_body, GoodBatch}
 use Rattle.mvcc.specs.Seen.{decode_refusal, refusal_of, decodes, commit_ts_of, records, canonical}
-use Rattle.mvcc.specs.declared.BatchDecoded.TheVariants as batch
 use Rattle.mvcc.proofs.Bytes.{bytes-append, bytes-zeros}
 use Rattle.mvcc.proofs.Whole.{time-read, encoded-decodes, encoded-records, encoded-batch, held-good, held-size, held_bytes, held-batch}
 
@@ -33,7 +33,7 @@ module _ (t : ℕ) (rs : List Rec) (pad : List ℕ) (g : GoodBatch t rs) where
   records-encode = encoded-records t rs pad g
 
   -- decoding ends behind its bytes
-  pub batch_of-encode : batch_of (encode_batch t rs ++ pad) ≡ batch.Batch (record { commit_ts = t; records = length rs; end = length (encode_batch t rs) })
+  pub batch_of-encode : batch_of (encode_batch t rs ++ pad) ≡ Ok (record { commit_ts = t; records = length rs; end = length (encode_batch t rs) })
   batch_of-encode = encoded-batch t rs pad g
 
 -- ---- the body that `encode` writes
@@ -65,11 +65,11 @@ module _ (t : ℕ) (rs : List Rec) (g : GoodBatch t rs) where
 
 -- it has no refusal, and no number
 module _ (s : List ℕ) where
-  pub decodes-none : decodes s ≡ true → decode_refusal s ≡ none
+  pub decodes-none : decodes s ≡ true → decode_refusal s ≡ None
   unfolding decodes
   decodes-none d = accepts-none (decode_refusal s) d
 
-  pub none-decodes : decode_refusal s ≡ none → decodes s ≡ true
+  pub none-decodes : decode_refusal s ≡ None → decodes s ≡ true
   unfolding decodes
   none-decodes e = ap accepts e
 
@@ -91,7 +91,7 @@ module _ (s : List ℕ) (sb : Bytes s) (d : decodes s ≡ true) where
   encode-length = held-size s sb d
 
   pub batch_of-is : batch_of s
-      ≡ batch.Batch (record { commit_ts = commit_ts_of s; records = length (records s); end = length (encode_batch (commit_ts_of s) (records s)) })
+      ≡ Ok (record { commit_ts = commit_ts_of s; records = length (records s); end = length (encode_batch (commit_ts_of s) (records s)) })
   batch_of-is = held-batch s sb d
 
   -- its canonical form decodes, to the same commit time and the same records

@@ -5,10 +5,10 @@ use Prim.Native.Nat.{ℕ, zero, suc, ◌+◌, ◌*◌, ◌≤◌, ◌<◌}
 use native.Mathlib.Omega.{arith}
 use borrow.Author.Tests.{le-leb, lt-ltb}
 use lib.ListN.{length, get_or}
+use Rattle.std.specs.Prelude.{Some}
 use Rattle.le.specs.Le.{field}
 use Rattle.mvcc.specs.Seen.{words}
 use Rattle.mvcc.specs.Vector.{bits_at}
-use Rattle.mvcc.specs.declared.ElementBits.TheVariants as bits
 
 pub words-at : (s : List ℕ) (n at i : ℕ) → i < n → get_or (words s n at) i 0 ≡ field 4 (at + 4 * i) s
 unfolding words
@@ -21,7 +21,7 @@ words-at s (suc n) at (suc i) h =
 
 -- every element of a vector that lies in the body is there, with the bits that the value shows
 pub bits_at-words : (s : List ℕ) (start count i : ℕ) → start + count * 4 ≤ length s → i < count
-    → bits_at s start count i ≡ bits.Bits (get_or (words s count start) i 0)
+    → bits_at s start count i ≡ Some (get_or (words s count start) i 0)
 unfolding bits_at
 bits_at-words s start count i h k =
     let r : start + 4 * i + 4 ≤ length s = omega arith in

@@ -51,25 +51,19 @@ module _ {A : Type 0} (f : ℕ → Answer A) (n : ℕ → ℕ) where
   pub items-least : (so left at : ℕ) {z : ℕ} → 0 < left → so + many_items f n left at ≡ z → so + n at ≤ z
   items-least so left at h i = let r = rw (items-step left at h) at i in omega (arith, r)
 
--- those of columns, of which `count - left` were read
-module _ (s : List ℕ) (count left at : ℕ) (some : 0 < left) (few : left ≤ count) {z : ℕ}
-    (i : count - left + many_items (column_at s) (column_items s) left at ≡ z) where
-  pub columns-on : {next : ℕ} {c : Column} → column_at s at ≡ taken c next → count - (left - 1) + many_items (column_at s) (column_items s) (left - 1) next ≡ z
+-- those of columns, of which `so` were read
+module _ (s : List ℕ) (so left at : ℕ) (some : 0 < left) {z : ℕ} (i : so + many_items (column_at s) (column_items s) left at ≡ z) where
+  pub columns-on : {next : ℕ} {c : Column} → column_at s at ≡ taken c next → so + 1 + many_items (column_at s) (column_items s) (left - 1) next ≡ z
   unfolding column_items
-  columns-on {next} e =
+  columns-on e =
       let k : column_items s at ≡ 1 = rw e in
-      let n : count - left + 1 ≡ count - (left - 1) = omega (arith, some, few) in
-      rw (k, n) at (items-on (column_at s) (column_items s) (count - left) left at some e i)
+      rw k at (items-on (column_at s) (column_items s) so left at some e i)
 
-  pub columns-off : {k : Refusal} → column_at s at ≡ refused k → count - left ≡ z
+  pub columns-off : {k : Refusal} → column_at s at ≡ refused k → so ≡ z
   unfolding column_items
   columns-off e =
       let k : column_items s at ≡ 0 = rw e in
-      let n : count - left + 0 ≡ count - left = omega arith in
-      rw (k, n) at (items-off (column_at s) (column_items s) (count - left) left at some e i)
-
-pub columns-done : (s : List ℕ) (count left at : ℕ) {z : ℕ} → left ≤ 0 → count - left + many_items (column_at s) (column_items s) left at ≡ z → count ≡ z
-columns-done s count left at h i = omega (arith, h, items-done (column_at s) (column_items s) (count - left) left at h i)
+      omega (arith, rw k at (items-off (column_at s) (column_items s) so left at some e i))
 
 -- ---- an answer and its items, side by side
 
@@ -264,6 +258,11 @@ weighs-fit at end n (several h) = omega arith
 
 pub items-fit : (s : List ℕ) (k at : ℕ) → many_items (record_at s) (record_items s) k at ≤ length s
 items-fit s k at = weighs-fit at (length s) (many_items (record_at s) (record_items s) k at) (records-weight s k at)
+
+-- so are those of the records that a loop has read, and the one that it is at
+pub items-room : (s : List ℕ) (k first so left at : ℕ) → 0 < left
+    → so + many_items (record_at s) (record_items s) left at ≡ many_items (record_at s) (record_items s) k first → so + record_items s at ≤ length s
+items-room s k first so left at h i = omega (arith, items-least (record_at s) (record_items s) so left at h i, items-fit s k first)
 
 pub most-by : (P : ℕ → Type 0) (room : ℕ) → (room < 11 → P 0) → (room < 13 → 11 ≤ room → P 1) → (13 ≤ room → P (1 + (room - 13) / 3)) → P (most_items room)
 most-by P room a b c =

@@ -1,42 +1,32 @@
 -- Laws of answers and of the decoding definitions, as the functions' proofs cite them. Assumes nothing.
-use mathlib.Core.Path.{◌≡◌, refl, sym, ap, ◌∙◌}
+use mathlib.Core.Path.{◌≡◌, refl, sym, ◌∙◌}
 use mathlib.Core.Bool.{Bool, true, false}
 use mathlib.Core.List.{List, ◌∷◌}
 use Prim.Native.Nat.{ℕ, zero, suc, ◌+◌, ◌-◌, ◌%◌, ◌^◌, ◌≤◌, ◌<◌}
-use native.Mathlib.Nat.{zero-add}
 use native.Mathlib.Numerals.{sub-one}
 use native.Mathlib.Omega.{arith}
-use borrow.Author.Tests.{le-leb, lt-leb, le-ltb, lt-ltb, leb-true, eq-eqb, ne_eqb}
+use borrow.Author.Tests.{le-ltb, lt-ltb, leb-true}
 use lib.ListN.{length, take, drop, length-take, length-drop}
-use lib.IntN.{pos, negsuc, ◌-ℤ◌}
+use lib.IntN.{ℤ, pos, negsuc}
 use lib.Ieee.{binary32, binary64, nan_bits}
 use lib.Ieee.Bits.{nan_bits_above}
-use mir.Val.{to_z, SFits}
-use mir.ValLaws.{to_z_pos}
+use mir.Val.{of_z, to_z, sel, SFits}
+use mir.ValLaws.{to_z-of_z}
 use mir.Syntax.{w64}
+use Rattle.std.specs.Prelude.{Option, None, Some, Ok, Err}
+use lib.Dec.{leb, ltb}
 use Rattle.le.specs.Choice.{pick}
 use Rattle.le.specs.Le.{field, whole_field}
 use Rattle.le.proofs.Fields.{field-whole}
 use Rattle.text.specs.Utf8.{well_formed, chars}
 use Rattle.text.proofs.Answers.{counted-well, counted-ill, empty-well, empty-chars}
 use Rattle.refusal.specs.declared.Refusal.{Refusal}
-use Rattle.refusal.specs.declared.Refusal.TheVariants.{Short, Magic, Truncated, Text}
-use Rattle.mvcc.specs.Answer.{Answer, taken, refused, then, many, why}
-use Rattle.mvcc.specs.Decode.{fits_in, num_at, text_of, text_at, signed, record_at, batch_magic, records_at, batch_end, heading_refusal, batch_of}
+use Rattle.refusal.specs.declared.Refusal.TheVariants.{Short, Truncated, Text}
+use Rattle.refusal.specs.Refusal.{unless}
+use Rattle.mvcc.specs.Answer.{Answer, taken, refused, then, many}
+use Rattle.mvcc.specs.Decode.{fits_in, num_at, text_of, text_at, signed, record_at, records_at, batch_end, heading_refusal, batch_of}
 use Rattle.mvcc.specs.declared.TextPlace.{TextPlace}
 use Rattle.mvcc.specs.declared.MvccLogRecord.{MvccLogRecord}
-use Rattle.mvcc.specs.declared.BatchDecoded.TheVariants as batch
-
--- ---- answers
-
--- what a let-else learns of the definition, where the answer r turned out to be t
-pub told : {R A : Type 0} (view : R → Answer A) {r t : R} {x : Answer A} → view r ≡ x → r ≡ t → x ≡ view t
-told view e f = sym e ∙ ap view f
-
--- a refusal is passed on
-pub passed : {R A : Type 0} (view : R → Answer A) {r t : R} {x : Answer A} {w : Refusal}
-    → view r ≡ x → r ≡ t → w ≡ why (view r) → view t ≡ refused (why (view t)) → x ≡ refused w
-passed view e f g h = told view e f ∙ h ∙ sym (ap refused (g ∙ ap (λ (u : _). why (view u)) f))
 
 -- ---- runs
 
@@ -103,19 +93,16 @@ module _ (k : ℕ) (s : List ℕ) (at : ℕ) where
 
 -- ---- signed numbers and floats
 
-minus_one : (m : ℕ) → negsuc 0 -ℤ pos m ≡ negsuc m
-minus_one zero = refl
-minus_one (suc k) = ap (λ (x : ℕ). negsuc (suc x)) (zero-add k)
+signed-cases : (b : Bool) (n : ℕ) → sel b (pos n) (negsuc (2 ^ 64 - suc n)) ≡ pick b (pos n) (negsuc (0xffff_ffff_ffff_ffff - n))
+signed-cases true n = refl
+signed-cases false n = let e : 2 ^ 64 - suc n ≡ 0xffff_ffff_ffff_ffff - n = omega arith in rw e
+
+-- the library's reading of 64 bits as a signed number
+pub cast-signed : {z : ℤ} (n : ℕ) → SFits w64 z → z ≡ to_z w64 n → to_z w64 (of_z w64 z) ≡ signed n
+unfolding signed
+cast-signed {z} n f e = to_z-of_z w64 z f ∙ e ∙ signed-cases (ltb n (2 ^ 63)) n
 
 module _ (n : ℕ) where
-  pub signed_low : n < 2 ^ 63 → to_z w64 n ≡ signed n
-  unfolding signed
-  signed_low h = to_z_pos w64 n h ∙ rw (lt-ltb n (2 ^ 63) h)
-
-  pub signed_high : 2 ^ 63 ≤ n → n < 2 ^ 64 → negsuc 0 -ℤ to_z w64 (0xffff_ffff_ffff_ffff - n) ≡ signed n
-  unfolding signed
-  signed_high a b = rw (to_z_pos w64 (0xffff_ffff_ffff_ffff - n) (omega arith), le-ltb n (2 ^ 63) a) (minus_one _)
-
   pub signed-fits-high : 2 ^ 63 ≤ n → n < 2 ^ 64 → SFits w64 (signed n)
   unfolding signed
   signed-fits-high a b = rw (le-ltb n (2 ^ 63) a) (record { sfits = omega arith })
@@ -179,39 +166,41 @@ module _ (s : List ℕ) (at : ℕ) {op named : ℕ} (o : num_at 1 s at ≡ taken
 -- ---- the heading of a batch
 
 end-good : {t n at : ℕ} (x : Answer (List MvccLogRecord)) → ends x ≡ taken tt at
-    → batch.Batch (record { commit_ts = t; records = n; end = at }) ≡ batch_end t n x
+    → Ok (record { commit_ts = t; records = n; end = at }) ≡ batch_end t n x
 end-good {t} {n} {at} (taken l end) e = let q : at ≡ end = cc in rw q
 end-good (refused k) e = let z : ◌≡◌ {A = ℕ} 0 1 = cc in absurd (omega arith)
 
-end-bad : (t n : ℕ) {k : Refusal} (x : Answer (List MvccLogRecord)) → ends x ≡ refused k → batch.Refused k ≡ batch_end t n x
+end-bad : (t n : ℕ) {k : Refusal} (x : Answer (List MvccLogRecord)) → ends x ≡ refused k → Err k ≡ batch_end t n x
 end-bad t n (taken l end) e = let z : ◌≡◌ {A = ℕ} 0 1 = cc in absurd (omega arith)
 end-bad t n {k} (refused j) e = let q : k ≡ j = cc in rw q
 
 module _ (s : List ℕ) where
-  pub batch-short : length s < 18 → batch.Refused Short ≡ batch_of s
-  unfolding batch_of heading_refusal
-  batch-short h = rw (lt-leb 18 (length s) h)
+  -- what the heading is refused for refuses the body
+  pub batch-refused : {k : Refusal} → heading_refusal s ≡ Some k → Err k ≡ batch_of s
+  unfolding batch_of
+  batch-refused e = rw e
 
-  pub batch-alien : 18 ≤ length s → (whole_field 8 0 s ≡ batch_magic → ⊥) → batch.Refused Magic ≡ batch_of s
-  unfolding batch_of heading_refusal
-  batch-alien h m = rw (le-leb 18 (length s) h, ne_eqb (field 8 0 s) batch_magic (λ e. m (field-whole 8 0 s (omega arith) ∙ e)))
+  long-cases : (b : Bool) (rest : Option Refusal) → leb 18 (length s) ≡ b → unless b Short rest ≡ None → 18 ≤ length s
+  long-cases true rest t e = leb-true _ _ t
+  long-cases false rest t e = let z : ◌≡◌ {A = ℕ} 0 1 = cc in absurd (omega arith)
+
+  pub heading-long : heading_refusal s ≡ None → 18 ≤ length s
+  unfolding heading_refusal
+  heading-long e = long-cases (leb 18 (length s)) _ refl e
 
   -- a body with a good heading, by where its records end
-  module _ {t n : ℕ} (h : 18 ≤ length s) (m : whole_field 8 0 s ≡ batch_magic) (e : t ≡ whole_field 8 8 s) (f : n ≡ whole_field 2 16 s) where
-    leading : field 8 0 s ≡ batch_magic
-    leading = sym (field-whole 8 0 s (omega arith)) ∙ m
+  module _ {t n : ℕ} (h : heading_refusal s ≡ None) (e : t ≡ whole_field 8 8 s) (f : n ≡ whole_field 2 16 s) where
+    time-read : t ≡ field 8 8 s
+    time-read = e ∙ field-whole 8 8 s (omega (arith, heading-long h))
 
-    time : t ≡ field 8 8 s
-    time = e ∙ field-whole 8 8 s (omega arith)
-
-    count : n ≡ field 2 16 s
-    count = f ∙ field-whole 2 16 s (omega arith)
+    pub records-read : n ≡ field 2 16 s
+    records-read = f ∙ field-whole 2 16 s (omega (arith, heading-long h))
 
     pub batch-good : {at : ℕ} → ends (many (record_at s) n 18) ≡ taken tt at
-        → batch.Batch (record { commit_ts = t; records = n; end = at }) ≡ batch_of s
-    unfolding batch_of heading_refusal records_at
-    batch-good g = rw (← count, ← time, le-leb 18 (length s) h, eq-eqb _ _ leading) (end-good (many (record_at s) n 18) g)
+        → Ok (record { commit_ts = t; records = n; end = at }) ≡ batch_of s
+    unfolding batch_of records_at
+    batch-good g = rw (h, ← records-read, ← time-read) (end-good (many (record_at s) n 18) g)
 
-    pub batch-bad : {k : Refusal} → ends (many (record_at s) n 18) ≡ refused k → batch.Refused k ≡ batch_of s
-    unfolding batch_of heading_refusal records_at
-    batch-bad g = rw (← count, ← time, le-leb 18 (length s) h, eq-eqb _ _ leading) (end-bad t n (many (record_at s) n 18) g)
+    pub batch-bad : {k : Refusal} → ends (many (record_at s) n 18) ≡ refused k → Err k ≡ batch_of s
+    unfolding batch_of records_at
+    batch-bad g = rw (h, ← records-read, ← time-read) (end-bad t n (many (record_at s) n 18) g)

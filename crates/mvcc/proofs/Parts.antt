@@ -2,18 +2,17 @@
 use mathlib.Core.Path.{◌≡◌, refl, sym, ap, ◌∙◌}
 use mathlib.Core.Bool.{Bool, true, false}
 use mathlib.Core.List.{List}
-use Prim.Native.Nat.{ℕ, ◌+◌, ◌≤◌, ◌<◌}
+use Prim.Native.Nat.{ℕ, ◌+◌, ◌≤◌}
 use native.Mathlib.Omega.{arith}
-use borrow.Author.Tests.{le-leb, lt-leb, eq-eqb, ne_eqb}
 use lib.Dec.{eqb}
 use lib.ListN.{length}
+use Rattle.std.specs.Prelude.{None, Some, Result, Ok}
 use Rattle.le.specs.Choice.{pick}
-use Rattle.le.specs.Le.{field, whole_field}
-use Rattle.le.proofs.Fields.{field-whole}
+use Rattle.le.specs.Le.{whole_field}
 use Rattle.refusal.specs.declared.Refusal.{Refusal}
-use Rattle.refusal.specs.declared.Refusal.TheVariants.{Short, Magic, Tag}
+use Rattle.refusal.specs.declared.Refusal.TheVariants.{Tag}
 use Rattle.mvcc.specs.Answer.{Answer, taken, refused, then, many}
-use Rattle.mvcc.specs.Decode.{num_at, text_at, signed, column_at, present_at, judged_at, record_at, batch_magic, heading_refusal, batch_of}
+use Rattle.mvcc.specs.Decode.{num_at, text_at, signed, column_at, present_at, judged_at, record_at, heading_refusal, batch_of}
 use Rattle.mvcc.specs.Batch.{body_size}
 use Rattle.mvcc.specs.Fields.{refused_batch}
 use Rattle.mvcc.specs.Items.{if_taken, many_items, column_items, present_items, judged_items, record_items, batch_items, report_of, body_items}
@@ -24,11 +23,10 @@ use Rattle.mvcc.specs.declared.RowID.{RowID}
 use Rattle.mvcc.specs.declared.VersionPayload.{VersionPayload}
 use Rattle.mvcc.specs.declared.VersionPayload.TheVariants as payload
 use Rattle.mvcc.specs.declared.MvccLogRecord.{MvccLogRecord}
-use Rattle.mvcc.specs.declared.BatchDecoded.{BatchDecoded}
-use Rattle.mvcc.specs.declared.BatchDecoded.TheVariants as batch
 use Rattle.mvcc.specs.declared.DecodeReport.{DecodeReport}
-use Rattle.mvcc.proofs.Laws.{ends, then-ends, batch-short, batch-alien, batch-good, batch-bad}
+use Rattle.mvcc.proofs.Laws.{ends, then-ends, records-read, batch-refused, batch-good, batch-bad}
 use Rattle.mvcc.proofs.Items.{items-4098}
+use Rattle.mvcc.specs.declared.MvccCommitBatch.{MvccCommitBatch}
 
 -- ---- one behind the other
 
@@ -47,22 +45,6 @@ taken_then (refused k) f g = refl
 taken-same : {A : Type 0} (x : Answer A) {f g : A → ℕ → ℕ} → ((a : A) (next : ℕ) → f a next ≡ g a next) → if_taken x f ≡ if_taken x g
 taken-same (taken a next) h = h a next
 taken-same (refused k) h = refl
-
--- ---- op, table and row id
-
-module _ (s : List ℕ) (at : ℕ) {op named : ℕ} (o : num_at 1 s at ≡ taken op named) where
-  pub table-refused : {k : Refusal} → text_at 2 s named ≡ refused k → refused k ≡ row_at s at
-  unfolding row_at
-  table-refused e = rw (o, e)
-
-  module _ {t : TextPlace} {next : ℕ} (e : text_at 2 s named ≡ taken t next) where
-    pub id-refused : {k : Refusal} → num_at 8 s next ≡ refused k → refused k ≡ row_at s at
-    unfolding row_at
-    id-refused f = rw (o, e, f)
-
-    pub row-taken : {n rest : ℕ} → num_at 8 s next ≡ taken n rest → taken (op, record { table = t; rowid = signed n }) rest ≡ row_at s at
-    unfolding row_at
-    row-taken f = rw (o, e, f)
 
 -- ---- what follows
 
@@ -156,10 +138,10 @@ module _ (s : List ℕ) where
 
 -- ---- a body's report
 
-abbrev report : BatchDecoded → ℕ → DecodeReport
+abbrev report : Result MvccCommitBatch Refusal → ℕ → DecodeReport
 report a n = record { answer = a; items = n }
 
-same-report : {a b : BatchDecoded} {m n : ℕ} → a ≡ b → m ≡ n → report a m ≡ report b n
+same-report : {a b : Result MvccCommitBatch Refusal} {m n : ℕ} → a ≡ b → m ≡ n → report a m ≡ report b n
 same-report e f = rw (e, f)
 
 -- its answer alone
@@ -171,32 +153,22 @@ module _ (s : List ℕ) where
   pub reported : {r : DecodeReport} → r ≡ report_of s → (r ≡ report_of s) × (length s ≤ body_size → r.items ≤ body_items)
   reported e = (e, λ h. rw e (items-4098 s (omega (arith, h))))
 
-  items-short : length s < 18 → 0 ≡ batch_items s
-  unfolding batch_items heading_refusal
-  items-short h = rw (lt-leb 18 (length s) h)
+  items-none : {k : Refusal} → heading_refusal s ≡ Some k → 0 ≡ batch_items s
+  unfolding batch_items
+  items-none e = rw e
 
-  items-alien : 18 ≤ length s → (whole_field 8 0 s ≡ batch_magic → ⊥) → 0 ≡ batch_items s
-  unfolding batch_items heading_refusal
-  items-alien h m = rw (le-leb 18 (length s) h, ne_eqb (field 8 0 s) batch_magic (λ e. m (field-whole 8 0 s (omega arith) ∙ e)))
+  pub report-refused : {k : Refusal} → heading_refusal s ≡ Some k → refused_batch k 0 ≡ report_of s
+  report-refused e = same-report (batch-refused s e) (items-none e)
 
-  pub report-short : length s < 18 → refused_batch Short 0 ≡ report_of s
-  report-short h = same-report (batch-short s h) (items-short h)
-
-  pub report-alien : 18 ≤ length s → (whole_field 8 0 s ≡ batch_magic → ⊥) → refused_batch Magic 0 ≡ report_of s
-  report-alien h m = same-report (batch-alien s h m) (items-alien h m)
-
-  module _ {t n : ℕ} (h : 18 ≤ length s) (m : whole_field 8 0 s ≡ batch_magic) (e : t ≡ whole_field 8 8 s) (f : n ≡ whole_field 2 16 s) where
+  module _ {t n : ℕ} (h : heading_refusal s ≡ None) (e : t ≡ whole_field 8 8 s) (f : n ≡ whole_field 2 16 s) where
     items-read : {i : ℕ} → i ≡ many_items (record_at s) (record_items s) n 18 → i ≡ batch_items s
-    unfolding batch_items heading_refusal
-    items-read k =
-        let l : field 8 0 s ≡ batch_magic = sym (field-whole 8 0 s (omega arith)) ∙ m in
-        let c : n ≡ field 2 16 s = f ∙ field-whole 2 16 s (omega arith) in
-        rw (← c, le-leb 18 (length s) h, eq-eqb _ _ l) k
+    unfolding batch_items
+    items-read k = rw (h, ← records-read s h e f) k
 
     pub report-good : {at i : ℕ} → ends (many (record_at s) n 18) ≡ taken tt at → i ≡ many_items (record_at s) (record_items s) n 18
-        → report (batch.Batch (record { commit_ts = t; records = n; end = at })) i ≡ report_of s
-    report-good g k = same-report (batch-good s h m e f g) (items-read k)
+        → report (Ok (record { commit_ts = t; records = n; end = at })) i ≡ report_of s
+    report-good g k = same-report (batch-good s h e f g) (items-read k)
 
     pub report-bad : {k : Refusal} {i : ℕ} → ends (many (record_at s) n 18) ≡ refused k → i ≡ many_items (record_at s) (record_items s) n 18
         → refused_batch k i ≡ report_of s
-    report-bad g k = same-report (batch-bad s h m e f g) (items-read k)
+    report-bad g k = same-report (batch-bad s h e f g) (items-read k)

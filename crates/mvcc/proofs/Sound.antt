@@ -47,7 +47,7 @@ pick-test P true f g = f refl
 pick-test P false f g = g refl
 
 -- a thing read at `at`, seen as something good whose encoding reaches to the next cursor
-pub record Ok {A B : Type 0} (Good : B → Type 0) (enc : B → List ℕ) (see : A → B) (s : List ℕ) (at : ℕ) (a : A) (next : ℕ) : Type 0 where
+pub record Faithful {A B : Type 0} (Good : B → Type 0) (enc : B → List ℕ) (see : A → B) (s : List ℕ) (at : ℕ) (a : A) (next : ℕ) : Type 0 where
   pub good : Good (see a)
   pub reach : at + length (enc (see a)) ≡ next
   pub within : next ≤ length s
@@ -82,7 +82,7 @@ module _ (s : List ℕ) (sb : Bytes s) where
   bytes-text k t b = bytes-append (le_bytes k (length t)) t (bytes-le_bytes k (length t)) b
 
   abbrev TextOk : ℕ → ℕ → TextPlace → ℕ → Type 0
-  TextOk k at = Ok (GoodText k) (encode_text k) (bytes_of s) s at
+  TextOk k at = Faithful (GoodText k) (encode_text k) (bytes_of s) s at
 
   text-good : (k at n next : ℕ) → Num k s at n next → next + n ≤ length s → well_formed (take n (drop next s)) ≡ true
       → TextOk k at (place_of s next n) (next + n)
@@ -120,7 +120,7 @@ module _ (s : List ℕ) (sb : Bytes s) where
   bytes-words (w ∷ ws) i = bytes-append (le_bytes 4 w) (all (le_bytes 4) ws) (bytes-le_bytes 4 w) (bytes-words ws) i
 
   abbrev ValueOk : ℕ → Value → ℕ → Type 0
-  ValueOk at = Ok GoodValue encode_value (seen s) s at
+  ValueOk at = Faithful GoodValue encode_value (seen s) s at
 
   -- what stands behind a tag at `at`
   module _ (at next : ℕ) (step : at + 1 ≡ next) (room : next ≤ length s) where
@@ -211,7 +211,7 @@ module _ (s : List ℕ) (sb : Bytes s) where
   -- ---- columns and records
 
   abbrev ColumnOk : ℕ → Column → ℕ → Type 0
-  ColumnOk at = Ok GoodColumn encode_column (seen_column s) s at
+  ColumnOk at = Faithful GoodColumn encode_column (seen_column s) s at
 
   column-good : (at : ℕ) (n : TextPlace) (next : ℕ) (v : Value) (end : ℕ) → TextOk 2 at n next → ValueOk next v end
       → ColumnOk at (record { name = n; value = v }) end
@@ -241,11 +241,11 @@ pub record Run {B : Type 0} (Good : B → Type 0) (k : ℕ) (bs : List B) : Type
   pub each : Each Good bs
 
 module _ {A B : Type 0} (f : ℕ → Answer A) (see : A → B) (enc : B → List ℕ) (Good : B → Type 0) (s : List ℕ)
-    (one : (at : ℕ) → When (Ok Good enc see s at) (f at)) where
+    (one : (at : ℕ) → When (Faithful Good enc see s at) (f at)) where
   abbrev RunOk : ℕ → ℕ → List A → ℕ → Type 0
-  RunOk k at = Ok (Run Good k) (all enc) (map see) s at
+  RunOk k at = Faithful (Run Good k) (all enc) (map see) s at
 
-  run-good : (k at : ℕ) (a : A) (next : ℕ) (rest : List A) (end : ℕ) → Ok Good enc see s at a next → RunOk k next rest end
+  run-good : (k at : ℕ) (a : A) (next : ℕ) (rest : List A) (end : ℕ) → Faithful Good enc see s at a next → RunOk k next rest end
       → RunOk (suc k) at (a ∷ rest) end
   unfolding all Each
   run-good k at a next rest end p q =
@@ -262,14 +262,14 @@ module _ {A B : Type 0} (f : ℕ → Answer A) (see : A → B) (enc : B → List
   unfolding many all Each
   many-ok zero at h = record { good = record { count = refl; each = tt }; reach = omega arith; within = h; bytes = bytes-none }
   many-ok (suc k) at h =
-      then-when (Ok Good enc see s at) (RunOk (suc k) at) (f at) (λ a next. then (many f k next) (λ rest end. taken (a ∷ rest) end)) (one at)
+      then-when (Faithful Good enc see s at) (RunOk (suc k) at) (f at) (λ a next. then (many f k next) (λ rest end. taken (a ∷ rest) end)) (one at)
       (λ a next e p.
       then-when (RunOk k next) (RunOk (suc k) at) (many f k next) (λ rest end. taken (a ∷ rest) end) (many-ok k next p.within)
       (λ rest end g q. run-good k at a next rest end p q))
 
 module _ (s : List ℕ) (sb : Bytes s) where
   abbrev RecordOk : ℕ → MvccLogRecord → ℕ → Type 0
-  RecordOk at = Ok GoodRecord encode_record (seen_record s) s at
+  RecordOk at = Faithful GoodRecord encode_record (seen_record s) s at
 
   -- a row id read behind an op at `at`
   record Row (at : ℕ) (r : RowID) (rest : ℕ) : Type 0 where
@@ -293,7 +293,7 @@ module _ (s : List ℕ) (sb : Bytes s) where
 
     module _ (count first : ℕ) (columns : List Column) (end : ℕ) (p : Num 2 s rest count first)
         (e : many (column_at s) count first ≡ taken columns end)
-        (q : Ok (Run GoodColumn count) (all encode_column) (map (seen_column s)) s first columns end) where
+        (q : Faithful (Run GoodColumn count) (all encode_column) (map (seen_column s)) s first columns end) where
       abbrev row_seen : Rec
       row_seen = present (bytes_of s r.table) r.rowid (map (seen_column s) columns)
 
@@ -352,7 +352,7 @@ module _ (s : List ℕ) (sb : Bytes s) where
         then-when (Num 2 s rest) (RecordOk at) (num_at 2 s rest)
         (λ count first. then (many (column_at s) count first) (λ columns end. taken (record { row = r; payload = payload.Present count first }) end)) (num-ok s sb 2 rest)
         (λ count first d p.
-        then-when (Ok (Run GoodColumn count) (all encode_column) (map (seen_column s)) s first) (RecordOk at) (many (column_at s) count first)
+        then-when (Faithful (Run GoodColumn count) (all encode_column) (map (seen_column s)) s first) (RecordOk at) (many (column_at s) count first)
         (λ columns end. taken (record { row = r; payload = payload.Present count first }) end)
         (many-ok (column_at s) (seen_column s) encode_column GoodColumn s (column-ok s sb) count first p.within)
         (λ columns end e q. present-one count first columns end p e q))
@@ -363,7 +363,7 @@ module _ (s : List ℕ) (sb : Bytes s) where
         let P = When (RecordOk at) in
         pick-test P (eqb op 0) (λ e. tombstone-ok) (λ e. pick-test P (eqb op 1) (λ e. present-ok) (λ e. tt))
 
-  row_ok : (at op named : ℕ) (t : TextPlace) (next n rest : ℕ) → Num 1 s at op named → Ok (GoodText 2) (encode_text 2) (bytes_of s) s named t next → Num 8 s next n rest
+  row_ok : (at op named : ℕ) (t : TextPlace) (next n rest : ℕ) → Num 1 s at op named → Faithful (GoodText 2) (encode_text 2) (bytes_of s) s named t next → Num 8 s next n rest
       → Row at (record { table = t; rowid = signed n }) rest
   row_ok at op named t next n rest o p q = record {
     good = record { table = p.good; rowid = signed-fits n q.small };
@@ -378,7 +378,7 @@ module _ (s : List ℕ) (sb : Bytes s) where
       then-when (Num 1 s at) (RecordOk at) (num_at 1 s at)
       (λ op named. then (text_at 2 s named) (λ t next. then (num_at 8 s next) (λ n rest. judged_at s op (record { table = t; rowid = signed n }) rest))) (num-ok s sb 1 at)
       (λ op named d o.
-      then-when (Ok (GoodText 2) (encode_text 2) (bytes_of s) s named) (RecordOk at) (text_at 2 s named)
+      then-when (Faithful (GoodText 2) (encode_text 2) (bytes_of s) s named) (RecordOk at) (text_at 2 s named)
       (λ t next. then (num_at 8 s next) (λ n rest. judged_at s op (record { table = t; rowid = signed n }) rest)) (text-ok s sb 2 named)
       (λ t next e p.
       then-when (Num 8 s next) (RecordOk at) (num_at 8 s next) (λ n rest. judged_at s op (record { table = t; rowid = signed n }) rest) (num-ok s sb 8 next)

@@ -2,12 +2,12 @@
 use mathlib.Core.Path.{◌≡◌, refl, sym, ◌∙◌}
 use mathlib.Core.Bool.{Bool, true, false}
 use mathlib.Core.List.{List, [], ◌∷◌, ◌++◌, map}
-use mathlib.Core.Option.{none}
 use Prim.Native.Nat.{ℕ, ◌+◌, ◌≤◌}
 use native.Mathlib.Omega.{arith}
 use borrow.Author.Tests.{le-leb, leb-true, eq-eqb, eqb-true}
 use lib.Dec.{leb, eqb, lit<}
 use lib.ListN.{length, length-append}
+use Rattle.std.specs.Prelude.{None, Ok, Err}
 use Rattle.le.specs.Le.{Bytes, le_of, le_bytes, field}
 use Rattle.le.proofs.Compare.{no_test}
 use Rattle.le.proofs.Fields.{length-le_bytes}
@@ -18,11 +18,10 @@ use Rattle.mvcc.specs.Decode.{record_at, batch_magic, records_at, batch_end, hea
 use Rattle.mvcc.specs.Batch.{Rec, all, encode_record, encode_batch, GoodRecord, GoodBatch}
 use Rattle.mvcc.specs.Seen.{seen_record, refusal_in, decode_refusal, decodes, commit_ts_of, records}
 use Rattle.mvcc.specs.declared.MvccLogRecord.{MvccLogRecord}
-use Rattle.mvcc.specs.declared.BatchDecoded.TheVariants as batch
 use Rattle.mvcc.proofs.Has.{Has, has_left, has-after, has-field}
 use Rattle.mvcc.proofs.Trip.{Gives, many-has, record-has}
 use Rattle.mvcc.proofs.Bytes.{field-small, bytes-none, bytes-cons, bytes-append, bytes-le_bytes}
-use Rattle.mvcc.proofs.Sound.{Ok, Run, many-ok, record-ok}
+use Rattle.mvcc.proofs.Sound.{Faithful, Run, many-ok, record-ok}
 
 -- ---- a body that decodes
 
@@ -34,7 +33,7 @@ pub record Found (s : List ℕ) : Type 0 where
   pub is : records_at s ≡ taken list end
 
 found-cases : (s : List ℕ) (a b : Bool) (x : Answer (List MvccLogRecord)) → leb 18 (length s) ≡ a → eqb (field 8 0 s) batch_magic ≡ b → records_at s ≡ x
-    → accepts (refusal_in (answered batch.Refused (batch_end (field 8 8 s) (field 2 16 s) x) (unless a Short (unless b Magic none)))) ≡ true → Found s
+    → accepts (refusal_in (answered Err (batch_end (field 8 8 s) (field 2 16 s) x) (unless a Short (unless b Magic None)))) ≡ true → Found s
 found-cases s true true (taken l e) p q r t = record { long = leb-true _ _ p; marked = eqb-true _ _ q; list = l; end = e; is = r }
 found-cases s true true (refused k) p q r t = no_test t
 found-cases s true false x p q r t = no_test t
@@ -45,7 +44,7 @@ unfolding decodes decode_refusal batch_of heading_refusal
 found s t = found-cases s (leb 18 (length s)) (eqb (field 8 0 s) batch_magic) (records_at s) refl refl refl t
 
 -- its answer
-pub found-batch : (s : List ℕ) (f : Found s) → batch_of s ≡ batch.Batch (record { commit_ts = field 8 8 s; records = field 2 16 s; end = f.end })
+pub found-batch : (s : List ℕ) (f : Found s) → batch_of s ≡ Ok (record { commit_ts = field 8 8 s; records = field 2 16 s; end = f.end })
 unfolding batch_of heading_refusal
 found-batch s f = rw (le-leb 18 (length s) f.long, eq-eqb _ _ f.marked, f.is)
 
@@ -125,7 +124,7 @@ module _ (t : ℕ) (rs : List Rec) (pad : List ℕ) (g : GoodBatch t rs) where
   pub encoded-records : records body ≡ rs
   encoded-records = found-records body encoded ∙ given.same
 
-  pub encoded-batch : batch_of body ≡ batch.Batch (record { commit_ts = t; records = length rs; end = length (encode_batch t rs) })
+  pub encoded-batch : batch_of body ≡ Ok (record { commit_ts = t; records = length rs; end = length (encode_batch t rs) })
   encoded-batch = found-batch body encoded ∙ rw (time-read, count-read, batch-length t rs)
 
 -- ---- what a decodable body holds
@@ -134,7 +133,7 @@ module _ (s : List ℕ) (sb : Bytes s) (d : decodes s ≡ true) where
   abbrev f : Found s
   f = found s d
 
-  all-ok : Ok (Run GoodRecord (field 2 16 s)) (all encode_record) (map (seen_record s)) s 18 f.list f.end
+  all-ok : Faithful (Run GoodRecord (field 2 16 s)) (all encode_record) (map (seen_record s)) s 18 f.list f.end
   unfolding records_at
   all-ok =
       rw f.is at (many-ok (record_at s) (seen_record s) encode_record GoodRecord s (record-ok s sb) (field 2 16 s) 18 f.long)
@@ -159,6 +158,6 @@ module _ (s : List ℕ) (sb : Bytes s) (d : decodes s ≡ true) where
   pub held_bytes : Bytes (encode_batch (commit_ts_of s) (records s))
   held_bytes = batch-bytes (commit_ts_of s) (records s) (rw (found-records s f) all-ok.bytes)
 
-  pub held-batch : batch_of s ≡ batch.Batch (record { commit_ts = commit_ts_of s; records = length (records s); end = length (encode_batch (commit_ts_of s) (records s)) })
+  pub held-batch : batch_of s ≡ Ok (record { commit_ts = commit_ts_of s; records = length (records s); end = length (encode_batch (commit_ts_of s) (records s)) })
   unfolding commit_ts_of
   held-batch = rw (held-end, held-count) (found-batch s f)

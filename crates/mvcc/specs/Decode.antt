@@ -1,6 +1,5 @@
 -- Reading a batch's body s from a cursor on, by document 01's line on `mvcc/log.rs`.
-use Rattle.std.specs.Prelude.{Bool, not, List, [], ◌∷◌, ℕ, ◌+◌, ◌-◌, ◌*◌, leb, ltb, eqb, length, take, drop, ℤ, pos, negsuc}
-use Rattle.std.proofs.Math.Option.{Option, none}
+use Rattle.std.specs.Prelude.{Option, None, Bool, not, List, [], ◌∷◌, ℕ, ◌+◌, ◌-◌, ◌*◌, leb, ltb, eqb, length, take, drop, ℤ, pos, negsuc, Result, Ok, Err}
 use Rattle.std.specs.Float.{binary64}
 use Rattle.std.specs.Float.Ieee.{nan_bits, of_bits}
 use Rattle.mvcc.specs.Batch.{heading_size}
@@ -18,8 +17,7 @@ use Rattle.mvcc.specs.declared.Column.{Column}
 use Rattle.mvcc.specs.declared.RowID.{RowID}
 use Rattle.mvcc.specs.declared.VersionPayload.TheVariants as payload
 use Rattle.mvcc.specs.declared.MvccLogRecord.{MvccLogRecord}
-use Rattle.mvcc.specs.declared.BatchDecoded.{BatchDecoded}
-use Rattle.mvcc.specs.declared.BatchDecoded.TheVariants as batch
+use Rattle.mvcc.specs.declared.MvccCommitBatch.{MvccCommitBatch}
 
 -- n bytes from `at` on lie in s
 abbrev pub fits_in : List ℕ → ℕ → ℕ → Bool
@@ -124,14 +122,14 @@ batch_magic = le_of (0x4d ∷ 0x56 ∷ 0x43 ∷ 0x43 ∷ 0x30 ∷ 0x30 ∷ 0x30 
 unfoldable pub records_at : List ℕ → Answer (List MvccLogRecord)
 records_at s = many (record_at s) (field 2 16 s) heading_size
 
-abbrev pub batch_end : ℕ → ℕ → Answer (List MvccLogRecord) → BatchDecoded
-batch_end t n (taken rs at) = batch.Batch (record { commit_ts = t; records = n; end = at })
-batch_end t n (refused k) = batch.Refused k
+abbrev pub batch_end : ℕ → ℕ → Answer (List MvccLogRecord) → Result MvccCommitBatch Refusal
+batch_end t n (taken rs at) = Ok (record { commit_ts = t; records = n; end = at })
+batch_end t n (refused k) = Err k
 
 -- what the heading alone is refused for: "batch body under 18", "wrong leading bytes"
 unfoldable pub heading_refusal : List ℕ → Option Refusal
-heading_refusal s = unless (leb heading_size (length s)) Short (unless (eqb (field 8 0 s) batch_magic) Magic none)
+heading_refusal s = unless (leb heading_size (length s)) Short (unless (eqb (field 8 0 s) batch_magic) Magic None)
 
 -- "Body: `MVCC0001`, commit time (8), record count (2), records"; "Bytes after the last record are ignored on reading"
-unfoldable pub batch_of : List ℕ → BatchDecoded
-batch_of s = answered batch.Refused (batch_end (field 8 8 s) (field 2 16 s) (records_at s)) (heading_refusal s)
+unfoldable pub batch_of : List ℕ → Result MvccCommitBatch Refusal
+batch_of s = answered Err (batch_end (field 8 8 s) (field 2 16 s) (records_at s)) (heading_refusal s)

@@ -1,6 +1,5 @@
 -- What a body says: contents in place of offsets, and what crates above cite of a body.
-use Rattle.std.specs.Prelude.{Bool, List, [], ◌∷◌, map, ℕ, zero, suc, ◌+◌, take, drop}
-use Rattle.std.proofs.Math.Option.{Option, none, some}
+use Rattle.std.specs.Prelude.{Option, None, Some, Bool, List, [], ◌∷◌, map, ℕ, zero, suc, ◌+◌, take, drop, Result, Ok, Err}
 use Rattle.std.specs.Float.{binary64}
 use Rattle.std.specs.Float.Ieee.{to_bits}
 use Rattle.le.specs.Le.{field}
@@ -18,10 +17,7 @@ use Rattle.mvcc.specs.declared.RowID.{RowID}
 use Rattle.mvcc.specs.declared.VersionPayload.{VersionPayload}
 use Rattle.mvcc.specs.declared.VersionPayload.TheVariants as payload
 use Rattle.mvcc.specs.declared.MvccLogRecord.{MvccLogRecord}
-use Rattle.mvcc.specs.declared.BatchDecoded.{BatchDecoded}
-use Rattle.mvcc.specs.declared.BatchDecoded.TheVariants as batch
-use Rattle.mvcc.specs.declared.HeadingJudged.{HeadingJudged}
-use Rattle.mvcc.specs.declared.HeadingJudged.TheVariants as heading
+use Rattle.mvcc.specs.declared.MvccCommitBatch.{MvccCommitBatch}
 
 -- the bytes of a text
 abbrev pub bytes_of : List ℕ → TextPlace → List ℕ
@@ -55,13 +51,13 @@ seen_record s r = seen_row s r.row r.payload
 -- ---- of a body, for crates above
 
 -- what its heading alone comes to
-abbrev pub heading_judged : List ℕ → HeadingJudged
-heading_judged s = answered heading.Refused heading.Fine (heading_refusal s)
+abbrev pub heading_judged : List ℕ → Result Unit Refusal
+heading_judged s = answered Err (Ok tt) (heading_refusal s)
 
 -- the refusal in an answer
-abbrev pub refusal_in : BatchDecoded → Option Refusal
-refusal_in (batch.Batch b) = none
-refusal_in (batch.Refused r) = some r
+abbrev pub refusal_in : Result MvccCommitBatch Refusal → Option Refusal
+refusal_in (Ok b) = None
+refusal_in (Err r) = Some r
 
 -- its refusal; none where it decodes
 unfoldable pub decode_refusal : List ℕ → Option Refusal

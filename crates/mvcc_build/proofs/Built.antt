@@ -11,6 +11,7 @@ use lib.Dec.{leb, lit<}
 use lib.ListN.{length, length-append}
 use mir.Val.{of_z}
 use mir.Syntax.{w64}
+use Rattle.std.specs.Prelude.{Option, Some, None, Ok, Err}
 use Rattle.le.specs.Choice.{pick, both}
 use Rattle.le.proofs.Compare.{both_true}
 use Rattle.le.proofs.Fields.{length-le_bytes}
@@ -19,15 +20,12 @@ use Rattle.mvcc.specs.Batch.{Val, null, integer, real, text, bool, vector, Col, 
 use Rattle.mvcc.specs.Seen.{decodes, commit_ts_of, records}
 use Rattle.mvcc.proofs.Trip.{length-encode_text, length-words}
 use Rattle.mvcc.proofs.Canonical.{body-length, body-decodes, body-commit_ts_of, body-records}
-use Rattle.mvcc_build.specs.Build.{started, started_bytes, addition_judged, body_after, record_in, record_count, record_table, record_added, record_bytes, column_in, column_result, columns_recounted, column_count, texted, column_added, column_bytes}
+use Rattle.mvcc_build.specs.Build.{Added, taking, started, started_bytes, addition_judged, body_after, record_in, record_count, record_table, record_added, record_bytes, column_in, column_result, columns_recounted, column_count, texted, column_added, column_bytes}
 use Rattle.mvcc_build.specs.Built.{last_from, builder_of, Built, ends_present, with_in, with_column, Held, HeldValue}
-use Rattle.mvcc_build.specs.declared.Last.{Last}
-use Rattle.mvcc_build.specs.declared.Last.TheVariants.{Closed, Open}
 use Rattle.mvcc_build.specs.declared.BatchBuilder.{BatchBuilder}
-use Rattle.mvcc_build.specs.declared.Added.{Added}
 use Rattle.refusal.specs.declared.Refusal.TheVariants.{Text, Fit, NoRecord}
-use Rattle.mvcc_build.specs.declared.Added.TheVariants.{Done, Refused}
-use Rattle.mvcc_build.proofs.Grow.{never, length-snoc, batch-size, record-size, record-grown, last_snoc, length-with, column-size, column-grown, last-with, ends_open, ends-closed}
+use Rattle.mvcc_build.proofs.Grow.{taking-same, never, length-snoc, batch-size, record-size, record-grown, last_snoc, length-with, column-size, column-grown, last-with, ends_open, ends-closed}
+use Rattle.mvcc_build.specs.declared.OpenRecord.{OpenRecord}
 
 -- ---- sizes: in 4,096 bytes no count passes its two bytes
 
@@ -58,17 +56,17 @@ column-three c = rw length-append (omega (arith, length-encode_text 2 c.name, va
 pub records-few : (t : ℕ) (rs : List Rec) → length (encode_batch t rs) ≤ 4096 → length rs ≤ 370
 records-few t rs h = omega (arith, batch-size t rs, all-size 11 encode_record record-eleven rs)
 
-columns-in : (at : ℕ) (rs : List Rec) {counted columns : ℕ} → last_from at rs ≡ Open counted columns → 13 + columns * 3 ≤ length (all encode_record rs)
+columns-in : (at : ℕ) (rs : List Rec) {counted columns : ℕ} → last_from at rs ≡ taking counted columns → 13 + columns * 3 ≤ length (all encode_record rs)
 unfolding last_from all encode_record
 columns-in at [] e = never e
 columns-in at (tombstone t row ∷ []) e = never e
 columns-in at (present t row cs ∷ []) {counted} {columns} e =
-    let n : length cs ≡ columns = cc in
+    let n : length cs ≡ columns = (taking-same e).1 in
     rw (← n) (simp (length-append, length-encode_text, length-le_bytes) (omega (arith, all-size 3 encode_column column-three cs)))
 columns-in at (r ∷ q ∷ rs) e = rw length-append (omega (arith, columns-in (at + length (encode_record r)) (q ∷ rs) e))
 
 -- at most 1,355 columns
-pub columns-few : (t : ℕ) (rs : List Rec) {counted columns : ℕ} → length (encode_batch t rs) ≤ 4096 → last_from 18 rs ≡ Open counted columns → columns ≤ 1355
+pub columns-few : (t : ℕ) (rs : List Rec) {counted columns : ℕ} → length (encode_batch t rs) ≤ 4096 → last_from 18 rs ≡ taking counted columns → columns ≤ 1355
 columns-few t rs h e = omega (arith, batch-size t rs, columns-in 18 rs e)
 
 -- ---- what was accepted is good
@@ -110,19 +108,19 @@ good-column c f w h =
       valued = good-value c.val f p.0 (omega arith);
     }
 
-good-with : (at : ℕ) (rs : List Rec) (c : Col) {counted columns : ℕ} → last_from at rs ≡ Open counted columns → columns + 1 < 256 ^ 2
+good-with : (at : ℕ) (rs : List Rec) (c : Col) {counted columns : ℕ} → last_from at rs ≡ taking counted columns → columns + 1 < 256 ^ 2
     → Each GoodRecord rs → GoodColumn c → Each GoodRecord (with_column rs c)
 unfolding last_from with_column with_in Each GoodRecord
 good-with at [] c e h g p = never e
 good-with at (tombstone t row ∷ []) c e h g p = never e
 good-with at (present t row cs ∷ []) c {counted} {columns} e h g p =
-    let n : length cs ≡ columns = cc in
+    let n : length cs ≡ columns = (taking-same e).1 in
     ((g.0.0, record { few = rw (length-snoc cs c, n) h; each = each_snoc GoodColumn cs c g.0.1.each p }), tt)
 good-with at (r ∷ q ∷ rs) c e h g p = (g.0, good-with (at + length (encode_record r)) (q ∷ rs) c e h g.1 p)
 
 -- ---- starting
 
-pub start-answer : (t : ℕ) (body : List ℕ) → length body ≡ 4096 → started body ≡ Done (builder_of t [])
+pub start-answer : (t : ℕ) (body : List ℕ) → length body ≡ 4096 → started body ≡ Ok (builder_of t [])
 unfolding started builder_of last_from all
 start-answer t body h = rw (eq-eqb _ _ h, batch-size t [])
 
@@ -137,12 +135,12 @@ start-built t body h k = record {
 
 -- ---- additions
 
-done-is : (w f : Bool) {x y : BatchBuilder} → pick w (pick f (Done x) (Refused Fit)) (Refused Text) ≡ Done y → ((w ≡ true) × (f ≡ true)) × (x ≡ y)
+done-is : (w f : Bool) {x y : BatchBuilder} → pick w (pick f (Ok x) (Err Fit)) (Err Text) ≡ Ok y → ((w ≡ true) × (f ≡ true)) × (x ≡ y)
 done-is true true e = ((refl, refl), cc)
 done-is true false e = let z : ◌≡◌ {A = ℕ} 0 1 = cc in absurd (omega arith)
 done-is false f e = let z : ◌≡◌ {A = ℕ} 0 1 = cc in absurd (omega arith)
 
-never_done : {A : Type 0} (w f : Bool) {y : BatchBuilder} → pick w (pick f (Refused NoRecord) (Refused Fit)) (Refused Text) ≡ Done y → A
+never_done : {A : Type 0} (w f : Bool) {y : BatchBuilder} → pick w (pick f (Err NoRecord) (Err Fit)) (Err Text) ≡ Ok y → A
 never_done true true e = let z : ◌≡◌ {A = ℕ} 0 1 = cc in absurd (omega arith)
 never_done true false e = let z : ◌≡◌ {A = ℕ} 0 1 = cc in absurd (omega arith)
 never_done false f e = let z : ◌≡◌ {A = ℕ} 0 1 = cc in absurd (omega arith)
@@ -153,13 +151,13 @@ module _ {t : ℕ} {rs : List Rec} {b : BatchBuilder} {body : List ℕ} (h : Bui
 
   -- a record is refused where its table is not UTF-8 (19), or where the batch with it would pass 4,096 bytes (20)
   pub record-answer : (r : Rec) → record_added b body r
-      ≡ pick (well_formed (record_table r)) (pick (leb (length (encode_batch t (rs ++ (r ∷ [])))) 4096) (Done (builder_of t (rs ++ (r ∷ [])))) (Refused Fit)) (Refused Text)
+      ≡ pick (well_formed (record_table r)) (pick (leb (length (encode_batch t (rs ++ (r ∷ [])))) 4096) (Ok (builder_of t (rs ++ (r ∷ [])))) (Err Fit)) (Err Text)
   unfolding record_added addition_judged record_in builder_of
   record-answer r =
       let n : length rs ≡ 0xffff → ⊥ = λ e. omega (arith, records-few t rs h.fits) in
       rw (eq-eqb _ _ full, h.state, ne_eqb (length rs) 0xffff n, record-size t rs r, length-snoc rs r, last_snoc 18 rs r, batch-size t rs)
 
-  pub record-built : (r : Rec) {b' : BatchBuilder} → Held r → record_added b body r ≡ Done b' → Built t (rs ++ (r ∷ [])) b' (record_bytes b body r)
+  pub record-built : (r : Rec) {b' : BatchBuilder} → Held r → record_added b body r ≡ Ok b' → Built t (rs ++ (r ∷ [])) b' (record_bytes b body r)
   unfolding record_bytes body_after record_count builder_of encode_body
   record-built r {b'} f e =
       let p = done-is (well_formed (record_table r)) (leb (length (encode_batch t (rs ++ (r ∷ [])))) 4096) (sym (record-answer r) ∙ e) in
@@ -183,32 +181,32 @@ module _ {t : ℕ} {rs : List Rec} {b : BatchBuilder} {body : List ℕ} (h : Bui
   column_says c =
       pick (both (texted c.val) (well_formed c.name))
       (pick (leb (length (encode_batch t rs) + length (encode_column c)) 4096)
-      (pick (ends_present rs) (Done (builder_of t (with_column rs c))) (Refused NoRecord)) (Refused Fit)) (Refused Text)
+      (pick (ends_present rs) (Ok (builder_of t (with_column rs c))) (Err NoRecord)) (Err Fit)) (Err Text)
 
-  column-cases : (c : Col) (l : Last) → last_from 18 rs ≡ l → column_added b body c ≡ column_says c
+  column-cases : (c : Col) (l : Option OpenRecord) → last_from 18 rs ≡ l → column_added b body c ≡ column_says c
   unfolding column_added column_result addition_judged column_in builder_of
-  column-cases c Closed e = rw (eq-eqb _ _ full, h.state, e, ends-closed 18 rs e)
-  column-cases c (Open counted columns) e =
-      let n : columns ≡ 0xffff → ⊥ = λ i. omega (arith, columns-few t rs h.fits e) in
-      rw (eq-eqb _ _ full, h.state, e, ne_eqb columns 0xffff n, ends_open 18 rs e, column-size t rs c e, length-with rs c, last-with 18 rs c e)
+  column-cases c None e = rw (eq-eqb _ _ full, h.state, e, ends-closed 18 rs e)
+  column-cases c (Some r) e =
+      let n : r.columns ≡ 0xffff → ⊥ = λ i. omega (arith, columns-few t rs h.fits e) in
+      rw (eq-eqb _ _ full, h.state, e, ne_eqb r.columns 0xffff n, ends_open 18 rs e, column-size t rs c e, length-with rs c, last-with 18 rs c e)
 
   pub column-answer : (c : Col) → column_added b body c
       ≡ pick (both (texted c.val) (well_formed c.name))
       (pick (leb (length (encode_batch t rs) + length (encode_column c)) 4096)
-      (pick (ends_present rs) (Done (builder_of t (with_column rs c))) (Refused NoRecord)) (Refused Fit)) (Refused Text)
+      (pick (ends_present rs) (Ok (builder_of t (with_column rs c))) (Err NoRecord)) (Err Fit)) (Err Text)
   column-answer c = column-cases c (last_from 18 rs) refl
 
-  column-built-in : (c : Col) {b' : BatchBuilder} (l : Last) → last_from 18 rs ≡ l → HeldValue c.val → column_added b body c ≡ Done b'
+  column-built-in : (c : Col) {b' : BatchBuilder} (l : Option OpenRecord) → last_from 18 rs ≡ l → HeldValue c.val → column_added b body c ≡ Ok b'
       → Built t (with_column rs c) b' (column_bytes b body c)
   unfolding column_bytes body_after column_count columns_recounted builder_of encode_body
-  column-built-in c Closed i f e = never_done (both (texted c.val) (well_formed c.name)) (leb (length (encode_batch t rs) + length (encode_column c)) 4096)
+  column-built-in c None i f e = never_done (both (texted c.val) (well_formed c.name)) (leb (length (encode_batch t rs) + length (encode_column c)) 4096)
       (rw (ends-closed 18 rs i) at (sym (column-answer c) ∙ e))
-  column-built-in c {b'} (Open counted columns) i f e =
+  column-built-in c {b'} (Some r) i f e =
       let p = done-is (both (texted c.val) (well_formed c.name)) (leb (length (encode_batch t rs) + length (encode_column c)) 4096)
       (rw (ends_open 18 rs i) at (sym (column-answer c) ∙ e)) in
       let j : length (encode_batch t rs) + length (encode_column c) ≤ 4096 = leb-true _ _ p.0.1 in
       let k : length (encode_batch t (with_column rs c)) ≤ 4096 = rw (column-size t rs c i) j in
-      let n : b'.last ≡ Open counted (columns + 1) = ap (λ (x : BatchBuilder). x.last) (sym p.1) ∙ last-with 18 rs c i in
+      let n : b'.last ≡ taking r.counted (r.columns + 1) = ap (λ (x : BatchBuilder). x.last) (sym p.1) ∙ last-with 18 rs c i in
       record {
         state = sym p.1;
         bytes = rw (e, n, h.state, h.bytes) (column-grown t rs c i j);
@@ -220,7 +218,7 @@ module _ {t : ℕ} {rs : List Rec} {b : BatchBuilder} {body : List ℕ} (h : Bui
         };
       }
 
-  pub column-built : (c : Col) {b' : BatchBuilder} → HeldValue c.val → column_added b body c ≡ Done b'
+  pub column-built : (c : Col) {b' : BatchBuilder} → HeldValue c.val → column_added b body c ≡ Ok b'
       → Built t (with_column rs c) b' (column_bytes b body c)
   column-built c f e = column-built-in c (last_from 18 rs) refl f e
 

@@ -9,14 +9,15 @@ use lib.ListN.{length, replicate, length-append, length-replicate, replicate-app
 use lib.Seq.{take-append_seam, drop-append-add, drop-append_seam}
 use mir.Val.{of_z}
 use mir.Syntax.{w64}
+use Rattle.std.specs.Prelude.{None}
 use Rattle.le.specs.Le.{le_bytes, put, store}
 use Rattle.le.proofs.Fields.{length-le_bytes}
 use Rattle.le.proofs.Stores.{store-put}
 use Rattle.mvcc.specs.Batch.{Col, Rec, tombstone, present, all, encode_text, encode_column, encode_record, encode_batch, padded}
 use Rattle.mvcc.proofs.Trip.{length-encode_text}
-use Rattle.mvcc_build.specs.Build.{last_at}
+use Rattle.mvcc_build.specs.Build.{taking, last_at}
 use Rattle.mvcc_build.specs.Built.{last_from, ends_present, with_in, with_column}
-use Rattle.mvcc_build.specs.declared.Last.TheVariants.{Closed, Open}
+use Rattle.mvcc_build.specs.declared.OpenRecord.{OpenRecord}
 
 -- ---- stores into bytes with zeros behind
 
@@ -122,16 +123,22 @@ pub record Opened (at counted columns : ℕ) (old new bs : List ℕ) : Type 0 wh
   pub was : old ≡ front ++ (le_bytes 2 columns ++ back)
   pub is : new ≡ front ++ (le_bytes 2 (columns + 1) ++ (back ++ bs))
 
-pub never : {A : Type 0} {x y : ℕ} → Closed ≡ Open x y → A
+-- open records that are one have one place and one count
+pub taking-same : {x y u v : ℕ} → taking x y ≡ taking u v → (x ≡ u) × (y ≡ v)
+taking-same {x} {y} {u} {v} e =
+    let r : ◌≡◌ {A = OpenRecord} (record { counted = x; columns = y }) (record { counted = u; columns = v }) = cc in
+    (ap (λ (o : OpenRecord). o.counted) r, ap (λ (o : OpenRecord). o.columns) r)
+
+pub never : {A : Type 0} {x y : ℕ} → None ≡ taking x y → A
 never e = let z : ◌≡◌ {A = ℕ} 0 1 = cc in absurd (omega arith)
 
-opened_one : (at : ℕ) (r : Rec) (c : Col) {counted columns : ℕ} → last_at at r ≡ Open counted columns
+opened_one : (at : ℕ) (r : Rec) (c : Col) {counted columns : ℕ} → last_at at r ≡ taking counted columns
     → Opened at counted columns (encode_record r) (encode_record (with_in r c)) (encode_column c)
 unfolding with_in encode_record
 opened_one at (tombstone t row) c e = never e
 opened_one at (present t row cs) c {counted} {columns} e =
-    let p : at + (11 + length t) ≡ counted = cc in
-    let n : length cs ≡ columns = cc in
+    let p : at + (11 + length t) ≡ counted = (taking-same e).0 in
+    let n : length cs ≡ columns = (taking-same e).1 in
     let T = encode_text 2 t in
     let R = le_bytes 8 (of_z w64 row) in
     record {
@@ -152,7 +159,7 @@ opened-more at xs o = record {
   is = rw o.is (simp append_assoc);
 }
 
-pub opened : (at : ℕ) (rs : List Rec) (c : Col) {counted columns : ℕ} → last_from at rs ≡ Open counted columns
+pub opened : (at : ℕ) (rs : List Rec) (c : Col) {counted columns : ℕ} → last_from at rs ≡ taking counted columns
     → Opened at counted columns (all encode_record rs) (all encode_record (with_column rs c)) (encode_column c)
 unfolding last_from with_column all
 opened at [] c e = never e
@@ -165,7 +172,7 @@ length-with [] c = refl
 length-with (r ∷ []) c = refl
 length-with (r ∷ q ∷ rs) c = ap suc (length-with (q ∷ rs) c)
 
-module _ (t : ℕ) (rs : List Rec) (c : Col) {counted columns : ℕ} (e : last_from 18 rs ≡ Open counted columns) where
+module _ (t : ℕ) (rs : List Rec) (c : Col) {counted columns : ℕ} (e : last_from 18 rs ≡ taking counted columns) where
   abbrev o : Opened 18 counted columns (all encode_record rs) (all encode_record (with_column rs c)) (encode_column c)
   o = opened 18 rs c e
 
@@ -194,28 +201,28 @@ module _ (t : ℕ) (rs : List Rec) (c : Col) {counted columns : ℕ} (e : last_f
       rw (batch-now, batch-was) (rw length__x at g)
 
 -- the last record stays open, with one column more
-pub last-with : (at : ℕ) (rs : List Rec) (c : Col) {counted columns : ℕ} → last_from at rs ≡ Open counted columns
-    → last_from at (with_column rs c) ≡ Open counted (columns + 1)
+pub last-with : (at : ℕ) (rs : List Rec) (c : Col) {counted columns : ℕ} → last_from at rs ≡ taking counted columns
+    → last_from at (with_column rs c) ≡ taking counted (columns + 1)
 unfolding last_from with_column with_in
 last-with at [] c e = never e
 last-with at (tombstone t row ∷ []) c e = never e
 last-with at (present t row cs ∷ []) c {counted} {columns} e =
-    let p : at + (11 + length t) ≡ counted = cc in
-    let n : length cs ≡ columns = cc in
+    let p : at + (11 + length t) ≡ counted = (taking-same e).0 in
+    let n : length cs ≡ columns = (taking-same e).1 in
     rw (length-snoc cs c, p, n)
 last-with at (r ∷ q ∷ []) c e = last-with (at + length (encode_record r)) (q ∷ []) c e
 last-with at (r ∷ q ∷ p ∷ rs) c e = last-with (at + length (encode_record r)) (q ∷ p ∷ rs) c e
 
 -- ---- which is last
 
-pub ends_open : (at : ℕ) (rs : List Rec) {counted columns : ℕ} → last_from at rs ≡ Open counted columns → ends_present rs ≡ true
+pub ends_open : (at : ℕ) (rs : List Rec) {counted columns : ℕ} → last_from at rs ≡ taking counted columns → ends_present rs ≡ true
 unfolding last_from ends_present
 ends_open at [] e = never e
 ends_open at (tombstone t row ∷ []) e = never e
 ends_open at (present t row cs ∷ []) e = refl
 ends_open at (r ∷ q ∷ rs) e = ends_open (at + length (encode_record r)) (q ∷ rs) e
 
-pub ends-closed : (at : ℕ) (rs : List Rec) → last_from at rs ≡ Closed → ends_present rs ≡ false
+pub ends-closed : (at : ℕ) (rs : List Rec) → last_from at rs ≡ None → ends_present rs ≡ false
 unfolding last_from ends_present
 ends-closed at [] e = refl
 ends-closed at (tombstone t row ∷ []) e = refl

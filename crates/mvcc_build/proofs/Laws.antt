@@ -4,15 +4,16 @@ use mathlib.Core.Bool.{Bool, true, false, not}
 use mathlib.Core.List.{List, [], ◌∷◌, ◌++◌, append_assoc, append-nil}
 use Prim.Native.Nat.{ℕ, zero, suc, ◌+◌, ◌-◌, ◌*◌, ◌/◌, ◌%◌, ◌^◌, ◌≤◌, ◌<◌}
 use native.Mathlib.Omega.{arith}
-use borrow.Author.Tests.{leb-true, eq-eqb, ne_eqb, ltb-true, le-ltb}
-use lib.Dec.{leb, eqb, T}
-use lib.Ieee.{Float, nan, inf, fin, eq, is_nan, level, up, down}
+use borrow.Author.Tests.{leb-true, le-leb, eq-eqb, ne_eqb, eqb-true}
+use lib.Dec.{leb, eqb}
+use lib.Ieee.{Float, nan, inf, fin, is_nan, binary64, to_bits}
 use lib.ListN.{length, take, drop, set, replicate, length-append, length-replicate, replicate-append-replicate}
 use lib.Seq.{take-add, take-length, drop-drop}
 use lib.IntN.{ℤ, pos, negsuc, ◌-ℤ◌}
 use lib.Signed.{lt_z}
-use mir.Val.{of_z, SFits}
+use mir.Val.{of_z, bool_byte}
 use mir.Syntax.{w64}
+use Rattle.std.specs.Prelude.{Option, None, Ok, Err}
 use Rattle.le.proofs.Compare.{no_test}
 use Rattle.le.specs.Choice.{pick, both}
 use Rattle.le.specs.Le.{Bytes, le_bytes, put, store}
@@ -23,63 +24,20 @@ use Rattle.mvcc.specs.Batch.{Val, null, integer, real, text, bool, vector, tombs
 use Rattle.mvcc.proofs.Trip.{length-encode_text}
 use Rattle.mvcc.proofs.Sound.{words-length}
 use Rattle.mvcc.specs.Seen.{words}
-use Rattle.mvcc_build.specs.Build.{addition_judged, body_after, record_in, record_count, head_bytes, last_of, head_result, record_added, record_bytes, column_in, column_result, column_count, columns_recounted, column, texted, column_added, column_bytes, elements, vector_added, vector_bytes, tagged, started, started_bytes, is_full}
-use Rattle.mvcc_build.specs.declared.Last.{Last}
-use Rattle.mvcc_build.specs.declared.Last.TheVariants.{Closed, Open}
+use Rattle.mvcc_build.specs.Build.{Added, taking, judged, addition_judged, body_after, record_in, record_count, head_bytes, last_of, head_result, record_added, record_bytes, column_in, column_result, column_count, columns_recounted, column, texted, column_added, column_bytes, elements, vector_added, vector_bytes, tagged, started, started_bytes, is_full}
 use Rattle.mvcc_build.specs.declared.BatchBuilder.{BatchBuilder}
-use Rattle.mvcc_build.specs.declared.Added.{Added}
+use Rattle.mvcc_build.specs.declared.OpenRecord.{OpenRecord}
 use Rattle.refusal.specs.declared.Refusal.TheVariants.{Area, Truncated, Text, Fit, NoRecord}
-use Rattle.mvcc_build.specs.declared.Added.TheVariants.{Done, Refused}
+use Rattle.refusal.specs.declared.Refusal.{Refusal}
 
--- ---- tests
+-- ---- floats
 
--- what a test that was passed says
-pub within : {r : Bool} (n : ℕ) → r ≡ leb n 4096 → r ≡ true → n ≤ 4096
-within n e f = leb-true n 4096 (sym e ∙ f)
-
--- ---- signed numbers
-
--- a negative number and its bits
-pub record Neg (z : ℤ) : Type 0 where
-  pub n : ℕ
-  pub is : negsuc 0 -ℤ z ≡ pos n
-  pub small : n < 2 ^ 63
-  pub bits : 0xffff_ffff_ffff_ffff - n ≡ of_z w64 z
-
-pub negative : (z : ℤ) → SFits w64 z → lt_z z (pos 0) ≡ true → Neg z
-negative (pos n) f e = absurd (omega (arith, ltb-true n 0 e))
-negative (negsuc n) f e =
-    let b : n < 2 ^ 63 = f.sfits in
-    record { n = n; is = rw (le-ltb (suc n) 1 (omega arith)) (ap pos (omega arith)); small = b; bits = omega arith }
-
--- a number that is not negative
-pub record Pos (z : ℤ) : Type 0 where
-  pub n : ℕ
-  pub is : z ≡ pos n
-  pub small : n < 2 ^ 63
-
-pub positive : (z : ℤ) → SFits w64 z → lt_z z (pos 0) ≡ false → Pos z
-positive (pos n) f e = record { n = n; is = refl; small = f.sfits }
-positive (negsuc n) f e = let z : ◌≡◌ {A = ℕ} 0 1 = cc in absurd (omega arith)
-
--- ---- floats: one that equals itself is no NaN, and one that does not is the NaN
-
-pub no_nan : (x : Float) → eq x x ≡ true → T (not (is_nan x))
-unfolding eq is_nan
-no_nan nan e = let z : ◌≡◌ {A = ℕ} 0 1 = cc in absurd (omega arith)
-no_nan (inf s) e = tt
-no_nan (fin s m d) e = tt
-
-level-same : (s : Bool) (a : ℕ) → level s a s a ≡ true
-level-same true a = simp (eq-eqb a a refl)
-level-same false a = simp (eq-eqb a a refl)
-
-pub is-nan : (x : Float) → eq x x ≡ false → x ≡ nan
-unfolding eq
-is-nan nan e = refl
-is-nan (inf true) e = let z : ◌≡◌ {A = ℕ} 0 1 = cc in absurd (omega arith)
-is-nan (inf false) e = let z : ◌≡◌ {A = ℕ} 0 1 = cc in absurd (omega arith)
-is-nan (fin s m d) e = let f = level-same s (m * up d * down d) in let z : ◌≡◌ {A = ℕ} 0 1 = cc (sym f ∙ e) in absurd (omega arith)
+-- the bits of the NaN
+pub nan-bits : (x : Float) → is_nan x ≡ true → 0x7ff8_0000_0000_0000 ≡ to_bits binary64 x
+unfolding is_nan to_bits
+nan-bits nan e = refl
+nan-bits (inf s) e = cc
+nan-bits (fin s m d) e = cc
 
 -- ---- lengths
 
@@ -166,53 +124,46 @@ module _ (l : List ℕ) (at : ℕ) (full : length l ≡ 4096) where
 
 -- ---- what an addition answers
 
-module _ (b : BatchBuilder) (body : List ℕ) (texts : Bool) (bs : List ℕ) (more : Added) where
-  pub judged-area : (length body ≡ 4096 → ⊥) → Refused Area ≡ addition_judged b body texts bs more
-  unfolding addition_judged
-  judged-area h = rw (ne_eqb _ _ h)
+refused_as : (w t f : Bool) (more : Added) {e : Refusal} → pick w (pick t (pick f (Ok (tt {0})) (Err Fit)) (Err Text)) (Err Area) ≡ Err e
+    → Err e ≡ pick w (pick t (pick f more (Err Fit)) (Err Text)) (Err Area)
+refused_as true true true more h = cc
+refused_as true true false more h = cc
+refused_as true false f more h = cc
+refused_as false t f more h = cc
 
-  pub judged-fit : length body ≡ 4096 → texts ≡ true → leb (b.at + length bs) 4096 ≡ false → Refused Fit ≡ addition_judged b body texts bs more
-  unfolding addition_judged
-  judged-fit h t f = rw (eq-eqb _ _ h, t, f)
-
-  pub judged-in : length body ≡ 4096 → texts ≡ true → leb (b.at + length bs) 4096 ≡ true → addition_judged b body texts bs more ≡ more
-  unfolding addition_judged
-  judged-in h t f = rw (eq-eqb _ _ h, t, f)
+-- what a judgement that refuses nothing says
+pub judged-fine : (n : ℕ) (texts : Bool) (end : ℕ) → judged n texts end ≡ Ok (tt {0}) → (n ≡ 4096) × (texts ≡ true) × (end ≤ 4096)
+unfolding judged
+judged-fine n texts end h = go (eqb n 4096) texts (leb end 4096) refl refl h
+  where
+    go : (w t f : Bool) → eqb n 4096 ≡ w → leb end 4096 ≡ f → pick w (pick t (pick f (Ok (tt {0})) (Err Fit)) (Err Text)) (Err Area) ≡ Ok (tt {0})
+        → (n ≡ 4096) × (t ≡ true) × (end ≤ 4096)
+    go true true true e f k = (eqb-true n 4096 e, refl, leb-true end 4096 f)
+    go true true false e f k = cc
+    go true false f e g k = cc
+    go false t f e g k = cc
 
 -- ---- the ways of an addition with the bytes bs: what it answers and leaves
 
-module _ (count : BatchBuilder → List ℕ → List ℕ) (b : BatchBuilder) (body : List ℕ) (texts : Bool) (bs : List ℕ) (more : Added) where
+module _ (count : BatchBuilder → List ℕ → List ℕ) (b : BatchBuilder) (body : List ℕ) (texts : Bool) (bs : List ℕ) (more : Added) {n : ℕ} (m : length bs ≡ n) where
   abbrev Says : Added → List ℕ → Type 0
   Says r l = (r ≡ addition_judged b body texts bs more) × (l ≡ body_after count b body bs r)
 
-  pub way-area : (length body ≡ 4096 → ⊥) → Says (Refused Area) body
-  unfolding body_after
-  way-area h = (judged-area b body texts bs more h, refl)
+  pub way-refused : {e : Refusal} → judged (length body) texts (b.at + n) ≡ Err e → Says (Err e) body
+  unfolding judged addition_judged body_after
+  way-refused h = (refused_as (eqb (length body) 4096) texts (leb (b.at + length bs) 4096) more (rw (← m) at h), refl)
 
-  kept-so : (t : Bool) → body ≡ body_after count b body bs (pick t (Refused Text) (Refused Area))
-  unfolding body_after
-  kept-so true = refl
-  kept-so false = refl
-
-  -- a text is not UTF-8; the body's length comes first
-  pub way-text : {r : Added} → texts ≡ false → r ≡ pick (eqb (length body) 4096) (Refused Text) (Refused Area) → Says r body
+  pub way-more : judged (length body) texts (b.at + n) ≡ Ok (tt {0}) → {x : Added} {l : List ℕ} → x ≡ more → l ≡ body_after count b body bs x → Says x l
   unfolding addition_judged
-  way-text f e = (rw (e, f), rw e (kept-so (eqb (length body) 4096)))
-
-  module _ (full : length body ≡ 4096) where
-    module _ (f : texts ≡ true) {n : ℕ} (m : length bs ≡ n) {r : Bool} (g : r ≡ leb (b.at + n) 4096) where
-      pub way-fit : r ≡ false → Says (Refused Fit) body
-      unfolding body_after
-      way-fit h = (judged-fit b body texts bs more full f (rw m (sym g ∙ h)), refl)
-
-      pub way-more : r ≡ true → {x : Added} {l : List ℕ} → x ≡ more → l ≡ body_after count b body bs x → Says x l
-      way-more h p q = (p ∙ sym (judged-in b body texts bs more full f (rw m (sym g ∙ h))), q)
+  way-more h p q =
+      let f = judged-fine (length body) texts (b.at + n) h in
+      (p ∙ rw (eq-eqb _ _ f.0, f.1, m, le-leb _ _ f.2), q)
 
 module _ (b : BatchBuilder) (body : List ℕ) (texts : Bool) (op : ℕ) (t : List ℕ) (row : ℤ) (z : ℕ) where
   abbrev H : List ℕ
   H = head_bytes op t row z
 
-  abbrev end : Last
+  abbrev end : Option OpenRecord
   end = last_of op (b.at + (11 + length t))
 
   abbrev Heads : Added → List ℕ → Type 0
@@ -221,38 +172,23 @@ module _ (b : BatchBuilder) (body : List ℕ) (texts : Bool) (op : ℕ) (t : Lis
   size : length H ≡ 11 + z + length t + 0
   size = rw length-head (omega arith)
 
-  pub head-area : (length body ≡ 4096 → ⊥) → Heads (Refused Area) body
+  pub head-refused : {e : Refusal} → judged (length body) texts (b.at + (11 + z + length t + 0)) ≡ Err e → Heads (Err e) body
   unfolding head_result
-  head-area h = way-area record_count b body texts H (record_in b (length H) end) h
+  head-refused h = way-refused record_count b body texts H (record_in b (length H) end) size h
 
-  pub head-text : {r : Added} → texts ≡ false → r ≡ pick (eqb (length body) 4096) (Refused Text) (Refused Area) → Heads r body
-  unfolding head_result
-  head-text f e = way-text record_count b body texts H (record_in b (length H) end) f e
+  module _ (h : judged (length body) texts (b.at + (11 + z + length t + 0)) ≡ Ok (tt {0})) where
+    pub head-many : b.records ≡ 0xffff → Heads (Err Fit) body
+    unfolding head_result record_in body_after
+    head-many k = way-more record_count b body texts H (record_in b (length H) end) size h (rw (eq-eqb _ _ k)) refl
 
-  module _ (full : length body ≡ 4096) where
-    module _ (f : texts ≡ true) {r : Bool} (g : r ≡ leb (b.at + (11 + z + length t + 0)) 4096) where
-      pub head-fit : r ≡ false → Heads (Refused Fit) body
-      unfolding head_result
-      head-fit h = way-fit record_count b body texts H (record_in b (length H) end) full f size g h
-
-      pub head-many : r ≡ true → b.records ≡ 0xffff → Heads (Refused Fit) body
-      unfolding head_result record_in body_after
-      head-many h k = way-more record_count b body texts H (record_in b (length H) end) full f size g h (rw (eq-eqb _ _ k)) refl
-
-      pub head_done : r ≡ true → (b.records ≡ 0xffff → ⊥) → {l m : List ℕ} {w : Last} → w ≡ end
-          → l ≡ put body b.at H → m ≡ store l 16 (le_bytes 2 (b.records + 1))
-          → Heads (Done (record { at = b.at + (11 + length t) + z; records = b.records + 1; last = w })) m
-      unfolding head_result record_in body_after record_count
-      head_done h k {l} {m} {w} o p q =
-          let i : b.at + (11 + length t) + z ≡ b.at + length H = rw length-head (omega arith) in
-          way-more record_count b body texts H (record_in b (length H) end) full f size g h
-          (rw (ne_eqb _ _ k, i, o)) (rw p at q)
-
--- a record that takes one more
-pub fewer : (l : Last) {counted columns : ℕ} → is_full l ≡ false → l ≡ Open counted columns → columns ≡ 0xffff → ⊥
-fewer l {counted} {columns} e o h =
-    let f : eqb columns 0xffff ≡ false = rw o at e in
-    no_test (sym f ∙ eq-eqb columns 0xffff h)
+    pub head_done : (b.records ≡ 0xffff → ⊥) → {l m : List ℕ} {w : Option OpenRecord} → w ≡ end
+        → l ≡ put body b.at H → m ≡ store l 16 (le_bytes 2 (b.records + 1))
+        → Heads (Ok (record { at = b.at + (11 + length t) + z; records = b.records + 1; last = w })) m
+    unfolding head_result record_in body_after record_count
+    head_done k {l} {m} {w} o p q =
+        let i : b.at + (11 + length t) + z ≡ b.at + length H = rw length-head (omega arith) in
+        way-more record_count b body texts H (record_in b (length H) end) size h
+        (rw (ne_eqb _ _ k, i, o)) (rw p at q)
 
 module _ (b : BatchBuilder) (body : List ℕ) (texts : Bool) (t : List ℕ) (tag k v : ℕ) (bs : List ℕ) where
   abbrev C : List ℕ
@@ -261,44 +197,29 @@ module _ (b : BatchBuilder) (body : List ℕ) (texts : Bool) (t : List ℕ) (tag
   abbrev Cols : Added → List ℕ → Type 0
   Cols r l = (r ≡ column_result b body texts C) × (l ≡ body_after column_count b body C r)
 
-  pub col-area : (length body ≡ 4096 → ⊥) → Cols (Refused Area) body
+  sized : length C ≡ 3 + k + length t + length bs
+  sized = length-tagged t tag k v bs
+
+  pub col-refused : {e : Refusal} → judged (length body) texts (b.at + (3 + k + length t + length bs)) ≡ Err e → Cols (Err e) body
   unfolding column_result
-  col-area h = way-area column_count b body texts C (column_in b (length C) b.last) h
+  col-refused h = way-refused column_count b body texts C (column_in b (length C) b.last) sized h
 
-  pub col-text : {r : Added} → texts ≡ false → r ≡ pick (eqb (length body) 4096) (Refused Text) (Refused Area) → Cols r body
-  unfolding column_result
-  col-text f e = way-text column_count b body texts C (column_in b (length C) b.last) f e
+  module _ (h : judged (length body) texts (b.at + (3 + k + length t + length bs)) ≡ Ok (tt {0})) where
+    pub col-none : b.last ≡ None → Cols (Err NoRecord) body
+    unfolding column_result column_in body_after
+    col-none o = way-more column_count b body texts C (column_in b (length C) b.last) sized h (rw o) refl
 
-  module _ (full : length body ≡ 4096) where
-    module _ (f : texts ≡ true) {r : Bool} (g : r ≡ leb (b.at + (3 + k + length t + length bs)) 4096) where
-      sized : length C ≡ 3 + k + length t + length bs
-      sized = length-tagged t tag k v bs
-
-      pub col-fit : r ≡ false → Cols (Refused Fit) body
-      unfolding column_result
-      col-fit h = way-fit column_count b body texts C (column_in b (length C) b.last) full f sized g h
-
-      pub col-none : r ≡ true → b.last ≡ Closed → Cols (Refused NoRecord) body
+    module _ {counted columns : ℕ} (o : b.last ≡ taking counted columns) where
+      pub col-many : columns ≡ 0xffff → Cols (Err Fit) body
       unfolding column_result column_in body_after
-      col-none h o = way-more column_count b body texts C (column_in b (length C) b.last) full f sized g h (rw o) refl
+      col-many e = way-more column_count b body texts C (column_in b (length C) b.last) sized h (rw (o, eq-eqb columns 0xffff e)) refl
 
-      many-at : (l : Last) → is_full l ≡ true → Refused Fit ≡ column_in b (length C) l
-      unfolding column_in
-      many-at Closed e = no_test e
-      many-at (Open counted columns) e = rw e
-
-      pub col-many : r ≡ true → is_full b.last ≡ true → Cols (Refused Fit) body
-      unfolding column_result body_after
-      col-many h i = way-more column_count b body texts C (column_in b (length C) b.last) full f sized g h (many-at b.last i) refl
-
-      module _ (h : r ≡ true) {counted columns : ℕ} (o : b.last ≡ Open counted columns) where
-        pub col-done : is_full b.last ≡ false → {l m : List ℕ} → l ≡ put body b.at C → m ≡ store l counted (le_bytes 2 (columns + 1))
-            → Cols (Done (record { at = b.at + (3 + k + length t + length bs); records = b.records; last = Open counted (columns + 1) })) m
-        unfolding column_result column_in body_after column_count columns_recounted
-        col-done i p q =
-            let e : eqb columns 0xffff ≡ false = rw o at i in
-            way-more column_count b body texts C (column_in b (length C) b.last) full f sized g h
-            (rw (o, e, sized)) (rw p at q)
+      pub col-done : (columns ≡ 0xffff → ⊥) → {l m : List ℕ} → l ≡ put body b.at C → m ≡ store l counted (le_bytes 2 (columns + 1))
+          → Cols (Ok (record { at = b.at + (3 + k + length t + length bs); records = b.records; last = taking counted (columns + 1) })) m
+      unfolding column_result column_in body_after column_count columns_recounted
+      col-done i p q =
+          way-more column_count b body texts C (column_in b (length C) b.last) sized h
+          (rw (o, ne_eqb columns 0xffff i, sized)) (rw p at q)
 
 -- ---- the public additions
 
@@ -357,7 +278,7 @@ pub text-bytes : (t : List ℕ) → 3 ∷ (le_bytes 4 (length t) ++ t) ≡ encod
 unfolding encode_value encode_text
 text-bytes t = refl
 
-pub bool-bytes : (x : Bool) {n : ℕ} → n ≡ pick x 1 0 → 4 ∷ (le_bytes 1 n ++ []) ≡ encode_value (bool x)
+pub bool-bytes : (x : Bool) {n : ℕ} → n ≡ bool_byte x → 4 ∷ (le_bytes 1 n ++ []) ≡ encode_value (bool x)
 unfolding le_bytes encode_value
 bool-bytes true e = rw e
 bool-bytes false e = rw e
@@ -379,11 +300,11 @@ vector-bytes bs b h =
     rw (words-length bs b (length bs / 4) 0, words-bytes bs b (length bs / 4) 0 (omega arith), e, take-length)
 
 module _ (b : BatchBuilder) (body n bs : List ℕ) where
-  pub vector-area : (length body ≡ 4096 → ⊥) → (Refused Area ≡ vector_added b body n bs) × (body ≡ vector_bytes b body n bs)
+  pub vector-area : (length body ≡ 4096 → ⊥) → (Err Area ≡ vector_added b body n bs) × (body ≡ vector_bytes b body n bs)
   unfolding vector_added vector_bytes body_after
   vector-area h = (rw (ne_eqb _ _ h), rw (ne_eqb _ _ h))
 
-  pub vector-cut : length body ≡ 4096 → (length bs % 4 ≡ 0 → ⊥) → (Refused Truncated ≡ vector_added b body n bs) × (body ≡ vector_bytes b body n bs)
+  pub vector-cut : length body ≡ 4096 → (length bs % 4 ≡ 0 → ⊥) → (Err Truncated ≡ vector_added b body n bs) × (body ≡ vector_bytes b body n bs)
   unfolding vector_added vector_bytes body_after
   vector-cut h k = (rw (eq-eqb _ _ h, ne_eqb _ _ k), rw (eq-eqb _ _ h, ne_eqb _ _ k))
 
@@ -407,7 +328,7 @@ zeros-split : (n m : ℕ) → replicate {A = ℕ} (n + m) 0 ≡ replicate n 0 ++
 zeros-split n m = sym (replicate-append-replicate {A = ℕ} n m 0)
 
 module _ (l : List ℕ) (t : ℕ) where
-  pub start_area : (length l ≡ 4096 → ⊥) → (Refused Area ≡ started l) × (l ≡ started_bytes t l)
+  pub start_area : (length l ≡ 4096 → ⊥) → (Err Area ≡ started l) × (l ≡ started_bytes t l)
   unfolding started started_bytes
   start_area h = (rw (ne_eqb _ _ h), rw (ne_eqb _ _ h))
 
@@ -427,7 +348,7 @@ module _ (l : List ℕ) (t : ℕ) where
         let p3 : l3 ≡ put l 0 ((M ++ T) ++ Z) = store-next 16 4080 l 0 (M ++ T) Z n z (rw full (omega arith)) p2 e3 in
         p3 ∙ put_all l ((M ++ T) ++ Z) (rw (length-append, full) (omega arith))
 
-    pub start-done : (Done (record { at = 18; records = 0; last = Closed }) ≡ started l) × (l3 ≡ started_bytes t l)
+    pub start-done : (Ok (record { at = 18; records = 0; last = None }) ≡ started l) × (l3 ≡ started_bytes t l)
     unfolding started started_bytes encode_body padded
     start-done = (
       rw (eq-eqb _ _ full),

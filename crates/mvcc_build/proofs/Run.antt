@@ -6,6 +6,7 @@ use Prim.Native.Nat.{ℕ, ◌+◌, ◌/◌, ◌%◌, ◌^◌, ◌<◌}
 use borrow.Author.Tests.{eq-eqb}
 use lib.Dec.{leb, eqb}
 use lib.ListN.{length}
+use Rattle.std.specs.Prelude.{Ok, Err}
 use Rattle.le.specs.Choice.{both}
 use Rattle.le.specs.Le.{Bytes}
 use Rattle.text.specs.Utf8.{well_formed}
@@ -14,7 +15,6 @@ use Rattle.mvcc.proofs.Sound.{words_small}
 use Rattle.mvcc_build.specs.declared.BatchBuilder.{BatchBuilder}
 use Rattle.refusal.specs.declared.Refusal.{Refusal}
 use Rattle.refusal.specs.declared.Refusal.TheVariants.{Text, Fit, NoRecord}
-use Rattle.mvcc_build.specs.declared.Added.TheVariants.{Done, Refused}
 use Rattle.mvcc_build.specs.Build.{started_bytes, body_after, record_table, record_added, record_bytes, column, texted, column_added, column_bytes, elements, vector_added, vector_bytes}
 use Rattle.mvcc_build.specs.Built.{builder_of, Built, ends_present, with_column, Held, HeldValue}
 use Rattle.mvcc_build.specs.Run.{Addition, record-call, column-call, vector-call, HeldCall, next_builder, next_body, column_records, next_records, run_builder, run_body, run_records}
@@ -22,22 +22,22 @@ use Rattle.mvcc_build.proofs.Built.{full, start-built, record-answer, record-bui
 
 module _ {t : ℕ} {rs : List Rec} {b : BatchBuilder} {body : List ℕ} (h : Built t rs b body) where
   -- a refused call leaves all as it was
-  refused-record : (r : Rec) (k : Refusal) → record_added b body r ≡ Refused k
+  refused-record : (r : Rec) (k : Refusal) → record_added b body r ≡ Err k
       → Built t rs (next_builder (record-call r) b body) (next_body (record-call r) b body)
   unfolding next_builder next_body record_bytes body_after
   refused-record r k e = rw e h
 
-  refused-column : (c : Col) (k : Refusal) → column_added b body c ≡ Refused k
+  refused-column : (c : Col) (k : Refusal) → column_added b body c ≡ Err k
       → Built t rs (next_builder (column-call c) b body) (next_body (column-call c) b body)
   unfolding next_builder next_body column_bytes body_after
   refused-column c k e = rw e h
 
-  taken-record : (r : Rec) (b2 : BatchBuilder) → Held r → record_added b body r ≡ Done b2
+  taken-record : (r : Rec) (b2 : BatchBuilder) → Held r → record_added b body r ≡ Ok b2
       → Built t (rs ++ (r ∷ [])) (next_builder (record-call r) b body) (next_body (record-call r) b body)
   unfolding next_builder next_body
   taken-record r b2 k e = let g = record-built h r k e in rw e g
 
-  taken-column : (c : Col) (b2 : BatchBuilder) → HeldValue c.val → column_added b body c ≡ Done b2
+  taken-column : (c : Col) (b2 : BatchBuilder) → HeldValue c.val → column_added b body c ≡ Ok b2
       → Built t (with_column rs c) (next_builder (column-call c) b body) (next_body (column-call c) b body)
   unfolding next_builder next_body
   taken-column c b2 k e = let g = column-built h c k e in rw e g

@@ -1,16 +1,15 @@
 -- What a builder and its body hold after any run of additions: the batch of the records added so far.
-use Rattle.std.specs.Prelude.{◌≡◌, Bool, true, false, List, [], ◌∷◌, ◌++◌, ℕ, ◌+◌, ◌^◌, ◌≤◌, ◌<◌, length}
+use Rattle.std.specs.Prelude.{◌≡◌, Bool, true, false, List, [], ◌∷◌, ◌++◌, ℕ, ◌+◌, ◌^◌, ◌≤◌, ◌<◌, length, Option, None}
 use Rattle.std.proofs.Common.{SFits}
 use Rattle.std.specs.Int.{w64}
 use Rattle.mvcc.specs.Batch.{body_size, heading_size, Val, null, integer, real, text, bool, vector, Col, Rec, tombstone, present, encode_record, encode_batch, encode_body, Each, GoodBatch}
-use Rattle.mvcc_build.specs.declared.Last.{Last}
-use Rattle.mvcc_build.specs.declared.Last.TheVariants.{Closed}
 use Rattle.mvcc_build.specs.declared.BatchBuilder.{BatchBuilder}
 use Rattle.mvcc_build.specs.Build.{last_at}
+use Rattle.mvcc_build.specs.declared.OpenRecord.{OpenRecord}
 
 -- the last of the records, whose bytes start at `at`
-unfoldable pub last_from : ℕ → List Rec → Last
-last_from at [] = Closed
+unfoldable pub last_from : ℕ → List Rec → Option OpenRecord
+last_from at [] = None
 last_from at (r ∷ []) = last_at at r
 last_from at (r ∷ q ∷ rs) = last_from (at + length (encode_record r)) (q ∷ rs)
 

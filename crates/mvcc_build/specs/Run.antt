@@ -1,13 +1,11 @@
 -- A run of additions, as the caller makes them and as records: whoever is refused keeps the builder and the body.
-use Rattle.std.specs.Prelude.{List, [], ◌∷◌, ◌++◌, ℕ, ◌+◌, ◌%◌, leb, eqb, length}
+use Rattle.std.specs.Prelude.{List, [], ◌∷◌, ◌++◌, ℕ, ◌+◌, ◌%◌, leb, eqb, length, Ok, Err}
 use Rattle.le.specs.Choice.{pick, both}
 use Rattle.le.specs.Le.{Bytes}
 use Rattle.text.specs.Utf8.{well_formed}
 use Rattle.mvcc.specs.Batch.{body_size, vector, Col, Rec, encode_column, encode_batch}
 use Rattle.mvcc_build.specs.declared.BatchBuilder.{BatchBuilder}
-use Rattle.mvcc_build.specs.declared.Added.{Added}
-use Rattle.mvcc_build.specs.declared.Added.TheVariants.{Done, Refused}
-use Rattle.mvcc_build.specs.Build.{record_table, record_added, record_bytes, column, texted, column_added, column_bytes, elements, vector_added, vector_bytes}
+use Rattle.mvcc_build.specs.Build.{Added, record_table, record_added, record_bytes, column, texted, column_added, column_bytes, elements, vector_added, vector_bytes}
 use Rattle.mvcc_build.specs.Built.{ends_present, with_column, Held, HeldValue}
 
 pub data Addition : Type 0 where
@@ -24,8 +22,8 @@ HeldCall (vector-call n bs) = Bytes bs
 
 -- the builder that the caller goes on with
 abbrev pub onward : Added → BatchBuilder → BatchBuilder
-onward (Done next) b = next
-onward (Refused r) b = b
+onward (Ok next) b = next
+onward (Err r) b = b
 
 unfoldable pub next_builder : Addition → BatchBuilder → List ℕ → BatchBuilder
 next_builder (record-call r) b body = onward (record_added b body r) b

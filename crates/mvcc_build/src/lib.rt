@@ -7,45 +7,34 @@ ghost use Rattle.std.specs.Prelude.{◌≡◌, [], true, ◌+◌, ◌*◌, ◌�
 ghost use Rattle.std.specs.Int.Bits.{bit_and};
 ghost use Rattle.std.specs.Float.{binary64};
 ghost use Rattle.std.specs.Float.Ieee.{to_bits};
-ghost use Rattle.std.proofs.Common.{of_z};
-ghost use Rattle.std.specs.Int.{w64};
 ghost use Rattle.le.specs.Choice.{pick};
 ghost use Rattle.le.specs.Le.{le_bytes, field, put};
 ghost use Rattle.text.specs.Utf8.{well_formed};
 ghost use Rattle.text.specs.Walk.{Ascii};
 ghost use Rattle.mvcc.specs.Batch.{body_size, null, integer, real, text, bool, tombstone, present, encode_text};
 ghost use Rattle.mvcc_build.specs.Words.{Wide};
-ghost use Rattle.refusal.specs.declared.Refusal.TheVariants.{Area, Text};
-ghost use Rattle.mvcc_build.specs.declared.Added.TheVariants.{Refused};
-ghost use Rattle.mvcc_build.specs.Build.{head_bytes, last_of, tagged, started, started_bytes, body_after, record_count, head_result, record_added, record_bytes, column_count, column_result, column, column_added, column_bytes, vector_added, vector_bytes, is_full};
+ghost use Rattle.refusal.specs.declared.Refusal.TheVariants.{Area, Text, Fit};
+ghost use Rattle.mvcc_build.specs.Build.{head_bytes, last_of, tagged, started, started_bytes, body_after, record_count, head_result, record_added, record_bytes, column_count, column_result, column, column_added, column_bytes, vector_added, vector_bytes, judged};
 
 use mvcc::{BATCH_BODY_SIZE, BATCH_HEADING_SIZE};
 use refusal::Refusal;
 
-// The record that was added last.
+// A record that takes columns: where its column count stands, and how many columns it has.
 #[derive(Clone, Copy)]
-pub enum Last {
-    // None yet, or a tombstone: it takes no column.
-    Closed,
-    // A present one: where its column count stands, and how many columns it has.
-    Open { counted: usize, columns: u16 },
+pub struct OpenRecord {
+    pub counted: usize,
+    pub columns: u16,
 }
 
-// A batch being built: the end of its bytes, and its records.
+// A batch being built: the end of its bytes, its records, and the last of them if it takes columns: there is one, and it is no tombstone.
+// An addition answers the builder to go on with, or the first of its refusals. Area: the body has not 4,096 bytes.
+// Truncated: the last element of a vector is cut. Text: a name or a text is not UTF-8. Fit: the batch would pass 4,096 bytes.
+// NoRecord: a column, and no present record is last.
 #[derive(Clone, Copy)]
 pub struct BatchBuilder {
     pub at: usize,
     pub records: u16,
-    pub last: Last,
-}
-
-// What an addition answers: the builder to go on with, or the first of its refusals. Area: the body has not 4,096 bytes.
-// Truncated: the last element of a vector is cut. Text: a name or a text is not UTF-8. Fit: the batch would pass 4,096 bytes.
-// NoRecord: a column, and no present record is last.
-#[derive(Clone, Copy)]
-pub enum Added {
-    Done(BatchBuilder),
-    Refused(Refusal),
+    pub last: Option<OpenRecord>,
 }
 
 // ---- texts: a short one is looked at and stored as two words, its first bytes and its last, which may overlap
@@ -76,12 +65,12 @@ fn word(s: &[u8], at: usize, w: usize) -> u64
         return le::read_u64(s, at);
     }
     if w == 4 {
-        return le::read_u32(s, at) as u64;
+        return u64::from(le::read_u32(s, at));
     }
     if w == 2 {
-        return le::read_u16(s, at) as u64;
+        return u64::from(le::read_u16(s, at));
     }
-    s[at] as u64
+    u64::from(s[at])
 }
 
 // Whether a word has ASCII bytes only.
@@ -122,23 +111,21 @@ fn put_number(body: &mut [u8], at: usize, k: usize, v: u64)
     ensures { body.new ≡ put body.old at (le_bytes k v) }
 {
     if k == 8 {
-        le::write_u64(body, at, v);
+        let _ = le::write_u64(body, at, v);
         return;
     }
     if k == 4 {
-        le::write_u32(body, at, (v % 4294967296) as u32);
+        let _ = le::write_u32(body, at, (v % 4294967296) as u32);
         return;
     }
     if k == 2 {
-        le::write_u16(body, at, (v % 65536) as u16);
+        let _ = le::write_u16(body, at, (v % 65536) as u16);
         return;
     }
     let mut left = v;
-    let mut i: usize = 0;
-    while i < k {
+    for i in 0..k {
         body[at + i] = (left % 256) as u8;
-        left = left / 256;
-        i += 1;
+        left /= 256;
     }
 }
 
@@ -152,7 +139,7 @@ fn put_bytes(body: &mut [u8], at: usize, s: &[u8])
         return;
     }
     if 16 < n {
-        le::write_bytes(body, at, s);
+        let _ = le::write_bytes(body, at, s);
         return;
     }
     let w = width(n);
@@ -179,36 +166,41 @@ fn fits(at: usize, fixed: usize, text: usize, bytes: usize) -> bool
     at + (fixed + text + bytes) <= BATCH_BODY_SIZE
 }
 
-// The bits of a signed number.
-fn unsigned_of(z: i64) -> u64
-    ensures { result ≡ of_z w64 z }
-{
-    if z < 0 {
-        0xffff_ffff_ffff_ffff - ((-1 - z) as u64)
-    } else {
-        z as u64
-    }
-}
-
 // A float's bits. The one NaN that there is to a function is written as the quiet one.
 pub fn bits_of(x: f64) -> u64
     ensures { result ≡ to_bits binary64 x }
 {
-    if x == x {
-        f64::to_bits(x)
-    } else {
+    if x.is_nan() {
         0x7ff8_0000_0000_0000
+    } else {
+        x.to_bits()
     }
 }
 
-// What an addition to a body of this length answers where a text of it is not UTF-8.
-fn no_text(len: usize) -> Added
-    ensures { result ≡ pick (eqb len body_size) (Refused Text) (Refused Area) }
+// Refuses an addition at `at` to a body of length `len`: where the body has another length, where the addition's texts are not UTF-8, and
+// where `fixed` bytes and a text and bytes of these lengths do not fit.
+#[tactic(auto, unfolding(crate::specs::Build::judged))]
+fn judge(
+    len: usize,
+    texts: bool,
+    at: usize,
+    fixed: usize,
+    text: usize,
+    bytes: usize,
+) -> Result<(), Refusal>
+    requires { fixed ≤ body_size }
+    ensures { result ≡ judged len texts (at + (fixed + text + bytes)) }
 {
     if len != BATCH_BODY_SIZE {
-        return Added::Refused(Refusal::Area);
+        return Err(Refusal::Area);
     }
-    Added::Refused(Refusal::Text)
+    if !texts {
+        return Err(Refusal::Text);
+    }
+    if !fits(at, fixed, text, bytes) {
+        return Err(Refusal::Fit);
+    }
+    Ok(())
 }
 
 // Stores a text with a length of two bytes.
@@ -216,41 +208,41 @@ fn put_text(body: &mut [u8], at: usize, t: &[u8])
     requires { (length body.old ≡ body_size) × (at + (2 + length t.now) ≤ body_size) }
     ensures { body.new ≡ put body.old at (encode_text 2 t.now) }
 {
-    le::write_u16(body, at, t.len() as u16);
+    let _ = le::write_u16(body, at, t.len() as u16);
     put_bytes(body, at + 2, t);
 }
 
 // ---- starting a batch and adding records
 
 // Starts a batch: magic, commit time, no records, zeros behind.
-pub fn start(body: &mut [u8], commit_ts: u64) -> Added
+pub fn start(body: &mut [u8], commit_ts: u64) -> Result<BatchBuilder, Refusal>
     ensures value { result ≡ started body.old }
     ensures body_after { body.new ≡ started_bytes commit_ts body.old }
 {
     if body.len() != BATCH_BODY_SIZE {
-        return Added::Refused(Refusal::Area);
+        return Err(Refusal::Area);
     }
-    le::write_u64(body, 0, 0x3130_3030_4343_564d);
-    le::write_u64(body, 8, commit_ts);
-    le::write_zeros(body, 16, 4080);
-    Added::Done(BatchBuilder {
+    let _ = le::write_u64(body, 0, 0x3130_3030_4343_564d);
+    let _ = le::write_u64(body, 8, commit_ts);
+    let _ = le::write_zeros(body, 16, 4080);
+    Ok(BatchBuilder {
         at: BATCH_HEADING_SIZE,
         records: 0,
-        last: Last::Closed,
+        last: None,
     })
 }
 
 // A record with this op has been added: a present one has its column count at `counted`.
-fn last_of(op: u8, counted: usize) -> Last
+fn last_of(op: u8, counted: usize) -> Option<OpenRecord>
     ensures { result ≡ last_of op counted }
 {
     if op == 0 {
-        return Last::Closed;
+        return None;
     }
-    Last::Open {
+    Some(OpenRecord {
         counted,
         columns: 0,
-    }
+    })
 }
 
 // Stores a record: op, table, row id and zeros, which are the column count of a present one.
@@ -261,8 +253,8 @@ fn put_record(body: &mut [u8], at: usize, op: u8, table: &[u8], rowid: i64, zero
     let n = table.len();
     body[at] = op;
     put_text(body, at + 1, table);
-    le::write_u64(body, at + (3 + n), unsigned_of(rowid));
-    le::write_zeros(body, at + (11 + n), zeros);
+    let _ = le::write_u64(body, at + (3 + n), rowid.cast_unsigned());
+    let _ = le::write_zeros(body, at + (11 + n), zeros);
 }
 
 // Adds a record, and counts it. `texts`: its table is UTF-8.
@@ -274,29 +266,21 @@ fn add_record(
     table: &[u8],
     rowid: i64,
     zeros: usize,
-) -> Added
+) -> Result<BatchBuilder, Refusal>
     requires { zeros ≤ 2 }
     ensures value { result ≡ head_result b body.old texts op table.now rowid zeros }
     ensures body_after { body.new ≡ body_after record_count b body.old (head_bytes op table.now rowid zeros) result }
 {
     let at = b.at;
     let records = b.records;
-    if !texts {
-        return no_text(body.len());
-    }
-    if body.len() != BATCH_BODY_SIZE {
-        return Added::Refused(Refusal::Area);
-    }
-    if !fits(at, 11 + zeros, table.len(), 0) {
-        return Added::Refused(Refusal::Fit);
-    }
-    if records == 0xffff {
-        return Added::Refused(Refusal::Fit);
+    judge(body.len(), texts, at, 11 + zeros, table.len(), 0)?;
+    if records == u16::MAX {
+        return Err(Refusal::Fit);
     }
     put_record(body, at, op, table, rowid, zeros);
-    le::write_u16(body, 16, records + 1);
+    let _ = le::write_u16(body, 16, records + 1);
     let counted = at + (11 + table.len());
-    Added::Done(BatchBuilder {
+    Ok(BatchBuilder {
         at: counted + zeros,
         records: records + 1,
         last: last_of(op, counted),
@@ -304,7 +288,12 @@ fn add_record(
 }
 
 // Adds a tombstone.
-pub fn add_tombstone(body: &mut [u8], b: BatchBuilder, table: &[u8], rowid: i64) -> Added
+pub fn add_tombstone(
+    body: &mut [u8],
+    b: BatchBuilder,
+    table: &[u8],
+    rowid: i64,
+) -> Result<BatchBuilder, Refusal>
     ensures value { result ≡ record_added b body.old (tombstone table.now rowid) }
     ensures body_after { body.new ≡ record_bytes b body.old (tombstone table.now rowid) }
 {
@@ -312,7 +301,12 @@ pub fn add_tombstone(body: &mut [u8], b: BatchBuilder, table: &[u8], rowid: i64)
 }
 
 // Adds a present record with no columns yet.
-pub fn begin_present(body: &mut [u8], b: BatchBuilder, table: &[u8], rowid: i64) -> Added
+pub fn begin_present(
+    body: &mut [u8],
+    b: BatchBuilder,
+    table: &[u8],
+    rowid: i64,
+) -> Result<BatchBuilder, Refusal>
     ensures value { result ≡ record_added b body.old (present table.now rowid []) }
     ensures body_after { body.new ≡ record_bytes b body.old (present table.now rowid []) }
 {
@@ -333,19 +327,6 @@ fn put_column(body: &mut [u8], at: usize, name: &[u8], tag: u8, k: usize, v: u64
     put_bytes(body, at + (3 + n + k), bytes);
 }
 
-// Whether the last record has as many columns as can be counted.
-fn is_full(last: Last) -> bool
-    ensures { result ≡ is_full last }
-{
-    match last {
-        Last::Closed => false,
-        Last::Open {
-            counted: _,
-            columns,
-        } => columns == 0xffff,
-    }
-}
-
 // Adds a column to the last record, and counts it. `texts`: its texts are UTF-8.
 fn add_column(
     body: &mut [u8],
@@ -356,70 +337,88 @@ fn add_column(
     k: usize,
     v: u64,
     bytes: &[u8],
-) -> Added
+) -> Result<BatchBuilder, Refusal>
     requires { k ≤ 8 }
     ensures value { result ≡ column_result b body.old texts (tagged name.now tag k v bytes.now) }
     ensures body_after { body.new ≡ body_after column_count b body.old (tagged name.now tag k v bytes.now) result }
 {
     let at = b.at;
-    let last = b.last;
-    if !texts {
-        return no_text(body.len());
-    }
-    if body.len() != BATCH_BODY_SIZE {
-        return Added::Refused(Refusal::Area);
-    }
-    if !fits(at, 3 + k, name.len(), bytes.len()) {
-        return Added::Refused(Refusal::Fit);
-    }
-    if is_full(last) {
-        return Added::Refused(Refusal::Fit);
-    }
-    let Last::Open { counted, columns } = last else {
-        return Added::Refused(Refusal::NoRecord);
+    judge(body.len(), texts, at, 3 + k, name.len(), bytes.len())?;
+    let Some(record) = b.last else {
+        return Err(Refusal::NoRecord);
     };
+    if record.columns == u16::MAX {
+        return Err(Refusal::Fit);
+    }
     put_column(body, at, name, tag, k, v, bytes);
-    le::write_u16(body, counted, columns + 1);
-    Added::Done(BatchBuilder {
+    let columns = record.columns + 1;
+    let _ = le::write_u16(body, record.counted, columns);
+    Ok(BatchBuilder {
         at: at + (3 + k + name.len() + bytes.len()),
-        records: b.records,
-        last: Last::Open {
-            counted,
-            columns: columns + 1,
-        },
+        last: Some(OpenRecord { columns, ..record }),
+        ..b
     })
 }
 
-pub fn add_null(body: &mut [u8], b: BatchBuilder, name: &[u8]) -> Added
+pub fn add_null(body: &mut [u8], b: BatchBuilder, name: &[u8]) -> Result<BatchBuilder, Refusal>
     ensures value { result ≡ column_added b body.old (column name.now null) }
     ensures body_after { body.new ≡ column_bytes b body.old (column name.now null) }
 {
     add_column(body, b, is_text(name), name, 0, 0, 0, b"")
 }
 
-pub fn add_integer(body: &mut [u8], b: BatchBuilder, name: &[u8], value: i64) -> Added
+pub fn add_integer(
+    body: &mut [u8],
+    b: BatchBuilder,
+    name: &[u8],
+    value: i64,
+) -> Result<BatchBuilder, Refusal>
     ensures value { result ≡ column_added b body.old (column name.now (integer value)) }
     ensures body_after { body.new ≡ column_bytes b body.old (column name.now (integer value)) }
 {
-    add_column(body, b, is_text(name), name, 1, 8, unsigned_of(value), b"")
+    add_column(
+        body,
+        b,
+        is_text(name),
+        name,
+        1,
+        8,
+        value.cast_unsigned(),
+        b"",
+    )
 }
 
 // A real by its bits, NaNs too.
-pub fn add_real_bits(body: &mut [u8], b: BatchBuilder, name: &[u8], bits: u64) -> Added
+pub fn add_real_bits(
+    body: &mut [u8],
+    b: BatchBuilder,
+    name: &[u8],
+    bits: u64,
+) -> Result<BatchBuilder, Refusal>
     ensures value { result ≡ column_added b body.old (column name.now (real bits)) }
     ensures body_after { body.new ≡ column_bytes b body.old (column name.now (real bits)) }
 {
     add_column(body, b, is_text(name), name, 2, 8, bits, b"")
 }
 
-pub fn add_real(body: &mut [u8], b: BatchBuilder, name: &[u8], value: f64) -> Added
+pub fn add_real(
+    body: &mut [u8],
+    b: BatchBuilder,
+    name: &[u8],
+    value: f64,
+) -> Result<BatchBuilder, Refusal>
     ensures value { result ≡ column_added b body.old (column name.now (real (to_bits binary64 value))) }
     ensures body_after { body.new ≡ column_bytes b body.old (column name.now (real (to_bits binary64 value))) }
 {
     add_real_bits(body, b, name, bits_of(value))
 }
 
-pub fn add_text(body: &mut [u8], b: BatchBuilder, name: &[u8], value: &[u8]) -> Added
+pub fn add_text(
+    body: &mut [u8],
+    b: BatchBuilder,
+    name: &[u8],
+    value: &[u8],
+) -> Result<BatchBuilder, Refusal>
     ensures value { result ≡ column_added b body.old (column name.now (text value.now)) }
     ensures body_after { body.new ≡ column_bytes b body.old (column name.now (text value.now)) }
 {
@@ -427,29 +426,33 @@ pub fn add_text(body: &mut [u8], b: BatchBuilder, name: &[u8], value: &[u8]) -> 
     add_column(body, b, texts, name, 3, 4, value.len() as u64, value)
 }
 
-fn byte_of(value: bool) -> u64
-    ensures { result ≡ pick value 1 0 }
-{
-    if value { 1 } else { 0 }
-}
-
-pub fn add_bool(body: &mut [u8], b: BatchBuilder, name: &[u8], value: bool) -> Added
+pub fn add_bool(
+    body: &mut [u8],
+    b: BatchBuilder,
+    name: &[u8],
+    value: bool,
+) -> Result<BatchBuilder, Refusal>
     ensures value { result ≡ column_added b body.old (column name.now (bool value)) }
     ensures body_after { body.new ≡ column_bytes b body.old (column name.now (bool value)) }
 {
-    add_column(body, b, is_text(name), name, 4, 1, byte_of(value), b"")
+    add_column(body, b, is_text(name), name, 4, 1, u64::from(value), b"")
 }
 
 // A vector, from its elements' little-endian bytes, four each.
-pub fn add_vector(body: &mut [u8], b: BatchBuilder, name: &[u8], bytes: &[u8]) -> Added
+pub fn add_vector(
+    body: &mut [u8],
+    b: BatchBuilder,
+    name: &[u8],
+    bytes: &[u8],
+) -> Result<BatchBuilder, Refusal>
     ensures value { result ≡ vector_added b body.old name.now bytes.now }
     ensures body_after { body.new ≡ vector_bytes b body.old name.now bytes.now }
 {
     if body.len() != BATCH_BODY_SIZE {
-        return Added::Refused(Refusal::Area);
+        return Err(Refusal::Area);
     }
     if bytes.len() % 4 != 0 {
-        return Added::Refused(Refusal::Truncated);
+        return Err(Refusal::Truncated);
     }
     add_column(
         body,

@@ -1,6 +1,6 @@
 -- The walk that sets the bools of a copy of a body's bytes makes them the bytes of its encoding. Assumes nothing.
 use mathlib.Core.Path.{◌≡◌, refl, sym, ap, ◌∙◌}
-use mathlib.Core.Bool.{Bool}
+use mathlib.Core.Bool.{Bool, true, false}
 use mathlib.Core.List.{List, [], ◌∷◌, ◌++◌, map}
 use Prim.Native.Nat.{ℕ, zero, suc, ◌+◌, ◌-◌, ◌≤◌, ◌<◌}
 use native.Mathlib.Nat.{add-zero}
@@ -9,6 +9,8 @@ use native.Mathlib.Omega.{arith}
 use borrow.Author.Tests.{lt-ltb, le-ltb}
 use lib.ListN.{length, take, drop, get_or, set, length-append}
 use lib.Seq.{take-take}
+use Rattle.std.specs.Prelude.{Result, Ok, Err, IsOk}
+use Rattle.std.specs.Int.{from_bool}
 use Rattle.le.specs.Choice.{pick}
 use Rattle.le.specs.Le.{Bytes, field, put}
 use Rattle.le.proofs.Fields.{part-part, field-one}
@@ -23,8 +25,9 @@ use Rattle.mvcc.specs.declared.Column.{Column}
 use Rattle.mvcc.specs.declared.VersionPayload.{VersionPayload}
 use Rattle.mvcc.specs.declared.VersionPayload.TheVariants as payload
 use Rattle.mvcc.specs.declared.MvccLogRecord.{MvccLogRecord}
+use Rattle.mvcc.specs.Fields.{column_answer}
 use Rattle.refusal.specs.declared.Refusal.{Refusal}
-use Rattle.mvcc_canonical.specs.Canonical.{answer_end, fix_all, fix_value, column_step, fix_payload, record_step, fix_record, Stands, Walk}
+use Rattle.mvcc_canonical.specs.Canonical.{answer_end, fix_all, fix_value, column_step, fix_payload, record_step, fix_record, Stands, Columns, Walk}
 use Rattle.mvcc_canonical.proofs.Same.{At, at_left, patch, PayloadIs, ColumnSame, RecordSame, column-same, record_same}
 
 -- ---- turns of a loop that counts down
@@ -65,11 +68,6 @@ module _ {A : Type 0} (f : ℕ → Answer A) (step : A → ℕ → List ℕ → 
   end_on zero at h e = absurd (omega (arith, h))
   end_on (suc k) at {next} {a} h e = rw (e, sub-one) (end-then a (many f k next))
 
-  pub end-off : (left at : ℕ) {r : Refusal} → 0 < left → f at ≡ refused r → answer_end (many f left at) ≡ 0
-  unfolding many
-  end-off zero at h e = absurd (omega (arith, h))
-  end-off (suc k) at h e = rw e
-
   pub end-done : (left at : ℕ) → left ≤ 0 → answer_end (many f left at) ≡ at
   unfolding many
   end-done zero at h = refl
@@ -80,11 +78,6 @@ module _ {A : Type 0} (f : ℕ → Answer A) (step : A → ℕ → List ℕ → 
   unfolding fix_all
   fix-on zero at out h e = absurd (omega (arith, h))
   fix-on (suc k) at out h e = rw (e, sub-one)
-
-  pub fix-off : (left at : ℕ) (out : List ℕ) {r : Refusal} → f at ≡ refused r → fix_all f step left at out ≡ out
-  unfolding fix_all
-  fix-off zero at out e = refl
-  fix-off (suc k) at out e = rw e
 
   pub fix-done : (left at : ℕ) (out : List ℕ) → left ≤ 0 → fix_all f step left at out ≡ out
   unfolding fix_all
@@ -253,14 +246,18 @@ module _ (s : List ℕ) (sb : Bytes s) where
 
 -- ---- the steps of the code
 
+bool-byte : (b : Bool) → from_bool b ≡ pick b 1 0
+bool-byte true = refl
+bool-byte false = refl
+
 module _ (out : List ℕ) (v : Value) (end : ℕ) {b : Bool} (e : v ≡ value.Bool b) where
-  pub value_set : {x : ℕ} → 0 < end → end ≤ length out → x ≡ pick b 1 0 → set out (end - 1) x ≡ fix_value v end out
+  pub value_set : {x : ℕ} → 0 < end → end ≤ length out → x ≡ from_bool b → set out (end - 1) x ≡ fix_value v end out
   unfolding fix_value
   value_set {x} h k f =
       let i : end - 1 < length out = omega arith in
       let x1 : List ℕ = pick b 1 0 ∷ [] in
       let j : end - 1 + length x1 ≤ length out = omega arith in
-      rw (e, lt-ltb 0 end h, f, set-put out (end - 1) (pick b 1 0) i) (sym (store-put out (end - 1) (pick b 1 0 ∷ []) j))
+      rw (e, lt-ltb 0 end h, f, bool-byte b, set-put out (end - 1) (pick b 1 0) i) (sym (store-put out (end - 1) (pick b 1 0 ∷ []) j))
 
   pub value-far : length out < end → out ≡ fix_value v end out
   unfolding fix_value
@@ -298,6 +295,7 @@ module _ (s : List ℕ) (sb : Bytes s) (at : ℕ) (h : Stands s at) where
     pub here : at < length s
     pub table : at + 1 + 2 ≤ length s
     pub counted : (get_or s at 0 ≡ 0 → ⊥) → at + (11 + n) + 2 ≤ length s
+    pub run : (get_or s at 0 ≡ 0 → ⊥) → Columns s (field 2 (at + (11 + n)) s) (at + (11 + n) + 2)
     pub none : get_or s at 0 ≡ 0 → (at + (11 + n) ≡ answer_end (record_at s at)) × ((out : List ℕ) → out ≡ fix_record s at out)
     pub some : (get_or s at 0 ≡ 0 → ⊥)
         → (answer_end (many (column_at s) (field 2 (at + (11 + n)) s) (at + (11 + n) + 2)) ≡ answer_end (record_at s at))
@@ -316,6 +314,7 @@ module _ (s : List ℕ) (sb : Bytes s) (at : ℕ) (h : Stands s at) where
         here = l;
         table = omega arith;
         counted = λ z. absurd (z o);
+        run = λ z. absurd (z o);
         none = λ z. (rw i (sym f), λ out. rw (i, j));
         some = λ z. absurd (z o);
       }
@@ -330,12 +329,29 @@ module _ (s : List ℕ) (sb : Bytes s) (at : ℕ) (h : Stands s at) where
         here = l;
         table = omega arith;
         counted = λ z. omega arith;
+        run = λ z. rw (← q.number, ← f) (record { list = q.list; end = next; is = q.run });
         none = λ z. absurd (omega (arith, o));
         some = λ z. (rw (i, ← q.number, ← f, q.run), λ out. rw (i, j, ← q.number, ← f));
       }
 
   pub found_at : Found
   found_at = found_in h.item h.next h.item.payload (encode_record (seen_record s h.item)) h.is refl (record-here s sb at h.item h.next h.is)
+
+-- a turn of the walk over columns
+answer-ok : (r : Result (Column × ℕ) Refusal) {c : Column} {next : ℕ} → column_answer r ≡ taken c next → IsOk r
+answer-ok (Ok x) e = refl
+answer-ok (Err k) e = let z : ◌≡◌ {A = ℕ} 0 1 = cc in absurd (omega arith)
+
+pub column-ok : (s : List ℕ) (left at : ℕ) (r : Result (Column × ℕ) Refusal) → 0 < left → Columns s left at → column_answer r ≡ column_at s at → IsOk r
+column-ok s zero at r h w e = absurd (omega (arith, h))
+column-ok s (suc k) at r h w e = answer-ok r (e ∙ (first (column_at s) k at w.is).here)
+
+pub column-on : (s : List ℕ) (left at : ℕ) {c : Column} {next : ℕ} → 0 < left → Columns s left at → column_at s at ≡ taken c next → Columns s (left - 1) next
+column-on s zero at h w e = absurd (omega (arith, h))
+column-on s (suc k) at {c} {next} h w e =
+    let p = first (column_at s) k at w.is in
+    let n : p.mid ≡ next = cc (sym p.here ∙ e) in
+    rw (sub-one, ← n) (record { list = p.rest; end = w.end; is = p.more })
 
 -- a turn of the walk over the records
 pub record Turn (s : List ℕ) (left at : ℕ) : Type 0 where

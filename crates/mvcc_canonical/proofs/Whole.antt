@@ -8,6 +8,7 @@ use native.Mathlib.Omega.{arith}
 use borrow.Author.Tests.{le-leb, lt-leb, eq-eqb, ne_eqb}
 use lib.ListN.{length, take, drop, replicate, length-append, length-take, length-replicate}
 use lib.Seq.{take_at, drop_at}
+use Rattle.std.specs.Prelude.{Result, Ok, Err}
 use Rattle.le.specs.Le.{Bytes, le_of, le_bytes, field, put, store}
 use Rattle.le.proofs.Stores.{put_all, store-put, store-next}
 use Rattle.refusal.specs.declared.Refusal.{Refusal}
@@ -17,30 +18,26 @@ use Rattle.mvcc.specs.Decode.{record_at, batch_magic, records_at, batch_of}
 use Rattle.mvcc.specs.Batch.{Rec, all, encode_record, encode_batch, encode_body, padded}
 use Rattle.mvcc.specs.Seen.{seen_record, decode_refusal, decodes, commit_ts_of, records, canonical}
 use Rattle.mvcc.specs.declared.MvccCommitBatch.{MvccCommitBatch}
-use Rattle.mvcc.specs.declared.BatchDecoded.{BatchDecoded}
-use Rattle.mvcc.specs.declared.BatchDecoded.TheVariants as batch
 use Rattle.mvcc.proofs.Whole.{Found, found, found-batch, found-records, batch-length}
 use Rattle.mvcc.proofs.Canonical.{batch_of-is, encode-length}
-use Rattle.mvcc_canonical.specs.Canonical.{canonical_answer, canonical_refusal, canonicalized, canonical_bytes, fix_all, record_step, Walk, BoolsTo}
-use Rattle.mvcc_canonical.specs.declared.Canonical.{Canonical}
-use Rattle.mvcc_canonical.specs.declared.Canonical.TheVariants.{Done, Refused}
+use Rattle.mvcc_canonical.specs.Canonical.{canonical_refusal, canonicalized, canonical_bytes, fix_all, record_step, Walk, BoolsTo}
 use Rattle.mvcc_canonical.proofs.Same.{At, at-append, field_at}
 use Rattle.mvcc_canonical.proofs.Walk.{Agree, agree-front, agree-part, put_front, records_is}
 use Rattle.mvcc_canonical.proofs.Bools.{bools-less, records-at}
 
-abbrev count_in : BatchDecoded → ℕ
-count_in (batch.Batch b) = b.records
-count_in (batch.Refused k) = 0
+abbrev count_in : Result MvccCommitBatch Refusal → ℕ
+count_in (Ok b) = b.records
+count_in (Err k) = 0
 
-abbrev end_in : BatchDecoded → ℕ
-end_in (batch.Batch b) = b.end
-end_in (batch.Refused k) = 0
+abbrev end_in : Result MvccCommitBatch Refusal → ℕ
+end_in (Ok b) = b.end
+end_in (Err k) = 0
 
 magic-bytes : le_bytes 8 batch_magic ≡ 0x4d ∷ 0x56 ∷ 0x43 ∷ 0x43 ∷ 0x30 ∷ 0x30 ∷ 0x30 ∷ 0x31 ∷ []
 unfolding batch_magic le_of le_bytes
 magic-bytes = refl
 
-decodes-batch : (s : List ℕ) {b : MvccCommitBatch} → batch_of s ≡ batch.Batch b → decodes s ≡ true
+decodes-batch : (s : List ℕ) {b : MvccCommitBatch} → batch_of s ≡ Ok b → decodes s ≡ true
 unfolding decodes decode_refusal
 decodes-batch s e = rw e
 
@@ -48,7 +45,7 @@ decodes-batch s e = rw e
 pub record Decoded (s : List ℕ) (b : MvccCommitBatch) : Type 0 where
   pub bytes : Bytes s
   pub small : length s ≤ 4096
-  pub is : batch_of s ≡ batch.Batch b
+  pub is : batch_of s ≡ Ok b
 
 module _ (s : List ℕ) {b : MvccCommitBatch} (w : Decoded s b) where
   abbrev sb : Bytes s
@@ -165,21 +162,21 @@ module _ (s : List ℕ) {b : MvccCommitBatch} (w : Decoded s b) where
 -- ---- the ways of `canonicalize`
 
 module _ (s out : List ℕ) where
-  abbrev Says : Canonical → List ℕ → Type 0
+  abbrev pub Says : Result Unit Refusal → List ℕ → Type 0
   Says r l = (r ≡ canonicalized s out) × (l ≡ canonical_bytes s out)
 
-  pub way_out : (length out ≡ 4096 → ⊥) → Says (Refused refusal.Area) out
+  pub way_out : (length out ≡ 4096 → ⊥) → Says (Err refusal.Area) out
   unfolding canonical_refusal
   way_out h = (rw (ne_eqb _ _ h), rw (ne_eqb _ _ h))
 
-  pub way_long : length out ≡ 4096 → 4096 < length s → Says (Refused refusal.Area) out
+  pub way_long : length out ≡ 4096 → 4096 < length s → Says (Err refusal.Area) out
   unfolding canonical_refusal
   way_long h k = (rw (eq-eqb _ _ h, lt-leb _ _ k), rw (eq-eqb _ _ h, lt-leb _ _ k))
 
-  pub way-refused : {x : BatchDecoded} {r : Canonical} {k : Refusal} → length out ≡ 4096 → length s ≤ 4096 → x ≡ batch_of s → x ≡ batch.Refused k → r ≡ canonical_answer x → Says r out
+  pub way-refused : {k : Refusal} → length out ≡ 4096 → length s ≤ 4096 → Err k ≡ batch_of s → Says (Err k) out
   unfolding canonical_refusal decode_refusal
-  way-refused h k e g f = (rw (eq-eqb _ _ h, le-leb _ _ k, ← e) f, rw (eq-eqb _ _ h, le-leb _ _ k, ← e, g))
+  way-refused h k e = (rw (eq-eqb _ _ h, le-leb _ _ k, ← e), rw (eq-eqb _ _ h, le-leb _ _ k, ← e))
 
-  pub way-done : {b : MvccCommitBatch} {c : List ℕ} → length out ≡ 4096 → Decoded s b → c ≡ canonical s → Says Done c
+  pub way-done : {b : MvccCommitBatch} {c : List ℕ} → length out ≡ 4096 → Decoded s b → c ≡ canonical s → Says (Ok tt) c
   unfolding canonical_refusal decode_refusal
   way-done h w f = (rw (eq-eqb _ _ h, le-leb _ _ w.small, w.is), rw (eq-eqb _ _ h, le-leb _ _ w.small, w.is) f)

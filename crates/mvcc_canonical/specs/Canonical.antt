@@ -1,6 +1,5 @@
 -- What writing a body's canonical form answers and leaves, and the walk that sets its bools.
-use Rattle.std.specs.Prelude.{◌≡◌, List, [], ◌∷◌, ℕ, zero, suc, ◌+◌, ◌-◌, ◌≤◌, ◌<◌, leb, ltb, eqb, length, get_or}
-use Rattle.std.proofs.Math.Option.{Option}
+use Rattle.std.specs.Prelude.{Option, ◌≡◌, List, [], ◌∷◌, ℕ, zero, suc, ◌+◌, ◌-◌, ◌≤◌, ◌<◌, leb, ltb, eqb, length, get_or, Result, Ok, Err}
 use Rattle.mvcc.specs.Batch.{body_size}
 use Rattle.le.specs.Choice.{pick}
 use Rattle.le.specs.Le.{store}
@@ -16,13 +15,11 @@ use Rattle.mvcc.specs.declared.Column.{Column}
 use Rattle.mvcc.specs.declared.VersionPayload.{VersionPayload}
 use Rattle.mvcc.specs.declared.VersionPayload.TheVariants as payload
 use Rattle.mvcc.specs.declared.MvccLogRecord.{MvccLogRecord}
-use Rattle.mvcc.specs.declared.BatchDecoded.{BatchDecoded}
-use Rattle.mvcc_canonical.specs.declared.Canonical.{Canonical}
-use Rattle.mvcc_canonical.specs.declared.Canonical.TheVariants.{Done, Refused}
+use Rattle.mvcc.specs.declared.MvccCommitBatch.{MvccCommitBatch}
 
 -- what an answer of decoding comes to
-abbrev pub canonical_answer : BatchDecoded → Canonical
-canonical_answer d = answered Refused Done (refusal_in d)
+abbrev pub canonical_answer : Result MvccCommitBatch Refusal → Result Unit Refusal
+canonical_answer d = answered Err (Ok tt) (refusal_in d)
 
 -- the body s, into out: a wrong length, then decoding's refusals
 unfoldable pub canonical_refusal : List ℕ → List ℕ → Option Refusal
@@ -30,8 +27,8 @@ canonical_refusal s out =
     unless (eqb (length out) body_size) refusal.Area
     (unless (leb (length s) body_size) refusal.Area (decode_refusal s))
 
-abbrev pub canonicalized : List ℕ → List ℕ → Canonical
-canonicalized s out = answered Refused Done (canonical_refusal s out)
+abbrev pub canonicalized : List ℕ → List ℕ → Result Unit Refusal
+canonicalized s out = answered Err (Ok tt) (canonical_refusal s out)
 
 -- the later bytes of out: a refusal leaves them as they were
 abbrev pub canonical_bytes : List ℕ → List ℕ → List ℕ
@@ -82,6 +79,12 @@ pub record Stands (s : List ℕ) (at : ℕ) : Type 0 where
   pub item : MvccLogRecord
   pub next : ℕ
   pub is : record_at s at ≡ taken item next
+
+-- n columns stand from `at` on
+pub record Columns (s : List ℕ) (n at : ℕ) : Type 0 where
+  pub list : List Column
+  pub end : ℕ
+  pub is : many (column_at s) n at ≡ taken list end
 
 -- n records stand from `at` on
 pub record Walk (s : List ℕ) (n at : ℕ) : Type 0 where

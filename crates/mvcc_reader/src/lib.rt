@@ -7,7 +7,7 @@ ghost use Rattle.mvcc.specs.Batch.{heading_size};
 ghost use Rattle.mvcc.specs.Fields.{record_answer};
 ghost use Rattle.mvcc.specs.Decode.{record_at};
 
-use mvcc::BATCH_HEADING_SIZE;
+use mvcc::{BATCH_HEADING_SIZE, Field, MvccLogRecord};
 
 #[derive(Clone, Copy)]
 pub struct BatchReader<'a> {
@@ -16,7 +16,7 @@ pub struct BatchReader<'a> {
 }
 
 // The work: the record at a cursor of a body, with the next cursor.
-fn record_at(body: &[u8], at: usize) -> mvcc::RecordField
+fn record_at(body: &[u8], at: usize) -> Field<MvccLogRecord>
     ensures { record_answer result ≡ record_at body.now at }
 {
     mvcc::decode_record(body, at)
@@ -33,7 +33,7 @@ pub fn new<'a>(body: &'a [u8]) -> BatchReader<'a>
 }
 
 // The record at the reader's cursor, with the next cursor.
-pub fn next<'a>(r: BatchReader<'a>) -> mvcc::RecordField
+pub fn next<'a>(r: BatchReader<'a>) -> Field<MvccLogRecord>
     ensures { record_answer result ≡ record_at r.entry.body.now r.entry.at }
 {
     record_at(r.body, r.at)
@@ -43,11 +43,11 @@ pub fn next<'a>(r: BatchReader<'a>) -> mvcc::RecordField
 pub fn moved<'a>(r: BatchReader<'a>, at: usize) -> BatchReader<'a>
     ensures { (result.body ≡ r.entry.body) × (result.at ≡ at) }
 {
-    BatchReader { body: r.body, at }
+    BatchReader { at, ..r }
 }
 
 // The record at a cursor of a body, for callers that keep no reader.
-pub fn record_from(body: &[u8], at: usize) -> mvcc::RecordField
+pub fn record_from(body: &[u8], at: usize) -> Field<MvccLogRecord>
     ensures { record_answer result ≡ record_at body.now at }
 {
     next(moved(new(body), at))

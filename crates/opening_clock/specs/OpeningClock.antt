@@ -1,7 +1,7 @@
 -- Document 02, P4: "A station came back with a clock older than a batch it had just recovered, and issued a time twice. A clean opening therefore
 -- takes the larger of the log header's clock and the greatest commit time among the recovered batches. Plain openings keep the header's clock,
 -- as the Rust does." `opening-clock` of proofs/OpeningClock.antt proves it. What an opening takes is `clock_taken` of pager_state.
-use Rattle.std.specs.Prelude.{◌≡◌, true, false, List, [], ◌∷◌, ℕ, max, ◌^◌, ◌≤◌, ◌<◌, pos}
+use Rattle.std.specs.Prelude.{Ok, ◌≡◌, true, false, List, [], ◌∷◌, ℕ, max, ◌^◌, ◌≤◌, ◌<◌, pos}
 use Rattle.mvcc.specs.Batch.{tombstone, encode_body, Each}
 use Rattle.wal.specs.Recovery.{recovered, committed_frames}
 use Rattle.pager_state.specs.Stores.{Disk, content, disk_of}
@@ -10,7 +10,6 @@ use Rattle.pager_state.specs.Opened.{Opened}
 use Rattle.pager_state.specs.Queries.{log_clock, clock_high_water_of}
 use Rattle.pager_state.specs.declared.AccessMode.{AccessMode}
 use Rattle.pager_state.specs.declared.AccessMode.TheVariants as mode
-use Rattle.pager_state.specs.declared.ClockRead.TheVariants as clock
 use Rattle.pager_state.specs.declared.Pager.{Pager}
 use Rattle.history.specs.Model.{Batch}
 use Rattle.history.specs.Calls.{Lent, Call, Open, Append, Commit, Checkpoint}
@@ -22,7 +21,7 @@ use Rattle.history.specs.Guards.{AtFirst, Always, Accepted, committed_batch}
 
 -- the clock that a store tells
 abbrev pub Tells : Pager → ℕ → Type 0
-Tells p c = clock_high_water_of p ≡ clock.Clock c
+Tells p c = clock_high_water_of p ≡ Ok c
 
 -- of the store that an opening of these files gave
 pub record ByOpening (how : How) (d : Disk) (p : Pager) : Type 0 where

@@ -3,6 +3,7 @@ use mathlib.Core.Path.{◌≡◌, refl, sym, ap, ◌∙◌}
 use mathlib.Core.Bool.{Bool, true, false}
 use mathlib.Core.List.{List, []}
 use Prim.Native.Nat.{ℕ, zero, suc, ◌+◌}
+use Rattle.std.specs.Prelude.{Ok, Err}
 use Rattle.le.specs.Choice.{pick}
 use Rattle.refusal.specs.declared.Refusal.TheVariants as refusal
 use Rattle.refusal.proofs.Rows.{accepted}
@@ -15,7 +16,6 @@ use Rattle.pager_state.specs.Stores.{Act}
 use Rattle.pager_state.specs.declared.Job.{Job}
 use Rattle.pager_state.specs.declared.Job.TheVariants as job
 use Rattle.pager_state.specs.declared.Pager.{Pager}
-use Rattle.pager_state.specs.declared.StepAnswer.TheVariants as step
 use Rattle.pager_checkpoint.specs.CheckpointStep.{checkpoint_step_answer, checkpoint_stepped}
 use Rattle.pager_commit.specs.CommitStep.{commit_step_answer, commit_stepped, commit_frames_world}
 use Rattle.pager.specs.Jobs.{is_commit_job}
@@ -29,7 +29,7 @@ use Rattle.other_calls.specs.Others.{Stays, CommitStepBy, CommitStepIs, BehindSt
 -- ---- steps
 
 -- no store is left to do
-none_done : (ok : Bool) (answer : ℕ) (acts : List Act) (v w : World) → acts ≡ [] → Stays ok w (pick ok (named answer acts) (step.Refused refusal.Area)) (pick ok (done acts v w) w)
+none_done : (ok : Bool) (answer : ℕ) (acts : List Act) (v w : World) → acts ≡ [] → Stays ok w (pick ok (named answer acts) (Err refusal.Area)) (pick ok (done acts v w) w)
 unfolding named done
 none_done true answer acts v w e = rw e (refl, refl)
 none_done false answer acts v w e = (refl, refl)
@@ -53,7 +53,7 @@ module _ (w : World) where
   checkpoint-stays e = none_done (fine w) (answer_of w.pager.job) (checkpoint_todo w.pager.job w) (checkpoint_advance w.pager.job w) w e
 
   -- refused for the areas, by `Step` too
-  checkpoint-refused : fine w ≡ false → (checkpoint_step_answer w ≡ step.Refused refusal.Area) × (checkpoint_stepped w ≡ w)
+  checkpoint-refused : fine w ≡ false → (checkpoint_step_answer w ≡ Err refusal.Area) × (checkpoint_stepped w ≡ w)
   unfolding checkpoint_step_answer checkpoint_stepped
   checkpoint-refused e = (rw e, rw e)
 
@@ -62,7 +62,7 @@ module _ (w : World) where
   behind e g = go (fine w) (staging_fine g) refl refl
     where
       go : (a b : Bool) → fine w ≡ a → staging_fine g ≡ b
-          → (step_answer g w ≡ pick (staging_fine g) (checkpoint_step_answer w) (step.Refused refusal.Area)) × (stepped g w ≡ pick (staging_fine g) (checkpoint_stepped w) w)
+          → (step_answer g w ≡ pick (staging_fine g) (checkpoint_step_answer w) (Err refusal.Area)) × (stepped g w ≡ pick (staging_fine g) (checkpoint_stepped w) w)
       go true true p q = let x = by-checkpoint g w (rw (p, q)) e in (rw q (sym x.0), rw q (sym x.1))
       go true false p q = let x = no-step g w (rw (p, q)) in (rw q (sym x.0), rw q (sym x.1))
       go false true p q = let x = no-step g w (rw p) in (rw q (sym x.0 ∙ sym (checkpoint-refused p).0), rw q (sym x.1 ∙ sym (checkpoint-refused p).1))
@@ -119,4 +119,4 @@ pub read-end-is : ReadEndIs
 unfolding ReadEndIs refused_by find_page
 read-end-is n g w h small e =
     let p : Pager = w.pager in
-    rw (accepted (read_refusal w g) e) (none-behind (count_of (header_of p)) n p.staged.count p.staged.pages w.table h small)
+    rw (accepted (read_refusal w g) e) (ap Ok (none-behind (count_of (header_of p)) n p.staged.count p.staged.pages w.table h small))

@@ -1,5 +1,6 @@
 -- What hosts hand over of a store in numbers to `may_read`, `place_page` and `stage_in`: its own fields, the job's number (0 to 5) among them.
-use Rattle.std.specs.Prelude.{◌≡◌, Bool, not, List, ℕ, eqb}
+use Rattle.std.specs.Prelude.{Result, ◌≡◌, Bool, not, List, ℕ, eqb}
+use Rattle.refusal.specs.declared.Refusal.{Refusal}
 use Rattle.pager_state.specs.World.{world, count_of}
 use Rattle.pager_state.specs.Overlay.{slots, place_page, find_page}
 use Rattle.pager_state.specs.Staging.{stage_answer, staged_after, staging_bytes, stage_page, stage_after}
@@ -16,7 +17,7 @@ unfoldable pub HostSaysBusy : Type 0
 HostSaysBusy = (p : Pager) → SaysBusy (store_of p).job.kind p
 
 -- a page, judged and placed by the store's own fields
-abbrev pub host_reads : Store → List ℕ → List ℕ → List ℕ → List ℕ → ℕ → PageFound
+abbrev pub host_reads : Store → List ℕ → List ℕ → List ℕ → List ℕ → ℕ → Result PageFound Refusal
 host_reads s t l m g n =
     read_as (may_read (count_of s.current_header) s.job.kind s.wal.len s.storage.len t l m g)
     (place_page (count_of s.current_header) (slots s.staged.count s.staged.pages) t n)

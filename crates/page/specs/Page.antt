@@ -1,9 +1,9 @@
 -- A page of the main file: its size, one that holds a header, and the page 1 that creation writes.
-use Rattle.std.specs.Prelude.{List, ◌∷◌, ◌++◌, ℕ, eqb, length, replicate}
+use Rattle.std.specs.Prelude.{Err, Ok, Result, List, ◌∷◌, ◌++◌, ℕ, eqb, length, replicate}
+use Rattle.refusal.specs.declared.Refusal.{Refusal}
+use Rattle.refusal.specs.declared.Refusal.TheVariants as refusal
 use Rattle.le.specs.Choice.{pick}
 use Rattle.le.specs.Le.{le_bytes}
-use Rattle.le.specs.declared.Stored.{Stored}
-use Rattle.le.specs.declared.Stored.TheVariants.{Done, Area}
 
 -- "page 4,096 bytes"
 abbrev pub page_size : ℕ
@@ -19,8 +19,8 @@ unfoldable pub empty_table_page : List ℕ
 empty_table_page = (2 ∷ le_bytes 4 0) ++ (le_bytes 2 0 ++ (le_bytes 2 0 ++ (le_bytes 2 4089 ++ replicate 4085 0)))
 
 -- a page is written where the area lent for it has a page's length; what that answers, and the area afterwards
-abbrev pub empty_answer : List ℕ → Stored
-empty_answer l = pick (eqb (length l) page_size) Done Area
+abbrev pub empty_answer : List ℕ → Result (Unit {0}) Refusal
+empty_answer l = pick (eqb (length l) page_size) (Ok tt) (Err refusal.Area)
 
 abbrev pub empty_after : List ℕ → List ℕ
 empty_after l = pick (eqb (length l) page_size) empty_table_page l

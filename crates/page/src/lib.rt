@@ -4,7 +4,7 @@
 ghost use Rattle.std.specs.Prelude.{◌≡◌};
 ghost use Rattle.page.specs.Page.{empty_answer, empty_after};
 
-use le::Stored;
+use refusal::Refusal;
 
 // Size of every page in bytes.
 pub const PAGE_SIZE: usize = 4096;
@@ -22,18 +22,18 @@ pub struct TablePage {}
 
 impl TablePage {
     // Writes a page without cells, with its heading as creation writes page 1.
-    pub fn empty(page: &mut [u8]) -> Stored
+    pub fn empty(page: &mut [u8]) -> Result<(), Refusal>
         ensures { (result ≡ empty_answer page.old) × (page.new ≡ empty_after page.old) }
     {
         if page.len() != PAGE_SIZE {
-            return Stored::Area;
+            return Err(Refusal::Area);
         }
         page[0] = TABLE_LEAF;
-        le::write_u32(page, 1, 0);
-        le::write_u16(page, 5, 0);
-        le::write_u16(page, 7, 0);
-        le::write_u16(page, 9, PAYLOAD_PER_PAGE as u16);
-        le::write_zeros(page, 11, PAGE_SIZE - 11);
-        Stored::Done
+        let _ = le::write_u32(page, 1, 0);
+        let _ = le::write_u16(page, 5, 0);
+        let _ = le::write_u16(page, 7, 0);
+        let _ = le::write_u16(page, 9, PAYLOAD_PER_PAGE as u16);
+        let _ = le::write_zeros(page, 11, PAGE_SIZE - 11);
+        Ok(())
     }
 }

@@ -4,6 +4,7 @@ use mathlib.Core.Bool.{Bool, true, false}
 use mathlib.Core.List.{List, [], append-nil}
 use Prim.Native.Nat.{ℕ, suc, ◌+◌, ◌-◌, ◌<◌}
 use native.Mathlib.Omega.{arith}
+use Rattle.std.specs.Prelude.{Err}
 use Rattle.le.specs.Choice.{both}
 use Rattle.le.proofs.Compare.{no_test}
 use Rattle.refusal.specs.declared.Refusal.TheVariants as refusal
@@ -13,7 +14,6 @@ use Rattle.pager_state.specs.Commit.{commit_todo, commit_advance}
 use Rattle.pager_state.specs.Steps.{step_fine, todo, advance, step_answer, stepped, steps, most_steps}
 use Rattle.pager_state.specs.declared.Job.{Job}
 use Rattle.pager_state.specs.declared.Job.TheVariants as job
-use Rattle.pager_state.specs.declared.StepAnswer.TheVariants as step
 use Rattle.pager_state.proofs.Begun.{not-busy}
 use Rattle.pager_state.proofs.Runs.{idle-stays}
 use Rattle.pager_checkpoint.specs.CheckpointStep.{checkpoint_step_answer, checkpoint_stepped}
@@ -80,7 +80,7 @@ module _ (g : List ℕ) (w : World) where
       both_first true b e = refl
       both_first false b e = no_test e
 
-  pub no-step : step_fine g w ≡ false → (step.Refused refusal.Area ≡ step_answer g w) × (w ≡ stepped g w)
+  pub no-step : step_fine g w ≡ false → (Err refusal.Area ≡ step_answer g w) × (w ≡ stepped g w)
   unfolding step_answer stepped
   no-step f = (rw f, rw f)
 

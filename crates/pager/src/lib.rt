@@ -5,13 +5,10 @@
 ghost use Rattle.std.specs.Prelude.{◌≡◌, true, ◌-◌};
 ghost use Rattle.pager_state.specs.World.{world};
 ghost use Rattle.pager_state.specs.Steps.{answer_of, step_answer, stepped, steps, most_steps, commit_answer, commit_world, checkpoint_answer, checkpoint_world};
-ghost use Rattle.pager.specs.Jobs.{is_commit_job, start_committed, start_written};
+ghost use Rattle.pager.specs.Jobs.{is_commit_job};
 
 use header::DbHeader;
-use pager_state::{
-    CheckpointAnswer, CheckpointStart, Checkpointed, CommitAnswer, CommitStart, Committed, Job,
-    Pager, StepAnswer, Stepped,
-};
+use pager_state::{CheckpointStart, Job, Outcome, Pager, Step};
 use refusal::Refusal;
 
 // More steps than any commit or checkpoint has.
@@ -21,15 +18,7 @@ const MOST_STEPS: usize = 2_200;
 fn is_commit(job: Job) -> bool
     ensures { result ≡ is_commit_job job }
 {
-    match job {
-        Job::Commit {
-            header: _,
-            salt: _,
-            page: _,
-            answer: _,
-        } => true,
-        _ => false,
-    }
+    matches!(job, Job::Commit { .. })
 }
 
 // Does the next store of the commit or checkpoint that is part done, and no other.
@@ -39,7 +28,7 @@ pub fn next_step<'a>(
     log: &mut [u8],
     main: &mut [u8],
     staging: &'a [u8],
-) -> Stepped
+) -> Outcome<Step>
     ensures answer_value { let w = world pager table.old log.old main.old in
         result.answer ≡ step_answer staging.now w }
     ensures later_after { let w = world pager table.old log.old main.old in
@@ -47,13 +36,12 @@ pub fn next_step<'a>(
         later ≡ stepped staging.now w }
 {
     if !pager_state::are_fine(pager, table.len(), log.len(), main.len(), staging.len()) {
-        return Stepped {
-            answer: StepAnswer::Refused(Refusal::Area),
+        return Outcome {
+            answer: Err(Refusal::Area),
             pager,
         };
     }
-    let job = pager.job;
-    if is_commit(job) {
+    if is_commit(pager.job) {
         return pager_commit::commit_step(pager, table, log, main, staging);
     }
     pager_checkpoint::checkpoint_step(pager, table, log, main)
@@ -73,15 +61,11 @@ fn run_steps<'a>(
         later ≡ steps staging.now (most_steps - done) w }
 {
     let mut p = pager;
-    let mut k = done;
-    while k < MOST_STEPS {
-        let job = p.job;
-        if !pager_state::is_busy(job) {
+    for _ in done..MOST_STEPS {
+        if !pager_state::is_busy(p.job) {
             return p;
         }
-        let r = next_step(p, table, log, main, staging);
-        p = r.pager;
-        k += 1;
+        p = next_step(p, table, log, main, staging).pager;
     }
     p
 }
@@ -92,34 +76,15 @@ fn answer_of(job: Job) -> usize
 {
     match job {
         Job::Idle => 0,
-        Job::Commit {
-            header: _,
-            salt: _,
-            page: _,
-            answer,
-        } => answer,
-        Job::Checkpoint {
-            salt: _,
-            page: _,
-            answer,
-        } => answer,
-        Job::MainLength { salt: _, answer } => answer,
-        Job::LogLength { salt: _, answer } => answer,
-        Job::LogHeader { salt: _, answer } => answer,
+        Job::Commit { answer, .. }
+        | Job::Checkpoint { answer, .. }
+        | Job::MainLength { answer, .. }
+        | Job::LogLength { answer, .. }
+        | Job::LogHeader { answer, .. } => answer,
     }
 }
 
-// What the start of a commit comes to in one call.
-fn committed_as(answer: CommitStart, pages: usize) -> CommitAnswer
-    ensures { result ≡ start_committed answer pages }
-{
-    match answer {
-        CommitStart::Begun => CommitAnswer::Committed(pages),
-        CommitStart::Refused(refusal) => CommitAnswer::Refused(refusal),
-    }
-}
-
-// A commit in one call.
+// A commit in one call; answers the number of differing pages.
 pub fn commit<'a>(
     pager: Pager,
     table: &mut [u32],
@@ -128,7 +93,7 @@ pub fn commit<'a>(
     staging: &'a [u8],
     new_header: DbHeader,
     salt: u32,
-) -> Committed
+) -> Outcome<usize>
     ensures answer_value { let w = world pager table.old log.old main.old in
         result.answer ≡ commit_answer staging.now w new_header }
     ensures later_after { let w = world pager table.old log.old main.old in
@@ -136,38 +101,17 @@ pub fn commit<'a>(
         later ≡ commit_world staging.now w new_header salt }
 {
     let run = pager_commit::commit_frames(pager, table, log, main, staging, new_header, salt);
-    let start = run.answer;
-    let store = run.pager;
-    let answer = committed_as(start, run.pages);
-    let CommitStart::Begun = start else {
-        return Committed {
-            answer,
-            pager: store,
-        };
+    let Ok(pages) = run.answer else {
+        return run;
     };
-    let job = store.job;
-    if !pager_state::is_busy(job) {
-        return Committed {
-            answer,
-            pager: store,
-        };
+    if !pager_state::is_busy(run.pager.job) {
+        return run;
     }
-    let end = run_steps(store, run.pages + 1, table, log, main, staging);
-    Committed { answer, pager: end }
+    let end = run_steps(run.pager, pages + 1, table, log, main, staging);
+    Outcome { pager: end, ..run }
 }
 
-// What the start of a checkpoint comes to in one call.
-fn written_as(answer: CheckpointStart, pages: usize) -> CheckpointAnswer
-    ensures { result ≡ start_written answer pages }
-{
-    match answer {
-        CheckpointStart::Begun => CheckpointAnswer::Written(pages),
-        CheckpointStart::Nothing => CheckpointAnswer::Written(0),
-        CheckpointStart::Refused(refusal) => CheckpointAnswer::Refused(refusal),
-    }
-}
-
-// A checkpoint in one call.
+// A checkpoint in one call; answers the number of pages written.
 pub fn checkpoint<'a>(
     pager: Pager,
     table: &mut [u32],
@@ -175,7 +119,7 @@ pub fn checkpoint<'a>(
     main: &mut [u8],
     staging: &'a [u8],
     salt: u32,
-) -> Checkpointed
+) -> Outcome<usize>
     ensures answer_value { let w = world pager table.old log.old main.old in
         result.answer ≡ checkpoint_answer staging.now w }
     ensures later_after { let w = world pager table.old log.old main.old in
@@ -183,16 +127,22 @@ pub fn checkpoint<'a>(
         later ≡ checkpoint_world staging.now w salt }
 {
     let begun = pager_checkpoint::begin_checkpoint(pager, table, log, main, staging, salt);
-    let start = begun.answer;
-    let store = begun.pager;
-    let job = store.job;
-    let answer = written_as(start, answer_of(job));
-    let CheckpointStart::Begun = start else {
-        return Checkpointed {
-            answer,
-            pager: store,
-        };
-    };
-    let end = run_steps(store, 0, table, log, main, staging);
-    Checkpointed { answer, pager: end }
+    match begun.answer {
+        Ok(CheckpointStart::Begun) => {
+            let pages = answer_of(begun.pager.job);
+            let end = run_steps(begun.pager, 0, table, log, main, staging);
+            Outcome {
+                answer: Ok(pages),
+                pager: end,
+            }
+        }
+        Ok(CheckpointStart::Nothing) => Outcome {
+            answer: Ok(0),
+            pager: begun.pager,
+        },
+        Err(refusal) => Outcome {
+            answer: Err(refusal),
+            pager: begun.pager,
+        },
+    }
 }

@@ -9,18 +9,19 @@ use native.Mathlib.Omega.{arith}
 use borrow.Author.Tests.{le-leb, leb-true, leb-false}
 use lib.Dec.{leb}
 use lib.ListN.{length, length-take}
+use Rattle.std.specs.Prelude.{Err, Ok, Result}
 use Rattle.le.specs.Le.{put}
 use Rattle.le.proofs.Tests.{le-or-lt}
 use Rattle.frame.specs.Frame.{frame_at, body_of}
 use Rattle.frame.proofs.Places.{body-there}
 use Rattle.refusal.specs.declared.Refusal.TheVariants as refusal
+use Rattle.refusal.specs.declared.Refusal.{Refusal}
 use Rattle.header.specs.Header.{encode_header}
 use Rattle.header.specs.declared.DbHeader.{DbHeader}
 use Rattle.header.proofs.Encoding.{length-encode_header}
 use Rattle.wal.specs.Header.{encode_wal_header}
 use Rattle.wal.specs.Write.{empty_wal, truncated_header, truncate_answer, truncate_after, with_header as wal_headed}
 use Rattle.wal.specs.declared.Wal.{Wal}
-use Rattle.wal.specs.declared.WalTruncated.TheVariants as truncated
 use Rattle.wal.proofs.Encoding.{length-encode_wal_header}
 use Rattle.pager_state.specs.World.{World, world, count_of, header_of, fine, busy, read_only, with_job, with_wal}
 use Rattle.pager_state.specs.Overlay.{frame_of, log_bytes}
@@ -31,13 +32,13 @@ use Rattle.pager_state.specs.Steps.{step_fine, answer_of, named_by, named, done,
 use Rattle.pager_state.specs.declared.Job.{Job}
 use Rattle.pager_state.specs.declared.Job.TheVariants as job
 use Rattle.pager_state.specs.declared.Pager.{Pager}
-use Rattle.pager_state.specs.declared.StepAnswer.{StepAnswer}
-use Rattle.pager_state.specs.declared.StepAnswer.TheVariants as step
 use Rattle.pager_state.specs.declared.CheckpointStart.TheVariants as checkpoint
 use Rattle.pager_state.proofs.Searches.{lowest}
 use Rattle.pager_state.proofs.Walks.{none_found}
 use Rattle.pager_state.proofs.Nexts.{named_in, done-in}
 use Rattle.pager_state.proofs.Made.{fine-parts}
+use Rattle.pager_state.specs.declared.Step.TheVariants as step
+use Rattle.pager_state.specs.declared.Step.{Step}
 use Rattle.pager_checkpoint.specs.CheckpointStep.{checkpoint_step_answer, checkpoint_stepped, file_in, with_main, page_put, header_put, checkpoint_started_as}
 
 -- ---- a checkpoint's pages, by the count and the table
@@ -120,14 +121,14 @@ checkpointed-by salt w {r} {t} {l} er et el =
 -- ---- pages and main header
 
 -- after a page or before one there is always a store
-more-pages : (n salt answer : ℕ) (a : Act) (l : List ℕ) (v : World) → named_by n a (pages_todo salt answer l v) ≡ step.Stored (place_of a)
+more-pages : (n salt answer : ℕ) (a : Act) (l : List ℕ) (v : World) → named_by n a (pages_todo salt answer l v) ≡ Ok (step.Stored (place_of a))
 unfolding pages_todo
 more-pages n salt answer a [] v = refl
 more-pages n salt answer a (x ∷ xs) v = refl
 
 module _ (salt answer p : ℕ) (w : World) where
   pub page-told : (q : ℕ) (b : Bool) → pages_from (in_checkpoint w) p ≡ q ∷ pages_from (in_checkpoint w) (suc q) → q < 1024 → is_empty (pages_from (in_checkpoint w) (suc q)) ≡ b
-      → step.Stored (place_of (page_act w q b)) ≡ named answer (pages_todo salt answer (pages_from (in_checkpoint w) p) w)
+      → Ok (step.Stored (place_of (page_act w q b))) ≡ named answer (pages_todo salt answer (pages_from (in_checkpoint w) p) w)
   unfolding pages_todo
   page-told q b e h t =
       let ps : List ℕ = pages_from (in_checkpoint w) (suc q) in
@@ -138,7 +139,7 @@ module _ (salt answer p : ℕ) (w : World) where
       → v ≡ pages_advance salt answer (pages_from (in_checkpoint w) p) w
   page-done q e f = f ∙ rw e
 
-  pub head-told : pages_from (in_checkpoint w) p ≡ [] → step.Stored (place_of (main_header_act w)) ≡ named answer (pages_todo salt answer (pages_from (in_checkpoint w) p) w)
+  pub head-told : pages_from (in_checkpoint w) p ≡ [] → Ok (step.Stored (place_of (main_header_act w))) ≡ named answer (pages_todo salt answer (pages_from (in_checkpoint w) p) w)
   unfolding pages_todo
   head-told e = rw (e, named_in (main_header_act w) (length_todo salt answer (main_header_stored salt answer w)) answer (header-inside w))
 
@@ -163,7 +164,7 @@ module _ (salt answer p : ℕ) (w : World) where
 
 -- ---- the step, by the job
 
-pub not-fine : (w : World) → fine w ≡ false → (step.Refused refusal.Area ≡ checkpoint_step_answer w) × (w ≡ checkpoint_stepped w)
+pub not-fine : (w : World) → fine w ≡ false → (Err refusal.Area ≡ checkpoint_step_answer w) × (w ≡ checkpoint_stepped w)
 unfolding checkpoint_step_answer checkpoint_stepped
 not-fine w e = (rw e, rw e)
 
@@ -173,15 +174,15 @@ module _ (w : World) (fi : fine w ≡ true) where
   unfolding checkpoint_step_answer checkpoint_stepped
   by-job j q = (rw (fi, q), rw (fi, q))
 
-  pub at-idle : w.pager.job ≡ job.Idle → (step.Idle ≡ checkpoint_step_answer w) × (w ≡ checkpoint_stepped w)
+  pub at-idle : w.pager.job ≡ job.Idle → ((Ok step.Idle) ≡ checkpoint_step_answer w) × (w ≡ checkpoint_stepped w)
   unfolding checkpoint_todo named done
   at-idle q = let b = by-job job.Idle q in (sym b.0, sym b.1)
 
-  pub at-commit : (h : DbHeader) (salt page answer : ℕ) → w.pager.job ≡ job.Commit h salt page answer → (step.Idle ≡ checkpoint_step_answer w) × (w ≡ checkpoint_stepped w)
+  pub at-commit : (h : DbHeader) (salt page answer : ℕ) → w.pager.job ≡ job.Commit h salt page answer → ((Ok step.Idle) ≡ checkpoint_step_answer w) × (w ≡ checkpoint_stepped w)
   unfolding checkpoint_todo named done
   at-commit h salt page answer q = let b = by-job (job.Commit h salt page answer) q in (sym b.0, sym b.1)
 
-  pub at-checkpoint : (salt page answer : ℕ) {a : StepAnswer} {v : World} → w.pager.job ≡ job.Checkpoint salt page answer
+  pub at-checkpoint : (salt page answer : ℕ) {a : (Result Step Refusal)} {v : World} → w.pager.job ≡ job.Checkpoint salt page answer
       → a ≡ named answer (pages_todo salt answer (pages_from (in_checkpoint w) page) w) → v ≡ pages_advance salt answer (pages_from (in_checkpoint w) page) w
       → (a ≡ checkpoint_step_answer w) × (v ≡ checkpoint_stepped w)
   unfolding checkpoint_todo checkpoint_advance
@@ -190,14 +191,14 @@ module _ (w : World) (fi : fine w ≡ true) where
       (e ∙ sym b.0, f ∙ sym (pages-done salt answer page w (pages_advance salt answer (pages_from (in_checkpoint w) page) w)) ∙ sym b.1)
 
   -- a job whose first store lies inside its area
-  one_store : (j : Job) (a : Act) (rest : List Act) (v : World) {x : StepAnswer} {u : World} → w.pager.job ≡ j → checkpoint_todo j w ≡ a ∷ rest → checkpoint_advance j w ≡ v
+  one_store : (j : Job) (a : Act) (rest : List Act) (v : World) {x : (Result Step Refusal)} {u : World} → w.pager.job ≡ j → checkpoint_todo j w ≡ a ∷ rest → checkpoint_advance j w ≡ v
       → inside a ≡ true → x ≡ named_by (answer_of j) a rest → u ≡ v → (x ≡ checkpoint_step_answer w) × (u ≡ checkpoint_stepped w)
   one_store j a rest v {x} {u} q e d i f g =
       let b = by-job j q in
       (f ∙ sym (b.0 ∙ ap (named (answer_of j)) e ∙ named_in a rest (answer_of j) i), g ∙ sym (b.1 ∙ rw (e, d) (done-in a rest v w i)))
 
-  pub at_length : (salt answer : ℕ) {x : StepAnswer} {r : Pager} {m : List ℕ} → w.pager.job ≡ job.MainLength salt answer
-      → x ≡ step.Stored (place_of (main_length_act w))
+  pub at_length : (salt answer : ℕ) {x : (Result Step Refusal)} {r : Pager} {m : List ℕ} → w.pager.job ≡ job.MainLength salt answer
+      → x ≡ Ok (step.Stored (place_of (main_length_act w)))
       → r ≡ with_main w.pager (4096 * count_of (header_of w.pager)) w.pager.storage.header (job.LogLength salt answer)
       → m ≡ grown (file_in w.main w.pager.storage.len) (4096 * count_of (header_of w.pager))
       → (x ≡ checkpoint_step_answer w) × (world r w.table w.log m ≡ checkpoint_stepped w)
@@ -206,8 +207,8 @@ module _ (w : World) (fi : fine w ≡ true) where
       one_store (job.MainLength salt answer) (main_length_act w) (empty_todo salt answer (main_length_stored salt answer w)) (main_length_stored salt answer w) q refl refl (length-inside w fi) e
       (lengthened-by salt answer w er em)
 
-  pub at-empty : (salt answer : ℕ) {x : StepAnswer} {r : Pager} {l : List ℕ} → w.pager.job ≡ job.LogLength salt answer
-      → x ≡ step.Stored (place_of log_length_act) → r ≡ with_job (without_frames w.pager) (job.LogHeader salt answer)
+  pub at-empty : (salt answer : ℕ) {x : (Result Step Refusal)} {r : Pager} {l : List ℕ} → w.pager.job ≡ job.LogLength salt answer
+      → x ≡ Ok (step.Stored (place_of log_length_act)) → r ≡ with_job (without_frames w.pager) (job.LogHeader salt answer)
       → l ≡ grown (file_in w.log w.pager.wal.len) 32
       → (x ≡ checkpoint_step_answer w) × (world r w.table l w.main ≡ checkpoint_stepped w)
   unfolding checkpoint_todo checkpoint_advance
@@ -215,8 +216,8 @@ module _ (w : World) (fi : fine w ≡ true) where
       one_store (job.LogLength salt answer) log_length_act (header_todo salt (log_length_stored salt answer w)) (log_length_stored salt answer w) q refl refl (le-leb 32 4210720 (omega arith)) e
       (emptied-by salt answer w er el)
 
-  pub at_last : (salt answer : ℕ) {x : StepAnswer} {r : Pager} {t l : List ℕ} → w.pager.job ≡ job.LogHeader salt answer
-      → x ≡ step.Last (place_of (log_header_act w salt)) answer → r ≡ with_job (with_wal w.pager (empty_wal (next_header w salt))) job.Idle
+  pub at_last : (salt answer : ℕ) {x : (Result Step Refusal)} {r : Pager} {t l : List ℕ} → w.pager.job ≡ job.LogHeader salt answer
+      → x ≡ Ok (step.Last (place_of (log_header_act w salt)) answer) → r ≡ with_job (with_wal w.pager (empty_wal (next_header w salt))) job.Idle
       → t ≡ checkpointed_from (count_of (header_of w.pager)) 0 w.table → l ≡ put w.log 0 (encode_wal_header (next_header w salt))
       → (x ≡ checkpoint_step_answer w) × (world r t l w.main ≡ checkpoint_stepped w)
   unfolding checkpoint_todo checkpoint_advance
@@ -226,7 +227,7 @@ module _ (w : World) (fi : fine w ≡ true) where
 -- ---- the log's header
 
 module _ (l : List ℕ) (v : Wal) (salt : ℕ) (n : (length l ≡ 4210720) × (v.len ≤ 4210720)) where
-  pub truncated-as : truncate_answer l v salt ≡ truncated.Truncated (empty_wal (truncated_header v.header salt))
+  pub truncated-as : truncate_answer l v salt ≡ Ok (empty_wal (truncated_header v.header salt))
   unfolding truncate_answer
   truncated-as = rw (borrow.Author.Tests.eq-eqb (length l) 4210720 n.0, le-leb v.len 4210720 n.1)
 
@@ -237,26 +238,26 @@ module _ (l : List ℕ) (v : Wal) (salt : ℕ) (n : (length l ≡ 4210720) × (v
 -- ---- the judgement of a starting call
 
 module _ (g : List ℕ) (w : World) (salt : ℕ) where
-  pub start_area : step_fine g w ≡ false → checkpoint_started_as (checkpoint.Refused refusal.Area) w.pager ≡ begin_checkpoint g w salt
+  pub start_area : step_fine g w ≡ false → checkpoint_started_as (Err refusal.Area) w.pager ≡ begin_checkpoint g w salt
   unfolding begin_checkpoint checkpoint_start checkpoint_refusal
   start_area a = rw a
 
   module _ (a : step_fine g w ≡ true) where
-    pub start-busy : busy w.pager ≡ true → checkpoint_started_as (checkpoint.Refused refusal.Busy) w.pager ≡ begin_checkpoint g w salt
+    pub start-busy : busy w.pager ≡ true → checkpoint_started_as (Err refusal.Busy) w.pager ≡ begin_checkpoint g w salt
     unfolding begin_checkpoint checkpoint_start checkpoint_refusal
     start-busy b = rw (a, b)
 
     module _ (b : busy w.pager ≡ false) where
-      pub start-read-only : read_only w.pager ≡ true → checkpoint_started_as (checkpoint.Refused refusal.ReadOnly) w.pager ≡ begin_checkpoint g w salt
+      pub start-read-only : read_only w.pager ≡ true → checkpoint_started_as (Err refusal.ReadOnly) w.pager ≡ begin_checkpoint g w salt
       unfolding begin_checkpoint checkpoint_start checkpoint_refusal
       start-read-only c = rw (a, b, c)
 
       module _ (c : read_only w.pager ≡ false) where
-        pub start-nothing : nothing_to_checkpoint w ≡ true → checkpoint_started_as checkpoint.Nothing w.pager ≡ begin_checkpoint g w salt
+        pub start-nothing : nothing_to_checkpoint w ≡ true → checkpoint_started_as (Ok checkpoint.Nothing) w.pager ≡ begin_checkpoint g w salt
         unfolding begin_checkpoint checkpoint_start checkpoint_refusal
         start-nothing d = rw (a, b, c, d)
 
         pub start-begun : {n : ℕ} {r : Pager} → nothing_to_checkpoint w ≡ false → n ≡ length (pages_from (in_checkpoint w) 0)
-            → r ≡ with_job (with_wal w.pager w.pager.wal) (job.Checkpoint salt 0 n) → checkpoint_started_as checkpoint.Begun r ≡ begin_checkpoint g w salt
+            → r ≡ with_job (with_wal w.pager w.pager.wal) (job.Checkpoint salt 0 n) → checkpoint_started_as (Ok checkpoint.Begun) r ≡ begin_checkpoint g w salt
         unfolding begin_checkpoint checkpoint_start checkpoint_refusal checkpoint_count
         start-begun d e f = rw (a, b, c, d, f, e)

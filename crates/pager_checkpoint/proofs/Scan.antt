@@ -8,18 +8,25 @@ use native.Mathlib.Nat.{add-zero}
 use native.Mathlib.Omega.{arith}
 use borrow.Author.Tests.{le-leb, lt-ltb, le-ltb, eq-eqb, ne_eqb}
 use lib.Dec.{leb, ltb}
-use lib.ListN.{length, get_or}
-use Rattle.le.specs.Choice.{both}
+use lib.ListN.{length, get_or, take, drop}
+use Rattle.std.specs.Int.{from_bool}
+use Rattle.std.proofs.lemmas.List.{get_or-take, get_or-drop, length-take, length-drop}
+use Rattle.le.specs.Choice.{both, pick}
 use Rattle.le.proofs.Tests.{le-or-lt}
 use Rattle.pager_state.specs.Overlay.{frame_of, in_log}
-use Rattle.pager_state.specs.Pages.{pages_from, in_checkpoint_by}
-use Rattle.pager_state.proofs.Searches.{pages-miss, pages-end}
+use Rattle.pager_state.specs.Pages.{pages_from, first_of, in_checkpoint_by}
+use Rattle.pager_state.proofs.Searches.{pages-hit, pages-miss, pages-end}
 use Rattle.pager_state.proofs.Entries.{get_d_past}
+use Rattle.pager_state.proofs.Walks.{tally-step}
 use Rattle.pager_checkpoint.specs.CheckpointStep.{checkpoint_end}
 
 both_false : (a b : Bool) → b ≡ false → both a b ≡ false
 both_false true b e = e
 both_false false b e = refl
+
+one_more : (n : ℕ) (b : Bool) → n + from_bool b ≡ pick b (n + 1) n
+one_more n true = refl
+one_more n false = add-zero n
 
 module _ (count : ℕ) (t : List ℕ) where
   pub hit : (p : ℕ) → 1 ≤ p → p < count → 1 < get_or t p 0 → in_checkpoint_by count t p ≡ true
@@ -85,3 +92,33 @@ module _ (count : ℕ) (t : List ℕ) where
       (λ e. le-ltb 1 (get_or t p 0) e ∙ sym (miss p e))
       (λ e. lt-ltb 1 (get_or t p 0) e ∙ sym (hit p h k e))
       (le-or-lt (get_or t p 0) 1)
+
+  -- an entry counted
+  pub counted : (n p : ℕ) {m : ℕ} → 1 ≤ p → p < count → p < 1024 → m ≡ from_bool (ltb 1 (get_or t p 0))
+      → (n + m ≤ n + 1) × (n + m + length (pages_from (in_checkpoint_by count t) (p + 1)) ≡ n + length (pages_from (in_checkpoint_by count t) p))
+  counted n p h k l e = tally-step (in_checkpoint_by count t) n p l (seen p h k) (ap (λ (i : ℕ). n + i) e ∙ one_more n (ltb 1 (get_or t p 0)))
+
+  -- entries passed over that lie in a part of the table
+  past_part : (q n k : ℕ) → k ≤ n → ((j : ℕ) → j < k → get_or (take n (drop q t)) j 0 ≤ 1) → pages_from (in_checkpoint_by count t) q ≡ pages_from (in_checkpoint_by count t) (q + k)
+  past_part q n k h a =
+      past q (q + k) (omega arith)
+      (λ j l m.
+      let e = get_or-take n (drop q t) (j - q) 0 (omega (arith, h, l, m)) ∙ get_or-drop q t (j - q) 0 in
+      let f : q + (j - q) ≡ j = omega (arith, l) in
+      rw f at rw e at (a (j - q) (omega (arith, l, m))))
+
+  module _ (q end : ℕ) (e : end ≡ checkpoint_end count (length t)) (h : q < end) where
+    -- a part without a page of the log, up to the end
+    pub none-found : ((k : ℕ) → k < length (take (end - q) (drop q t)) → get_or (take (end - q) (drop q t)) k 0 ≤ 1) → pages_from (in_checkpoint_by count t) q ≡ []
+    none-found a =
+        let n : length (take (end - q) (drop q t)) ≡ end - q = simp (length-take, length-drop) (omega (arith, e)) in
+        past_part q (end - q) (end - q) (omega arith) (λ j l. a j (omega (arith, l, n))) ∙ scanned (q + (end - q)) (omega (arith, e, h))
+
+    -- a part with one
+    pub one-found : (k : ℕ) → 1 ≤ q
+        → (k < length (take (end - q) (drop q t))) × (1 < get_or (take (end - q) (drop q t)) k 0) × ((j : ℕ) → j < k → get_or (take (end - q) (drop q t)) j 0 ≤ 1)
+        → first_of (pages_from (in_checkpoint_by count t) q) ≡ q + k
+    one-found k l a =
+        let n : length (take (end - q) (drop q t)) ≡ end - q = simp (length-take, length-drop) (omega (arith, e)) in
+        let g = get_or-take (end - q) (drop q t) k 0 (omega (arith, a.0, n)) ∙ get_or-drop q t k 0 in
+        ap first_of (past_part q (end - q) k (omega (arith, a.0, n)) a.2 ∙ pages-hit (in_checkpoint_by count t) (q + k) (omega (arith, a.0, n, e)) (hit (q + k) (omega arith) (omega (arith, a.0, n, e)) (rw g at a.1)))

@@ -1,7 +1,8 @@
 -- A step of a checkpoint that is part done, and what its parts are by themselves.
-use Rattle.std.specs.Prelude.{List, ℕ, min}
+use Rattle.std.specs.Prelude.{Err, Result, List, ℕ, min}
 use Rattle.le.specs.Choice.{pick}
 use Rattle.refusal.specs.declared.Refusal.TheVariants as refusal
+use Rattle.refusal.specs.declared.Refusal.{Refusal}
 use Rattle.header.specs.Header.{encode_header}
 use Rattle.header.specs.declared.DbHeader.{DbHeader}
 use Rattle.pager_state.specs.World.{World, page_limit, fine, with_job, with_storage}
@@ -12,13 +13,12 @@ use Rattle.pager_state.specs.Steps.{answer_of, named, done}
 use Rattle.pager_state.specs.declared.Job.{Job}
 use Rattle.pager_state.specs.declared.Pager.{Pager}
 use Rattle.pager_state.specs.declared.CheckpointStart.{CheckpointStart}
-use Rattle.pager_state.specs.declared.CheckpointStarted.{CheckpointStarted}
-use Rattle.pager_state.specs.declared.StepAnswer.{StepAnswer}
-use Rattle.pager_state.specs.declared.StepAnswer.TheVariants as step
+use Rattle.pager_state.specs.declared.Outcome.{Outcome}
+use Rattle.pager_state.specs.declared.Step.{Step}
 
 -- refusal 1, then "each next-step call does the next store .. and no other" of a checkpoint; of another job nothing and Idle
-unfoldable pub checkpoint_step_answer : World → StepAnswer
-checkpoint_step_answer w = pick (fine w) (named (answer_of w.pager.job) (checkpoint_todo w.pager.job w)) (step.Refused refusal.Area)
+unfoldable pub checkpoint_step_answer : World → Result Step Refusal
+checkpoint_step_answer w = pick (fine w) (named (answer_of w.pager.job) (checkpoint_todo w.pager.job w)) (Err refusal.Area)
 
 unfoldable pub checkpoint_stepped : World → World
 checkpoint_stepped w = pick (fine w) (done (checkpoint_todo w.pager.job w) (checkpoint_advance w.pager.job w) w) w
@@ -43,5 +43,5 @@ page_put main len t l n = put_file (file_in main len) (main_at n) (log_bytes t l
 abbrev pub header_put : List ℕ → ℕ → DbHeader → File
 header_put main len h = put_file (file_in main len) 0 (encode_header h)
 
-abbrev pub checkpoint_started_as : CheckpointStart → Pager → CheckpointStarted
+abbrev pub checkpoint_started_as : Result CheckpointStart Refusal → Pager → Outcome CheckpointStart
 checkpoint_started_as a p = record { answer = a; pager = p }

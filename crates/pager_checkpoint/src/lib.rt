@@ -1,10 +1,10 @@
 // The stores of a checkpoint, one at a time, and the call that starts a checkpoint.
 #![tactic(auto)]
 
-ghost use Rattle.std.specs.Prelude.{◌≡◌, true, false, ◌++◌, ℕ, ◌+◌, ◌*◌, ◌≤◌, ◌<◌, max, eqb, length, take, drop, get_or, replicate};
+ghost use Rattle.std.specs.Prelude.{Ok, ◌≡◌, true, false, ℕ, ◌+◌, ◌*◌, ◌≤◌, ◌<◌, eqb, length, get_or, MatchOption};
 ghost use Rattle.wal.specs.Recovery.{wal_area};
 ghost use Rattle.page.specs.Page.{page_size};
-ghost use Rattle.le.specs.Choice.{pick, both};
+ghost use Rattle.le.specs.Choice.{both};
 ghost use Rattle.header.specs.Header.{encode_header};
 ghost use Rattle.wal.specs.Header.{header_size, encode_wal_header};
 ghost use Rattle.wal.specs.Write.{empty_wal, truncated_header};
@@ -20,56 +20,48 @@ ghost use Rattle.pager_checkpoint.specs.CheckpointStep.{checkpoint_step_answer, 
 use header::DbHeader;
 use page::PAGE_SIZE;
 use pager_state::{
-    CheckpointStart, CheckpointStarted, FileKind, FileStorage, Job, PAGES, Pager, Place,
-    StepAnswer, Stepped,
+    CheckpointStart, FileKind, FileStorage, Job, Outcome, PAGES, Pager, Place, Step,
 };
 use refusal::Refusal;
-use wal::{WAL_HEADER_SIZE, Wal, WalTruncated};
+use wal::{WAL_HEADER_SIZE, Wal};
 
 // Where the pages end that a checkpoint can store: those below the page count that the table has.
 fn checkpoint_end(count: u32, len: usize) -> usize
     ensures { result ≡ checkpoint_end count len }
 {
-    le::min(le::min(le::widen_u32(count), PAGES), len)
+    (count as usize).min(PAGES).min(len)
 }
 
-// The bits of both numbers: no less than either.
-fn bits_of(a: u32, b: u32) -> u32
-    ensures { (a ≤ result) × (b ≤ result) }
+// The bits of all entries: above 1 where one of them is. With no way out in between the compiler takes four at once.
+fn bits(entries: &[u32]) -> u32
+    ensures { (k : ℕ) → k < length entries.now → get_or entries.now k 0 ≤ result }
 {
-    a | b
-}
-
-// A bound of 32 entries from `i` on, and 0 or 1 if they are. With no way out in between the compiler takes four at once.
-fn bound_32(table: &[u32], i: usize) -> u32
-    requires { i + 32 ≤ length table.now }
-    ensures { (k : ℕ) → k < 32 → get_or table.now (i + k) 0 ≤ result }
-{
-    let mut bits: u32 = 0;
-    let mut k: usize = 0;
-    while k < 32 {
-        bits = bits_of(bits, table[i + k]);
-        k += 1;
+    let mut bits = 0;
+    for entry in entries {
+        bits |= *entry;
     }
     bits
 }
 
-// Where to look for pages of the log from `from` on, below `end`: behind blocks of 32 entries that have none.
-fn look_from(table: &[u32], from: usize, end: usize) -> usize
-    requires { end ≤ length table.now }
-    ensures { (from ≤ result) × ((result ≤ max from end) × ((k : ℕ) → from ≤ k → k < result → get_or table.now k 0 ≤ 1)) }
+// How many blocks of 32 entries stand before the first with a page of the log.
+fn blocks_without(entries: &[u32]) -> usize
+    ensures { (32 * result ≤ length entries.now) × ((k : ℕ) → k < 32 * result → get_or entries.now k 0 ≤ 1) }
 {
-    let mut i = from;
-    if end < i {
-        return i;
-    }
-    while 32 <= end - i {
-        if 1 < bound_32(table, i) {
-            return i;
-        }
-        i += 32;
-    }
-    i
+    let (blocks, _) = entries.as_chunks::<32>();
+    blocks
+        .iter()
+        .position(|block| 1 < bits(block))
+        .unwrap_or(blocks.len())
+}
+
+// The first entry of a page of the log.
+fn first_in_log(entries: &[u32]) -> Option<usize>
+    ensures { MatchOption result ((k : ℕ) → k < length entries.now → get_or entries.now k 0 ≤ 1)
+        (λ p. (p < length entries.now) × (1 < get_or entries.now p 0) × ((k : ℕ) → k < p → get_or entries.now k 0 ≤ 1)) }
+{
+    let start = 32 * blocks_without(entries);
+    let k = entries[start..].iter().position(|entry| 1 < *entry)?;
+    Some(start + k)
 }
 
 // The first page from `page` on that a checkpoint stores; 1,024 if there is none. Often it is the very next.
@@ -77,28 +69,17 @@ fn next_in_checkpoint(count: u32, table: &[u32], page: usize) -> usize
     ensures { result ≡ first_of (pages_from (in_checkpoint_by count table.now) page) }
 {
     let end = checkpoint_end(count, table.len());
-    let first = le::max(page, 1);
+    let first = page.max(1);
     if end <= first {
         return PAGES;
     }
     if 1 < table[first] {
         return first;
     }
-    let mut p = look_from(table, first, end);
-    while p < end {
-        if 1 < table[p] {
-            return p;
-        }
-        p += 1;
+    match first_in_log(&table[first..end]) {
+        Some(k) => first + k,
+        None => PAGES,
     }
-    PAGES
-}
-
-fn tally(n: u32, yes: bool) -> u32
-    requires { n < page_limit }
-    ensures { result ≡ pick yes (n + 1) n }
-{
-    if yes { n + 1 } else { n }
 }
 
 // How many pages a checkpoint stores. The count is as wide as the entries, so that the compiler counts four at once.
@@ -106,13 +87,14 @@ fn count_in_checkpoint(count: u32, table: &[u32]) -> usize
     ensures { result ≡ length (pages_from (in_checkpoint_by count table.now) 0) }
 {
     let end = checkpoint_end(count, table.len());
-    let mut n: u32 = 0;
-    let mut p: usize = 1;
-    while p < end {
-        n = tally(n, 1 < table[p]);
-        p += 1;
+    if end == 0 {
+        return 0;
     }
-    le::widen_u32(n)
+    let mut n: u32 = 0;
+    for entry in &table[1..end] {
+        n += u32::from(1 < *entry);
+    }
+    n as usize
 }
 
 // Makes a file of `len` bytes `to` bytes long, with zeros, if it is shorter.
@@ -123,7 +105,7 @@ fn grow(area: &mut [u8], len: usize, to: usize)
     if to <= len {
         return;
     }
-    le::write_zeros(area, len, to - len);
+    let _ = le::write_zeros(area, len, to - len);
 }
 
 // Stores bytes in a file of `len` bytes, with zeros before them where they start past its end; answers its length.
@@ -132,8 +114,8 @@ fn store_bytes(area: &mut [u8], len: usize, at: usize, bytes: &[u8]) -> usize
     ensures { let f = put_file (file_in area.old len) at bytes.now in (result ≡ f.len) × (area.new ≡ f.area) }
 {
     grow(area, len, at);
-    le::write_bytes(area, at, bytes);
-    le::max(len, at + bytes.len())
+    let _ = le::write_bytes(area, at, bytes);
+    len.max(at + bytes.len())
 }
 
 // Stores the main header where it lies; answers the file's length.
@@ -141,72 +123,40 @@ fn store_header(main: &mut [u8], len: usize, header: DbHeader) -> usize
     requires { page_size ≤ length main.old }
     ensures { (result ≡ (header_put main.old len header).len) × (main.new ≡ (header_put main.old len header).area) }
 {
-    header::encode_header(header, &mut main[..PAGE_SIZE]);
-    le::max(len, PAGE_SIZE)
+    let _ = header::encode_header(header, &mut main[..PAGE_SIZE]);
+    len.max(PAGE_SIZE)
 }
 
-// The entry of a page that stays, once the log is checkpointed.
-fn mark(entry: u32) -> u32
-    ensures { result ≡ pick (eqb entry 0) 0 1 }
+// Makes a whole table that of a checkpointed log: an entry that was not 0 becomes 1, and the first one 0.
+fn mark(table: &mut [u32])
+    ensures { table.new ≡ checkpointed_from (length table.old) 0 table.old }
 {
-    if entry == 0 { 0 } else { 1 }
-}
-
-// The entries below `end`, as they are once a log is checkpointed that has so many pages.
-fn checkpoint_front(table: &mut [u32], end: usize)
-    requires { end ≤ length table.old }
-    ensures { table.new ≡ take end (checkpointed_from end 0 table.old) ++ drop end table.old }
-{
-    if end == 0 {
-        return;
+    for entry in table.iter_mut() {
+        *entry = (*entry).min(1);
     }
-    table[0] = 0;
-    let mut p: usize = 1;
-    while p < end {
-        let entry = table[p];
-        table[p] = mark(entry);
-        p += 1;
+    if 0 < table.len() {
+        table[0] = 0;
     }
 }
 
-// Puts n zeros from `at` on.
-fn clear(table: &mut [u32], at: usize, n: usize)
-    requires { at + n ≤ length table.old }
-    ensures { table.new ≡ put table.old at (replicate n 0) }
-{
-    let mut i = 0;
-    while i < n {
-        table[at + i] = 0;
-        i += 1;
-    }
-}
-
-// The table once the log is checkpointed. One loop with all tests would take one entry at a time.
+// The table once the log is checkpointed that has so many pages. One loop with all tests would take one entry at a time.
 fn checkpoint_table(table: &mut [u32], count: u32)
     ensures { table.new ≡ checkpointed_from count 0 table.old }
 {
-    let len = table.len();
-    let end = le::min(le::widen_u32(count), len);
-    checkpoint_front(table, end);
-    clear(table, end, len - end);
+    let end = (count as usize).min(table.len());
+    let (front, rest) = table.split_at_mut(end);
+    mark(front);
+    rest.fill(0);
 }
 
 // The store with another main file and the next job.
 fn with_main(pager: Pager, len: usize, header: DbHeader, job: Job) -> Pager
     ensures { result ≡ with_main pager len header job }
 {
-    let current_header = pager.current_header;
-    let wal = pager.wal;
-    let staged = pager.staged;
-    let opening = pager.opening;
     Pager {
-        current_header,
-        wal,
-        recovered: pager.recovered,
         storage: FileStorage { len, header },
-        staged,
         job,
-        opening,
+        ..pager
     }
 }
 
@@ -214,24 +164,16 @@ fn with_main(pager: Pager, len: usize, header: DbHeader, job: Job) -> Pager
 fn without_frames(pager: Pager, job: Job) -> Pager
     ensures { result ≡ with_job (without_frames pager) job }
 {
-    let current_header = pager.current_header;
-    let old = pager.wal;
-    let header = old.header;
-    let storage = pager.storage;
-    let staged = pager.staged;
-    let opening = pager.opening;
     Pager {
-        current_header,
-        wal: Wal::empty(header),
+        wal: Wal::empty(pager.wal.header),
         recovered: WAL_HEADER_SIZE,
-        storage,
-        staged,
         job,
-        opening,
+        ..pager
     }
 }
 
-// Stores a page of the log in the main file.
+// Stores a page of the log in the main file. A struct of `salt` and `answer` would be no plainer: the jobs that clauses name have the two
+// apart. Nor would one of the areas: each step borrows only the areas that it reads or writes.
 fn page_step(
     pager: Pager,
     salt: u32,
@@ -241,46 +183,43 @@ fn page_step(
     table: &[u32],
     log: &[u8],
     main: &mut [u8],
-) -> Stepped
+) -> Outcome<Step>
     requires { (page < page_limit) × (length main.old ≡ main_area_size) }
-    ensures answer_value { result.answer ≡ StepAnswer.Stored (place_of (Put Other FileKind.Main (main_at page) (log_bytes table.now log.now page) last)) }
+    ensures answer_value { result.answer ≡ Ok (Step.Stored (place_of (Put Other FileKind.Main (main_at page) (log_bytes table.now log.now page) last))) }
     ensures pager_value { let f = page_put main.old pager.storage.len table.now log.now page in
         result.pager ≡ with_main pager f.len pager.storage.header (Job.Checkpoint salt (page + 1) answer) }
     ensures main_after { main.new ≡ (page_put main.old pager.storage.len table.now log.now page).area }
 {
     let at = PAGE_SIZE * page;
     let bytes = frame::frame_body(log, pager_state::frame_of(table, page));
-    let storage = pager.storage;
-    let len = store_bytes(main, storage.len, at, bytes);
-    let header = storage.header;
+    let len = store_bytes(main, pager.storage.len, at, bytes);
     let job = Job::Checkpoint {
         salt,
         page: page + 1,
         answer,
     };
-    let next = with_main(pager, len, header, job);
+    let next = with_main(pager, len, pager.storage.header, job);
     let place = Place {
         file: FileKind::Main,
         at,
         len: bytes.len(),
         flush: last,
     };
-    Stepped {
-        answer: StepAnswer::Stored(place),
+    Outcome {
+        answer: Ok(Step::Stored(place)),
         pager: next,
     }
 }
 
 // Stores the main header.
-fn header_step(pager: Pager, salt: u32, answer: usize, main: &mut [u8]) -> Stepped
+fn header_step(pager: Pager, salt: u32, answer: usize, main: &mut [u8]) -> Outcome<Step>
     requires { page_size ≤ length main.old }
-    ensures answer_value { result.answer ≡ StepAnswer.Stored (place_of (Put Other FileKind.Main 0 (encode_header (header_of pager)) false)) }
+    ensures answer_value { result.answer ≡ Ok (Step.Stored (place_of (Put Other FileKind.Main 0 (encode_header (header_of pager)) false))) }
     ensures pager_value { result.pager ≡ with_main pager (header_put main.old pager.storage.len (header_of pager)).len (header_of pager) (Job.MainLength salt answer) }
     ensures main_after { main.new ≡ (header_put main.old pager.storage.len (header_of pager)).area }
 {
     let header = pager.current_header;
-    let storage = pager.storage;
-    let len = store_header(main, storage.len, header);
+    let len = store_header(main, pager.storage.len, header);
     let next = with_main(pager, len, header, Job::MainLength { salt, answer });
     let place = Place {
         file: FileKind::Main,
@@ -288,8 +227,8 @@ fn header_step(pager: Pager, salt: u32, answer: usize, main: &mut [u8]) -> Stepp
         len: PAGE_SIZE,
         flush: false,
     };
-    Stepped {
-        answer: StepAnswer::Stored(place),
+    Outcome {
+        answer: Ok(Step::Stored(place)),
         pager: next,
     }
 }
@@ -303,15 +242,14 @@ fn pages_step(
     table: &[u32],
     log: &[u8],
     main: &mut [u8],
-) -> Stepped
+) -> Outcome<Step>
     requires { length main.old ≡ main_area_size }
     ensures answer_value { let w = world pager table.now log.now main.old in
         result.answer ≡ named answer (pages_todo salt answer (pages_from (in_checkpoint w) page) w) }
     ensures main_after { let w = world pager table.now log.now main.old in
         world result.pager table.now log.now main.new ≡ pages_advance salt answer (pages_from (in_checkpoint w) page) w }
 {
-    let header = pager.current_header;
-    let count = header.page_count;
+    let count = pager.current_header.page_count;
     let q = next_in_checkpoint(count, table, page);
     if q < PAGES {
         let last = PAGES <= next_in_checkpoint(count, table, q + 1);
@@ -321,39 +259,36 @@ fn pages_step(
 }
 
 // Sets the main file's length.
-fn length_step(pager: Pager, salt: u32, answer: usize, main: &mut [u8]) -> Stepped
+fn length_step(pager: Pager, salt: u32, answer: usize, main: &mut [u8]) -> Outcome<Step>
     requires { (count_of (header_of pager) ≤ page_limit) × (length main.old ≡ main_area_size) }
-    ensures answer_value { result.answer ≡ StepAnswer.Stored (place_of (SetLen Other FileKind.Main (page_size * count_of (header_of pager)) true)) }
+    ensures answer_value { result.answer ≡ Ok (Step.Stored (place_of (SetLen Other FileKind.Main (page_size * count_of (header_of pager)) true))) }
     ensures pager_value { result.pager ≡ with_main pager (page_size * count_of (header_of pager)) pager.storage.header (Job.LogLength salt answer) }
     ensures main_after { main.new ≡ grown (file_in main.old pager.storage.len) (page_size * count_of (header_of pager)) }
 {
-    let header = pager.current_header;
-    let to = PAGE_SIZE * le::widen_u32(header.page_count);
-    let storage = pager.storage;
-    grow(main, storage.len, to);
-    let own = storage.header;
-    let next = with_main(pager, to, own, Job::LogLength { salt, answer });
+    let to = PAGE_SIZE * pager.current_header.page_count as usize;
+    grow(main, pager.storage.len, to);
+    let job = Job::LogLength { salt, answer };
+    let next = with_main(pager, to, pager.storage.header, job);
     let place = Place {
         file: FileKind::Main,
         at: to,
         len: 0,
         flush: true,
     };
-    Stepped {
-        answer: StepAnswer::Stored(place),
+    Outcome {
+        answer: Ok(Step::Stored(place)),
         pager: next,
     }
 }
 
 // Sets the log's length to its header's.
-fn empty_step(pager: Pager, salt: u32, answer: usize, log: &mut [u8]) -> Stepped
+fn empty_step(pager: Pager, salt: u32, answer: usize, log: &mut [u8]) -> Outcome<Step>
     requires { header_size ≤ length log.old }
-    ensures answer_value { result.answer ≡ StepAnswer.Stored (place_of log_length_act) }
+    ensures answer_value { result.answer ≡ Ok (Step.Stored (place_of log_length_act)) }
     ensures pager_value { result.pager ≡ with_job (without_frames pager) (Job.LogHeader salt answer) }
     ensures log_after { log.new ≡ grown (file_in log.old pager.wal.len) header_size }
 {
-    let wal = pager.wal;
-    grow(log, wal.len, WAL_HEADER_SIZE);
+    grow(log, pager.wal.len, WAL_HEADER_SIZE);
     let next = without_frames(pager, Job::LogHeader { salt, answer });
     let place = Place {
         file: FileKind::Log,
@@ -361,29 +296,34 @@ fn empty_step(pager: Pager, salt: u32, answer: usize, log: &mut [u8]) -> Stepped
         len: 0,
         flush: false,
     };
-    Stepped {
-        answer: StepAnswer::Stored(place),
+    Outcome {
+        answer: Ok(Step::Stored(place)),
         pager: next,
     }
 }
 
 // Stores the log's header; the table then tells of the main file alone.
-fn last_step(pager: Pager, salt: u32, answer: usize, table: &mut [u32], log: &mut [u8]) -> Stepped
+fn last_step(
+    pager: Pager,
+    salt: u32,
+    answer: usize,
+    table: &mut [u32],
+    log: &mut [u8],
+) -> Outcome<Step>
     requires { (length log.old ≡ wal_area) × (pager.wal.len ≤ wal_area) }
-    ensures answer_value { result.answer ≡ StepAnswer.Last (place_of (Put Other FileKind.Log 0 (encode_wal_header (truncated_header pager.wal.header salt)) true)) answer }
+    ensures answer_value { result.answer ≡ Ok (Step.Last (place_of (Put Other FileKind.Log 0 (encode_wal_header (truncated_header pager.wal.header salt)) true)) answer) }
     ensures pager_value { result.pager ≡ with_job (with_wal pager (empty_wal (truncated_header pager.wal.header salt))) Job.Idle }
     ensures table_after { table.new ≡ checkpointed_from (count_of (header_of pager)) 0 table.old }
     ensures log_after { log.new ≡ put log.old 0 (encode_wal_header (truncated_header pager.wal.header salt)) }
 {
     let old = pager.wal;
-    let WalTruncated::Truncated(wal) = wal::truncate(log, old, salt) else {
-        return Stepped {
-            answer: StepAnswer::Refused(Refusal::Area),
+    let Ok(wal) = wal::truncate(log, old, salt) else {
+        return Outcome {
+            answer: Err(Refusal::Area),
             pager,
         };
     };
-    let header = pager.current_header;
-    checkpoint_table(table, header.page_count);
+    checkpoint_table(table, pager.current_header.page_count);
     let next = pager_state::with_wal(pager, wal, Job::Idle);
     let place = Place {
         file: FileKind::Log,
@@ -391,37 +331,32 @@ fn last_step(pager: Pager, salt: u32, answer: usize, table: &mut [u32], log: &mu
         len: WAL_HEADER_SIZE,
         flush: true,
     };
-    Stepped {
-        answer: StepAnswer::Last(place, answer),
+    Outcome {
+        answer: Ok(Step::Last(place, answer)),
         pager: next,
     }
 }
 
 // Does the next store of a checkpoint that is part done, and no other.
-pub fn checkpoint_step(pager: Pager, table: &mut [u32], log: &mut [u8], main: &mut [u8]) -> Stepped
+pub fn checkpoint_step(
+    pager: Pager,
+    table: &mut [u32],
+    log: &mut [u8],
+    main: &mut [u8],
+) -> Outcome<Step>
     ensures answer_value { result.answer ≡ checkpoint_step_answer (world pager table.old log.old main.old) }
     ensures main_after { let w = world pager table.old log.old main.old in
         world result.pager table.new log.new main.new ≡ checkpoint_stepped w }
 {
     if !pager_state::is_fine(pager, table.len(), log.len(), main.len()) {
-        return Stepped {
-            answer: StepAnswer::Refused(Refusal::Area),
+        return Outcome {
+            answer: Err(Refusal::Area),
             pager,
         };
     }
-    let job = pager.job;
-    match job {
-        Job::Idle => Stepped {
-            answer: StepAnswer::Idle,
-            pager,
-        },
-        Job::Commit {
-            header: _,
-            salt: _,
-            page: _,
-            answer: _,
-        } => Stepped {
-            answer: StepAnswer::Idle,
+    match pager.job {
+        Job::Idle | Job::Commit { .. } => Outcome {
+            answer: Ok(Step::Idle),
             pager,
         },
         Job::Checkpoint { salt, page, answer } => {
@@ -437,30 +372,20 @@ pub fn checkpoint_step(pager: Pager, table: &mut [u32], log: &mut [u8], main: &m
 fn no_log_pages(table: &[u32]) -> bool
     ensures { result ≡ no_log_pages table.now }
 {
-    let mut i = look_from(table, 0, table.len());
-    while i < table.len() {
-        if 1 < table[i] {
-            return false;
-        }
-        i += 1;
-    }
-    true
+    first_in_log(table).is_none()
 }
 
 // Whether there are 0 frames and no log pages.
 fn nothing_to_checkpoint(frames: usize, table: &[u32]) -> bool
     ensures { result ≡ both (eqb frames 0) (no_log_pages table.now) }
 {
-    if frames != 0 {
-        return false;
-    }
-    no_log_pages(table)
+    frames == 0 && no_log_pages(table)
 }
 
-fn started(answer: CheckpointStart, pager: Pager) -> CheckpointStarted
+fn started(answer: Result<CheckpointStart, Refusal>, pager: Pager) -> Outcome<CheckpointStart>
     ensures { result ≡ checkpoint_started_as answer pager }
 {
-    CheckpointStarted { answer, pager }
+    Outcome { answer, pager }
 }
 
 // Judges a checkpoint; stores nothing. Of the staging area only the length is looked at.
@@ -471,33 +396,29 @@ pub fn begin_checkpoint(
     main: &[u8],
     staging: &[u8],
     salt: u32,
-) -> CheckpointStarted
+) -> Outcome<CheckpointStart>
     ensures { result ≡ begin_checkpoint staging.now (world pager table.now log.now main.now) salt }
 {
     if !pager_state::are_fine(pager, table.len(), log.len(), main.len(), staging.len()) {
-        return started(CheckpointStart::Refused(Refusal::Area), pager);
+        return started(Err(Refusal::Area), pager);
     }
-    let job = pager.job;
-    if pager_state::is_busy(job) {
-        return started(CheckpointStart::Refused(Refusal::Busy), pager);
+    if pager_state::is_busy(pager.job) {
+        return started(Err(Refusal::Busy), pager);
     }
-    let opening = pager.opening;
-    if pager_state::is_read_only(opening) {
-        return started(CheckpointStart::Refused(Refusal::ReadOnly), pager);
+    if pager_state::is_read_only(pager.opening) {
+        return started(Err(Refusal::ReadOnly), pager);
     }
-    let wal = pager.wal;
-    if nothing_to_checkpoint(wal.frame_count, table) {
-        return started(CheckpointStart::Nothing, pager);
+    if nothing_to_checkpoint(pager.wal.frame_count, table) {
+        return started(Ok(CheckpointStart::Nothing), pager);
     }
-    let header = pager.current_header;
-    let answer = count_in_checkpoint(header.page_count, table);
+    let answer = count_in_checkpoint(pager.current_header.page_count, table);
     let begun = Job::Checkpoint {
         salt,
         page: 0,
         answer,
     };
     started(
-        CheckpointStart::Begun,
-        pager_state::with_wal(pager, wal, begun),
+        Ok(CheckpointStart::Begun),
+        pager_state::with_wal(pager, pager.wal, begun),
     )
 }

@@ -6,10 +6,12 @@ use Prim.Native.Nat.{ℕ, suc, ◌+◌, ◌*◌, ◌<◌}
 use native.Mathlib.Numerals.{add-one}
 use lib.Dec.{leb}
 use lib.ListN.{length}
+use Rattle.std.specs.Prelude.{Err, Ok, Result}
 use Rattle.le.specs.Choice.{pick}
 use Rattle.le.specs.Le.{put}
 use Rattle.page.specs.Page.{page_size}
 use Rattle.refusal.specs.declared.Refusal.TheVariants as refusal
+use Rattle.refusal.specs.declared.Refusal.{Refusal}
 use Rattle.header.specs.declared.DbHeader.{DbHeader}
 use Rattle.wal.specs.Write.{with_frame, has_room}
 use Rattle.wal.specs.declared.Wal.{Wal}
@@ -25,9 +27,9 @@ use Rattle.pager_state.specs.declared.Job.{Job}
 use Rattle.pager_state.specs.declared.Job.TheVariants as job
 use Rattle.pager_state.specs.declared.Pager.{Pager}
 use Rattle.pager_state.specs.declared.Place.{Place}
-use Rattle.pager_state.specs.declared.StepAnswer.{StepAnswer}
-use Rattle.pager_state.specs.declared.StepAnswer.TheVariants as step
 use Rattle.pager_state.proofs.Stored.{put-end}
+use Rattle.pager_state.specs.declared.Step.TheVariants as step
+use Rattle.pager_state.specs.declared.Step.{Step}
 use Rattle.pager_differing.specs.declared.Slot.{Slot}
 use Rattle.pager_commit.specs.CommitStep.{commit_step_answer, commit_stepped}
 use Rattle.pager_commit.specs.Parts.{slot_frame, commit_frame_bytes, log_place, commit_frame_answer}
@@ -37,12 +39,12 @@ use Rattle.pager_commit.proofs.Stores.{slot-size, commit-frame-size}
 
 -- behind a frame there is always a store
 more-frames : (n : ℕ) (a : Act) (g : List ℕ) (h : DbHeader) (salt answer : ℕ) (l : List ℕ) (v : World)
-    → named_by n a (frames_todo g h salt answer l v) ≡ step.Stored (place_of a)
+    → named_by n a (frames_todo g h salt answer l v) ≡ Ok (step.Stored (place_of a))
 unfolding frames_todo
 more-frames n a g h salt answer [] v = refl
 more-frames n a g h salt answer (x ∷ xs) v = refl
 
-pages-follow : (n : ℕ) (a : Act) (salt answer : ℕ) (l : List ℕ) (v : World) → named_by n a (pages_todo salt answer l v) ≡ step.Stored (place_of a)
+pages-follow : (n : ℕ) (a : Act) (salt answer : ℕ) (l : List ℕ) (v : World) → named_by n a (pages_todo salt answer l v) ≡ Ok (step.Stored (place_of a))
 unfolding pages_todo
 pages-follow n a salt answer [] v = refl
 pages-follow n a salt answer (x ∷ xs) v = refl
@@ -64,7 +66,7 @@ module _ (g : List ℕ) (h : DbHeader) (salt answer page : ℕ) (w : World) wher
   log = w.pager.wal
 
   -- an answer and a world are the step's
-  abbrev pub Stepped : StepAnswer → World → Type 0
+  abbrev pub Stepped : Result Step Refusal → World → Type 0
   Stepped a v = (a ≡ named answer (commit_todo g K w)) × (v ≡ done (commit_todo g K w) (commit_advance g K w) w)
 
   module _ (l : List ℕ) (e : pages_from (differs g w) page ≡ l) where
@@ -78,11 +80,11 @@ module _ (g : List ℕ) (h : DbHeader) (salt answer page : ℕ) (w : World) wher
 
   -- by the store that is next: it lies inside its area, or not
   module _ (a : Act) (rest : List Act) (e : commit_todo g K w ≡ a ∷ rest) where
-    inside-step : inside a ≡ true → {x : StepAnswer} {v : World} → x ≡ named_by answer a rest → v ≡ commit_advance g K w → Stepped x v
+    inside-step : inside a ≡ true → {x : (Result Step Refusal)} {v : World} → x ≡ named_by answer a rest → v ≡ commit_advance g K w → Stepped x v
     unfolding named done
     inside-step i f k = (f ∙ sym (ap (named answer) e ∙ rw i), k ∙ sym (ap (λ (l : List Act). done l (commit_advance g K w) w) e ∙ rw i))
 
-    outside-step : inside a ≡ false → Stepped (step.Refused refusal.Area) w
+    outside-step : inside a ≡ false → Stepped (Err refusal.Area) w
     unfolding named done
     outside-step i = (sym (ap (named answer) e ∙ rw i), sym (ap (λ (l : List Act). done l (commit_advance g K w) w) e ∙ rw i))
 
@@ -107,10 +109,10 @@ module _ (g : List ℕ) (h : DbHeader) (salt answer page : ℕ) (w : World) wher
     frame-room : inside frame ≡ has_room log
     frame-room = rw (slot-size log s g n b)
 
-    pub frame_refused : has_room log ≡ false → Stepped (step.Refused refusal.Area) w
+    pub frame_refused : has_room log ≡ false → Stepped (Err refusal.Area) w
     frame_refused o = outside-step frame more frame-next (frame-room ∙ o)
 
-    frame-told : step.Stored (log_place log false) ≡ named_by answer frame more
+    frame-told : Ok (step.Stored (log_place log false)) ≡ named_by answer frame more
     frame-told = sym (more-frames answer frame g h salt answer (pages_from (differs g w) (suc s.page)) (page_frame_stored g h salt answer s.page w) ∙ rw (slot-size log s g n b))
 
     framed-by : {r : Pager} {t l : List ℕ} → r ≡ with_job (with_wal w.pager (with_frame log 0)) (job.Commit h salt (s.page + 1) answer)
@@ -118,7 +120,7 @@ module _ (g : List ℕ) (h : DbHeader) (salt answer page : ℕ) (w : World) wher
     unfolding page_frame_stored
     framed-by er et el = rw (er, et, el, add-one s.page, bytes-are, put-end (disk_of w).log (slot_frame log s g))
 
-    pub frame-stepped : {a : StepAnswer} {r : Pager} {t l : List ℕ} → has_room log ≡ true → a ≡ step.Stored (log_place log false)
+    pub frame-stepped : {a : (Result Step Refusal)} {r : Pager} {t l : List ℕ} → has_room log ≡ true → a ≡ Ok (step.Stored (log_place log false))
         → r ≡ with_job (with_wal w.pager (with_frame log 0)) (job.Commit h salt (s.page + 1) answer) → t ≡ with_entry w.table s.page log.len
         → l ≡ put w.log log.len (slot_frame log s g) → Stepped a (world r t l w.main)
     frame-stepped o ea er et el =
@@ -141,7 +143,7 @@ module _ (g : List ℕ) (h : DbHeader) (salt answer page : ℕ) (w : World) wher
     commit-frame-room : inside frame-act ≡ has_room log
     commit-frame-room = rw (commit-frame-size log h)
 
-    pub commit-frame-refused : has_room log ≡ false → Stepped (step.Refused refusal.Area) w
+    pub commit-frame-refused : has_room log ≡ false → Stepped (Err refusal.Area) w
     commit-frame-refused o = outside-step frame-act (checkpoint_todo committed.pager.job committed) commit-frame-next (commit-frame-room ∙ o)
 
     job_is : committed.pager.job ≡ job_after (with_frame log (count_of h)) salt answer
@@ -161,7 +163,7 @@ module _ (g : List ℕ) (h : DbHeader) (salt answer page : ℕ) (w : World) wher
     unfolding committed_world committed_pager
     committed-through er et el = rw (er, et, el, put-end (disk_of w).log (commit_frame_bytes log h))
 
-    pub commit-frame-stepped : {a : StepAnswer} {r : Pager} {t l : List ℕ} → has_room log ≡ true → a ≡ commit_frame_answer r.job (log_place log true) answer
+    pub commit-frame-stepped : {a : (Result Step Refusal)} {r : Pager} {t l : List ℕ} → has_room log ≡ true → a ≡ commit_frame_answer r.job (log_place log true) answer
         → r ≡ committed_with h salt answer (with_frame log (count_of h)) w.pager → t ≡ with_entry w.table 0 log.len → l ≡ put w.log log.len (commit_frame_bytes log h)
         → Stepped a (world r t l w.main)
     commit-frame-stepped {a} {r} o ea er et el =
@@ -175,7 +177,7 @@ abbrev pub NoCommit : Job → Type 0
 NoCommit j = (h : DbHeader) (salt page answer : ℕ) → j ≡ job.Commit h salt page answer → ⊥
 
 module _ (g : List ℕ) (w : World) where
-  pub not-fine : step_fine g w ≡ false → (step.Refused refusal.Area ≡ commit_step_answer g w) × (w ≡ commit_stepped g w)
+  pub not-fine : step_fine g w ≡ false → (Err refusal.Area ≡ commit_step_answer g w) × (w ≡ commit_stepped g w)
   unfolding commit_step_answer commit_stepped
   not-fine e = (rw e, rw e)
 
@@ -195,13 +197,13 @@ module _ (g : List ℕ) (w : World) where
     none_left (job.LogLength salt answer) k = refl
     none_left (job.LogHeader salt answer) k = refl
 
-    pub at_other : NoCommit w.pager.job → (step.Idle ≡ commit_step_answer g w) × (w ≡ commit_stepped g w)
+    pub at_other : NoCommit w.pager.job → ((Ok step.Idle) ≡ commit_step_answer g w) × (w ≡ commit_stepped g w)
     unfolding named done
     at_other k =
         let b = by-job w.pager.job refl in
         let e = none_left w.pager.job k in
         (sym (b.0 ∙ rw e), sym (b.1 ∙ rw e))
 
-    pub at-commit : (h : DbHeader) (salt page answer : ℕ) {a : StepAnswer} {v : World} → w.pager.job ≡ job.Commit h salt page answer
+    pub at-commit : (h : DbHeader) (salt page answer : ℕ) {a : (Result Step Refusal)} {v : World} → w.pager.job ≡ job.Commit h salt page answer
         → Stepped g h salt answer page w a v → (a ≡ commit_step_answer g w) × (v ≡ commit_stepped g w)
     at-commit h salt page answer q e = let b = by-job (job.Commit h salt page answer) q in (e.0 ∙ sym b.0, e.1 ∙ sym b.1)

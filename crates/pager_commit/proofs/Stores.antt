@@ -6,6 +6,7 @@ use Prim.Native.Nat.{ℕ, ◌+◌, ◌*◌, ◌≤◌, ◌<◌}
 use native.Mathlib.Omega.{arith}
 use borrow.Author.Tests.{eq-eqb, le-leb, leb-true}
 use lib.ListN.{length, length-take, length-drop}
+use Rattle.std.specs.Prelude.{Err, Ok, Result}
 use Rattle.le.specs.Le.{put}
 use Rattle.le.proofs.Stores.{store-put}
 use Rattle.page.specs.Page.{page_size, front_page}
@@ -18,8 +19,6 @@ use Rattle.frame.proofs.Stores.{length-encode_frame, length-padded}
 use Rattle.wal.specs.Recovery.{wal_area}
 use Rattle.wal.specs.Write.{with_frame, has_room, append_frame_answer, append_frame_after}
 use Rattle.wal.specs.declared.Wal.{Wal}
-use Rattle.wal.specs.declared.FrameAppended.{FrameAppended}
-use Rattle.wal.specs.declared.FrameAppended.TheVariants as appended
 use Rattle.pager_state.specs.World.{staged_limit, staging_area, count_of}
 use Rattle.pager_state.specs.Overlay.{page_from}
 use Rattle.pager_differing.specs.declared.Slot.{Slot}
@@ -52,9 +51,9 @@ frame-stored l v q body n b o =
     rw (eq-eqb (length body) page_size b) (store-put l v.len (encode_frame q 0 v.header.salt body) j)
 
 -- the commit frame: a page of the header's fields and zeros is the header's page
-pub commit-frame-stored : (l : List ℕ) (v : Wal) (h : DbHeader) {x y : List ℕ} {r : FrameAppended} → length l ≡ wal_area → has_room v ≡ true → x ≡ header_fields h
+pub commit-frame-stored : (l : List ℕ) (v : Wal) (h : DbHeader) {x y : List ℕ} {r : (Result Wal Refusal)} → length l ≡ wal_area → has_room v ≡ true → x ≡ header_fields h
     → r ≡ append_frame_answer l v 0 (front_page x) (count_of h) → y ≡ append_frame_after l v 0 (front_page x) (count_of h)
-    → (r ≡ appended.Appended (with_frame v (count_of h))) × (y ≡ put l v.len (commit_frame_bytes v h))
+    → (r ≡ Ok (with_frame v (count_of h))) × (y ≡ put l v.len (commit_frame_bytes v h))
 unfolding append_frame_answer append_frame_after encode_header
 commit-frame-stored l v h n t e a b =
     let z : length (front_page (header_fields h)) ≡ page_size = length-padded (header_fields h) (length-header_fields h) in
@@ -62,8 +61,8 @@ commit-frame-stored l v h n t e a b =
     (a ∙ rw (e, eq-eqb _ _ z, eq-eqb _ _ n, le-leb _ _ f, t), b ∙ rw (e, eq-eqb _ _ z, eq-eqb _ _ n, le-leb _ _ f, t))
 
 -- so it is not refused
-pub not_full : {A : Type 0} {r : FrameAppended} {v : Wal} {x : Refusal} → r ≡ appended.Appended v → r ≡ appended.Refused x → A
+pub not_full : {A : Type 0} {r : (Result Wal Refusal)} {v : Wal} {x : Refusal} → r ≡ Ok v → r ≡ Err x → A
 not_full e f = let z : ◌≡◌ {A = ℕ} 0 1 = cc in absurd (omega arith)
 
-pub appended-is : {r : FrameAppended} {u v : Wal} → r ≡ appended.Appended v → r ≡ appended.Appended u → u ≡ v
+pub appended-is : {r : (Result Wal Refusal)} {u v : Wal} → r ≡ Ok v → r ≡ Ok u → u ≡ v
 appended-is e f = cc

@@ -1,5 +1,6 @@
 -- What the private functions of a commit promise each other. g is the staging area, t the page table and l the log's area.
-use Rattle.std.specs.Prelude.{◌≡◌, Bool, true, List, [], ℕ, ◌+◌, ◌*◌, ◌≤◌, length}
+use Rattle.std.specs.Prelude.{Ok, Result, ◌≡◌, Bool, true, List, [], ℕ, ◌+◌, ◌*◌, ◌≤◌, length}
+use Rattle.refusal.specs.declared.Refusal.{Refusal}
 use Rattle.le.specs.Choice.{pick}
 use Rattle.page.specs.Page.{page_size}
 use Rattle.header.specs.Header.{encode_header}
@@ -16,13 +17,10 @@ use Rattle.pager_state.specs.declared.Job.{Job}
 use Rattle.pager_state.specs.declared.Job.TheVariants as job
 use Rattle.pager_state.specs.declared.Pager.{Pager}
 use Rattle.pager_state.specs.declared.Place.{Place}
-use Rattle.pager_state.specs.declared.CommitStart.{CommitStart}
-use Rattle.pager_state.specs.declared.CommitStarted.{CommitStarted}
-use Rattle.pager_state.specs.declared.StepAnswer.{StepAnswer}
-use Rattle.pager_state.specs.declared.StepAnswer.TheVariants as step
+use Rattle.pager_state.specs.declared.Step.TheVariants as step
+use Rattle.pager_state.specs.declared.Step.{Step}
 use Rattle.pager_differing.specs.Differing.{is_in, Marks}
 use Rattle.pager_differing.specs.declared.Slot.{Slot}
-use Rattle.pager_commit.specs.declared.CommitRun.{CommitRun}
 
 -- ---- one store
 
@@ -43,14 +41,8 @@ abbrev pub log_place : Wal → Bool → Place
 log_place v flush = record { file = file.Log; at = v.len; len = frame_size; flush = flush }
 
 -- what a step that stored the commit frame answers, by the job that is left
-abbrev pub commit_frame_answer : Job → Place → ℕ → StepAnswer
-commit_frame_answer j p answer = pick (busy_with j) (step.Stored p) (step.Last p answer)
-
-abbrev pub commit_started_as : CommitStart → Pager → CommitStarted
-commit_started_as a p = record { answer = a; pager = p }
-
-abbrev pub commit_run_of : CommitStart → ℕ → Pager → CommitRun
-commit_run_of a n p = record { answer = a; pages = n; pager = p }
+abbrev pub commit_frame_answer : Job → Place → ℕ → Result Step Refusal
+commit_frame_answer j p answer = pick (busy_with j) (Ok (step.Stored p)) (Ok (step.Last p answer))
 
 -- ---- all stores up to the commit frame
 

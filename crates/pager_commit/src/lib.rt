@@ -1,29 +1,28 @@
 // The calls of a commit: its start, its stores one at a time, and all of them up to the commit frame.
 #![tactic(auto)]
 
-ghost use Rattle.std.specs.Prelude.{◌≡◌, true, false, ◌+◌, ◌≤◌, ◌<◌, length, take};
-ghost use Rattle.le.specs.Choice.{pick};
+ghost use Rattle.std.specs.Prelude.{Ok, ◌≡◌, true, false, ◌+◌, ◌≤◌, ◌<◌, length, take};
 ghost use Rattle.le.specs.Le.{put};
-ghost use Rattle.refusal.specs.Refusal.{accepts};
 ghost use Rattle.wal.specs.Recovery.{wal_area};
 ghost use Rattle.wal.specs.Write.{with_frame, has_room};
 ghost use Rattle.pager_state.specs.World.{world, page_limit, staged_limit, staging_area, count_of, with_job, with_wal};
 ghost use Rattle.pager_state.specs.Overlay.{entry};
 ghost use Rattle.pager_state.specs.Commit.{with_entry, job_after, committed_with, commit_todo, commit_advance};
-ghost use Rattle.pager_state.specs.Steps.{named, done, differing, commit_refusal, commit_start, begin_commit};
+ghost use Rattle.pager_state.specs.Steps.{named, done, commit_answer, begin_commit};
 ghost use Rattle.pager_commit.specs.CommitStep.{commit_step_answer, commit_stepped, commit_frames_world};
-ghost use Rattle.pager_commit.specs.Parts.{Lengths, slot_frame, commit_frame_bytes, log_place, commit_frame_answer, commit_started_as, commit_run_of, HasRoomFor, FramesStored, RunToCommitFrame};
+ghost use Rattle.pager_commit.specs.Parts.{Lengths, slot_frame, commit_frame_bytes, log_place, commit_frame_answer, HasRoomFor, FramesStored, RunToCommitFrame};
 
-use frame::FRAME_SIZE;
+use frame::{FRAME_SIZE, FrameStart};
 use header::DbHeader;
 use page::PAGE_SIZE;
-use pager_differing::Slot;
+use pager_differing::{Areas, Slot};
+use pager_judge::Judged;
 use pager_state::{
-    AUTO_CHECKPOINT_THRESHOLD_FRAMES, CommitStart, CommitStarted, FileKind, Job, PAGES, Pager,
-    Place, STAGED_PAGES, Staged, StepAnswer, Stepped,
+    AUTO_CHECKPOINT_THRESHOLD_FRAMES, FileKind, Job, Outcome, PAGES, Pager, Place, STAGED_PAGES,
+    Staged, Step,
 };
 use refusal::Refusal;
-use wal::{FrameAppended, WAL_AREA, Wal};
+use wal::{WAL_AREA, Wal};
 
 // ---- one store
 
@@ -32,11 +31,7 @@ fn entry_at(at: usize, on_main: bool) -> u32
     requires { at ≤ wal_area }
     ensures { result ≡ entry at on_main }
 {
-    if on_main {
-        2 * (at as u32) + 1
-    } else {
-        2 * (at as u32)
-    }
+    2 * (at as u32) + u32::from(on_main)
 }
 
 // Enters a page's frame that stands at `at`.
@@ -58,8 +53,12 @@ fn store_frame(wal: Wal, found: Slot, table: &mut [u32], log: &mut [u8], staging
     ensures log_after { log.new ≡ put log.old wal.len (slot_frame wal found staging.now) }
 {
     let body = pager_state::page_from(staging, PAGE_SIZE * found.index);
-    let header = wal.header;
-    frame::write_frame(log, wal.len, found.page as u32, 0, header.salt, body);
+    let start = FrameStart {
+        page_num: found.page as u32,
+        commit_page_count: 0,
+        salt: wal.header.salt,
+    };
+    let _ = frame::write_frame(log, wal.len, start, body);
     enter(table, found.page, wal.len);
     wal.longer()
 }
@@ -74,7 +73,7 @@ fn store_commit_frame(table: &mut [u32], log: &mut [u8], wal: Wal, header: DbHea
     enter(table, 0, wal.len);
     let fields = header::encode_fields(header);
     let appended = wal::append_page_zero(log, wal, &fields, header.page_count);
-    let FrameAppended::Appended(later) = appended else {
+    let Ok(later) = appended else {
         return wal;
     };
     later
@@ -98,18 +97,15 @@ fn job_after(wal: Wal, salt: u32, answer: usize) -> Job
 fn committed(pager: Pager, header: DbHeader, salt: u32, answer: usize, wal: Wal) -> Pager
     ensures { result ≡ committed_with header salt answer wal pager }
 {
-    let storage = pager.storage;
-    let staged = pager.staged;
-    let pages = staged.pages;
-    let opening = pager.opening;
     Pager {
         current_header: header,
         wal,
-        recovered: pager.recovered,
-        storage,
-        staged: Staged { count: 0, pages },
+        staged: Staged {
+            count: 0,
+            ..pager.staged
+        },
         job: job_after(wal, salt, answer),
-        opening,
+        ..pager
     }
 }
 
@@ -137,11 +133,11 @@ fn frame_step(
     table: &mut [u32],
     log: &mut [u8],
     staging: &[u8],
-) -> Stepped
+) -> Outcome<Step>
     requires page_lt_page_limit { (found.page < page_limit) × (found.index < staged_limit) }
     requires lengths { Lengths table.old log.old × (length staging.now ≡ staging_area) }
     requires wal_value { has_room pager.wal ≡ true }
-    ensures answer_value { result.answer ≡ StepAnswer.Stored (log_place pager.wal false) }
+    ensures answer_value { result.answer ≡ Ok (Step.Stored (log_place pager.wal false)) }
     ensures pager_value { let later = with_wal pager (with_frame pager.wal 0) in
         result.pager ≡ with_job later (Job.Commit header salt (found.page + 1) answer) }
     ensures table_after { table.new ≡ with_entry table.old found.page pager.wal.len }
@@ -157,20 +153,20 @@ fn frame_step(
         answer,
     };
     let next = pager_state::with_wal(pager, wal, job);
-    Stepped {
-        answer: StepAnswer::Stored(log_place(old, false)),
+    Outcome {
+        answer: Ok(Step::Stored(log_place(old, false))),
         pager: next,
     }
 }
 
 // What a step that stored the commit frame answers: it is the last, or a checkpoint follows.
-fn commit_frame_answer(job: Job, place: Place, answer: usize) -> StepAnswer
+fn commit_frame_answer(job: Job, place: Place, answer: usize) -> Result<Step, Refusal>
     ensures { result ≡ commit_frame_answer job place answer }
 {
     if pager_state::is_busy(job) {
-        return StepAnswer::Stored(place);
+        return Ok(Step::Stored(place));
     }
-    StepAnswer::Last(place, answer)
+    Ok(Step::Last(place, answer))
 }
 
 // Stores the commit frame.
@@ -181,7 +177,7 @@ fn commit_frame_step(
     answer: usize,
     table: &mut [u32],
     log: &mut [u8],
-) -> Stepped
+) -> Outcome<Step>
     requires { Lengths table.old log.old × (has_room pager.wal ≡ true) }
     ensures answer_value { result.answer ≡ commit_frame_answer result.pager.job (log_place pager.wal true) answer }
     ensures pager_value { result.pager ≡ committed_with header salt answer (with_frame pager.wal (count_of header)) pager }
@@ -191,9 +187,8 @@ fn commit_frame_step(
     let old = pager.wal;
     let wal = store_commit_frame(table, log, old, header);
     let next = committed(pager, header, salt, answer, wal);
-    let job = next.job;
-    Stepped {
-        answer: commit_frame_answer(job, log_place(old, true), answer),
+    Outcome {
+        answer: commit_frame_answer(next.job, log_place(old, true), answer),
         pager: next,
     }
 }
@@ -209,7 +204,7 @@ fn frames_step<'a>(
     log: &mut [u8],
     main: &'a [u8],
     staging: &'a [u8],
-) -> Stepped
+) -> Outcome<Step>
     requires { Lengths table.old log.old × (length staging.now ≡ staging_area) }
     ensures answer_value { let w = world pager table.old log.old main.now in
         result.answer ≡ named answer (commit_todo staging.now (Job.Commit header salt page answer) w) }
@@ -219,19 +214,23 @@ fn frames_step<'a>(
         let job = Job.Commit header salt page answer in
         later ≡ done (commit_todo g job w) (commit_advance g job w) w }
 {
-    let wal = pager.wal;
-    let staged = pager.staged;
-    let found = pager_differing::next_differing(staged, table, log, main, staging, page);
-    if !le::fits_in(WAL_AREA, wal.len, FRAME_SIZE) {
-        return Stepped {
-            answer: StepAnswer::Refused(Refusal::Area),
+    let areas = Areas {
+        table,
+        log,
+        main,
+        staging,
+    };
+    let found = pager_differing::next_differing(pager.staged, areas, page);
+    if !le::fits_in(WAL_AREA, pager.wal.len, FRAME_SIZE) {
+        return Outcome {
+            answer: Err(Refusal::Area),
             pager,
         };
     }
-    if found.page < PAGES {
-        return frame_step(pager, header, salt, answer, found, table, log, staging);
-    }
-    commit_frame_step(pager, header, salt, answer, table, log)
+    let Some(found) = found else {
+        return commit_frame_step(pager, header, salt, answer, table, log);
+    };
+    frame_step(pager, header, salt, answer, found, table, log, staging)
 }
 
 // Does the next store of a commit that is part done, and no other.
@@ -241,7 +240,7 @@ pub fn commit_step<'a>(
     log: &mut [u8],
     main: &'a [u8],
     staging: &'a [u8],
-) -> Stepped
+) -> Outcome<Step>
     ensures answer_value { let w = world pager table.old log.old main.now in
         result.answer ≡ commit_step_answer staging.now w }
     ensures later_after { let w = world pager table.old log.old main.now in
@@ -249,21 +248,20 @@ pub fn commit_step<'a>(
         later ≡ commit_stepped staging.now w }
 {
     if !pager_state::are_fine(pager, table.len(), log.len(), main.len(), staging.len()) {
-        return Stepped {
-            answer: StepAnswer::Refused(Refusal::Area),
+        return Outcome {
+            answer: Err(Refusal::Area),
             pager,
         };
     }
-    let job = pager.job;
     let Job::Commit {
         header,
         salt,
         page,
         answer,
-    } = job
+    } = pager.job
     else {
-        return Stepped {
-            answer: StepAnswer::Idle,
+        return Outcome {
+            answer: Ok(Step::Idle),
             pager,
         };
     };
@@ -272,13 +270,8 @@ pub fn commit_step<'a>(
 
 // ---- the start
 
-fn started(answer: CommitStart, pager: Pager) -> CommitStarted
-    ensures { result ≡ commit_started_as answer pager }
-{
-    CommitStarted { answer, pager }
-}
-
 // Judges a commit; stores nothing.
+#[tactic(auto, unfolding(pager_state::specs::Steps::begin_commit), using(pager_judge::proofs::Judging::begun, pager_judge::proofs::Judging::refused))]
 pub fn begin_commit<'a>(
     pager: Pager,
     table: &[u32],
@@ -287,23 +280,34 @@ pub fn begin_commit<'a>(
     staging: &'a [u8],
     new_header: DbHeader,
     salt: u32,
-) -> CommitStarted
+) -> Outcome<()>
     ensures { let w = world pager table.now log.now main.now in
         result ≡ begin_commit staging.now w new_header salt }
 {
-    let judged = pager_judge::judge(pager, table, log, main, staging, new_header);
-    let answer = judged.answer;
-    let CommitStart::Begun = answer else {
-        return started(answer, pager);
+    let areas = Areas {
+        table,
+        log,
+        main,
+        staging,
     };
-    let wal = pager.wal;
-    let job = Job::Commit {
-        header: new_header,
-        salt,
-        page: 0,
-        answer: judged.pages,
-    };
-    started(answer, pager_state::with_wal(pager, wal, job))
+    match pager_judge::judge(pager, areas, new_header) {
+        Ok(judged) => {
+            let job = Job::Commit {
+                header: new_header,
+                salt,
+                page: 0,
+                answer: judged.pages,
+            };
+            Outcome {
+                answer: Ok(()),
+                pager: Pager { job, ..pager },
+            }
+        }
+        Err(refusal) => Outcome {
+            answer: Err(refusal),
+            pager,
+        },
+    }
 }
 
 // ---- all stores up to the commit frame
@@ -325,12 +329,8 @@ fn store_frames(
     ensures result_value { has_room result ≡ true }
 {
     let mut wal = first;
-    let mut page: usize = 0;
-    while page < PAGES {
-        let found = pager_differing::next_of(marks, n, page);
-        if PAGES <= found.page {
-            return wal;
-        }
+    let mut page = 0;
+    while let Some(found) = pager_differing::next_of(marks, n, page) {
         wal = store_frame(wal, found, table, log, staging);
         page = found.page + 1;
     }
@@ -342,45 +342,31 @@ fn run_frames(
     pager: Pager,
     header: DbHeader,
     salt: u32,
-    answer: usize,
-    marks: &[u16; STAGED_PAGES],
+    judged: &Judged,
     table: &mut [u32],
     log: &mut [u8],
     staging: &[u8],
 ) -> Pager
-    requires marks_len { (length marks.now ≡ staged_limit) × HasRoomFor pager.wal (take pager.staged.count marks.now) }
+    requires marks_len { let marks = judged.now.marks in
+        (length marks ≡ staged_limit) × HasRoomFor pager.wal (take pager.staged.count marks) }
     requires lengths { Lengths table.old log.old × (length staging.now ≡ staging_area) }
-    ensures { let marked = take pager.staged.count marks.now in
-        let before = RunToCommitFrame marked staging.now header salt answer pager table.old log.old in
+    ensures { let marked = take pager.staged.count judged.now.marks in
+        let before = RunToCommitFrame marked staging.now header salt judged.now.pages pager table.old log.old in
         before result table.new log.new }
 {
-    let first = pager.wal;
-    let staged = pager.staged;
-    let last = store_frames(marks, staged.count, first, table, log, staging);
+    let last = store_frames(
+        &judged.marks,
+        pager.staged.count,
+        pager.wal,
+        table,
+        log,
+        staging,
+    );
     let wal = store_commit_frame(table, log, last, header);
-    committed(pager, header, salt, answer, wal)
+    committed(pager, header, salt, judged.pages, wal)
 }
 
-// What a commit in one call comes to, but for the checkpoint that it may bring on.
-#[derive(Clone, Copy)]
-pub struct CommitRun {
-    pub answer: CommitStart,
-    // The number of differing pages, if it has begun.
-    pub pages: usize,
-    pub pager: Pager,
-}
-
-fn ran(answer: CommitStart, pages: usize, pager: Pager) -> CommitRun
-    ensures { result ≡ commit_run_of answer pages pager }
-{
-    CommitRun {
-        answer,
-        pages,
-        pager,
-    }
-}
-
-// Judges a commit and runs it up to its commit frame: a step for each differing page, and one.
+// Judges a commit and runs it up to its commit frame: a step for each differing page, and one. Answers the number of differing pages.
 pub fn commit_frames<'a>(
     pager: Pager,
     table: &mut [u32],
@@ -389,31 +375,30 @@ pub fn commit_frames<'a>(
     staging: &'a [u8],
     new_header: DbHeader,
     salt: u32,
-) -> CommitRun
+) -> Outcome<usize>
     ensures answer_value { let w = world pager table.old log.old main.now in
-        result.answer ≡ commit_start staging.now w new_header }
-    ensures pages_value { let w = world pager table.old log.old main.now in
-        let g = staging.now in
-        result.pages ≡ pick (accepts (commit_refusal g w new_header)) (differing g w) 0 }
+        result.answer ≡ commit_answer staging.now w new_header }
     ensures later_after { let w = world pager table.old log.old main.now in
         let later = world result.pager table.new log.new main.now in
         later ≡ commit_frames_world staging.now w new_header salt }
 {
-    let judged = pager_judge::judge(pager, table, log, main, staging, new_header);
-    let answer = judged.answer;
-    let pages = judged.pages;
-    let CommitStart::Begun = answer else {
-        return ran(answer, pages, pager);
-    };
-    let store = run_frames(
-        pager,
-        new_header,
-        salt,
-        pages,
-        &judged.marks,
+    let areas = Areas {
         table,
         log,
+        main,
         staging,
-    );
-    ran(answer, pages, store)
+    };
+    match pager_judge::judge(pager, areas, new_header) {
+        Ok(judged) => {
+            let store = run_frames(pager, new_header, salt, &judged, table, log, staging);
+            Outcome {
+                answer: Ok(judged.pages),
+                pager: store,
+            }
+        }
+        Err(refusal) => Outcome {
+            answer: Err(refusal),
+            pager,
+        },
+    }
 }

@@ -10,8 +10,9 @@ use Rattle.pager_state.specs.Pages.{pages_from, first_of, differs_in, lacks}
 use Rattle.pager_state.specs.declared.Staged.{Staged}
 use Rattle.pager_state.proofs.Searches.{pages-hit, pages-miss, lowest, pages-same}
 use Rattle.pager_state.proofs.Slots.{find-there}
-use Rattle.pager_state.proofs.Walks.{none_found, pages-skip, none_is, first-before, pages-more}
-use Rattle.pager_differing.specs.Differing.{is_in, next_in, slot_differs, counts_at}
+use Rattle.pager_state.proofs.Walks.{pages-skip, none_is, first-before, pages-more}
+use Rattle.pager_differing.specs.Differing.{is_in, next_in, slot_differs, counts_at, Found}
+use Rattle.pager_differing.specs.declared.Slot.{Slot}
 
 both_false : (b : Bool) → both b false ≡ false
 both_false true = refl
@@ -23,10 +24,10 @@ staged-by : (s : Staged) (p : ℕ) → pages_from (is_in (take s.count s.pages))
 unfolding is_in is_staged slot_of
 staged-by s p = refl
 
-pub found-staged : (s : Staged) (p : ℕ) {q index : ℕ} → q ≡ next_in (take s.count s.pages) p
-    → (q < page_limit → index ≡ find_in (take s.count s.pages) q) → (q ≡ first_of (pages_from (is_staged s) p)) × (q < page_limit → index ≡ slot_of s q)
+pub found-staged : (s : Staged) (p : ℕ) {slot : Slot} → Found (next_in (take s.count s.pages) p) (find_in (take s.count s.pages)) slot
+    → Found (first_of (pages_from (is_staged s) p)) (slot_of s) slot
 unfolding slot_of
-found-staged s p e f = (e ∙ ap first_of (staged-by s p), f)
+found-staged s p f = record { page = f.page ∙ ap first_of (staged-by s p); page_lt_page_limit = f.page_lt_page_limit; index = f.index }
 
 -- whether a page is staged, by its slot
 module _ (s : Staged) (long : length s.pages ≡ staged_limit) (q : ℕ) {r n : ℕ} (e : r ≡ find_in (staged_pages s) q) (f : n ≡ min s.count staged_limit) where
@@ -68,29 +69,31 @@ module _ (s : Staged) (g t l m : List ℕ) where
   -- ---- from staged page to staged page
 
   -- none is left
-  pub none-differs : (p q : ℕ) → q ≡ first_of (pages_from (is_staged s) p) → page_limit ≤ q → q ≡ first_of (pages_from D p)
-  none-differs p q e h =
-      let z : pages_from (is_staged s) p ≡ [] = none_found (is_staged s) p q e h in
-      let y : pages_from D p ≡ [] = none_is D p (λ n a b. not-staged n (first-before (is_staged s) p q n e a (omega (arith, h)) b)) in
-      e ∙ ap first_of (z ∙ sym y)
+  pub none-differs : (p : ℕ) → next_in (take s.count s.pages) p ≡ page_limit → first_of (pages_from D p) ≡ page_limit
+  none-differs p e =
+      let k : page_limit ≡ first_of (pages_from (is_staged s) p) = sym e ∙ ap first_of (staged-by s p) in
+      ap first_of (none_is D p (λ n a b. not-staged n (first-before (is_staged s) p page_limit n k a (omega arith) b)))
 
-  module _ (p q index : ℕ) (e : q ≡ first_of (pages_from (is_staged s) p)) (h : q < page_limit) (i : q < page_limit → index ≡ slot_of s q) where
+  module _ (p : ℕ) (slot : Slot) (f : Found (first_of (pages_from (is_staged s) p)) (slot_of s) slot) where
+    abbrev q : ℕ
+    q = slot.page
+
     pub staged-from : p ≤ q
-    staged-from = (lowest (is_staged s) p q e h).from
+    staged-from = (lowest (is_staged s) p q f.page f.page_lt_page_limit).from
 
     over : pages_from D p ≡ pages_from D q
-    over = pages-skip D p q staged-from (λ n a b. not-staged n (first-before (is_staged s) p q n e a b (omega arith)))
+    over = pages-skip D p q staged-from (λ n a b. not-staged n (first-before (is_staged s) p q n f.page a b (omega (arith, f.page_lt_page_limit))))
 
-    at_slot : {r : Bool} → r ≡ slot_differs g t l m q index → D q ≡ r
-    at_slot a = differs_at q index (lowest (is_staged s) p q e h).holds (i h) a
+    at_slot : {r : Bool} → r ≡ slot_differs g t l m q slot.index → D q ≡ r
+    at_slot a = differs_at q slot.index (lowest (is_staged s) p q f.page f.page_lt_page_limit).holds f.index a
 
     -- it differs
-    pub differs-here : {r : Bool} → r ≡ slot_differs g t l m q index → r ≡ true → q ≡ first_of (pages_from D p)
-    differs-here a b = sym (ap first_of (over ∙ pages-hit D q h (at_slot a ∙ b)))
+    pub differs-here : {r : Bool} → r ≡ slot_differs g t l m q slot.index → r ≡ true → Found (first_of (pages_from D p)) (slot_of s) slot
+    differs-here a b = record { page = sym (ap first_of (over ∙ pages-hit D q f.page_lt_page_limit (at_slot a ∙ b))); page_lt_page_limit = f.page_lt_page_limit; index = f.index }
 
     -- or not
-    pub same_here : {r : Bool} → r ≡ slot_differs g t l m q index → r ≡ false → pages_from D p ≡ pages_from D (q + 1)
-    same_here a b = over ∙ pages-miss D q h (at_slot a ∙ b) ∙ ap (pages_from D) (sym (add-one q))
+    pub same_here : {r : Bool} → r ≡ slot_differs g t l m q slot.index → r ≡ false → pages_from D p ≡ pages_from D (q + 1)
+    same_here a b = over ∙ pages-miss D q f.page_lt_page_limit (at_slot a ∙ b) ∙ ap (pages_from D) (sym (add-one q))
 
   -- ---- how many there are, slot by slot
 
@@ -160,12 +163,12 @@ module _ (s : Staged) (g t l m : List ℕ) where
     count_by n false c f = f ∙ sym (ap length (passed c))
 
     -- one slot more
-    pub count-step : {n k first : ℕ} {yes : Bool} → first ≡ find_in (staged_pages s) page → yes ≡ counts_at first g t l m page i → k ≡ pick yes (n + 1) n
-        → n ≡ length (pages_from (Upto i) 0) → k ≡ length (pages_from (Upto (i + 1)) 0)
+    pub count-step : {n first : ℕ} {yes : Bool} → first ≡ find_in (staged_pages s) page → yes ≡ counts_at first g t l m page i
+        → n ≡ length (pages_from (Upto i) 0) → pick yes (n + 1) n ≡ length (pages_from (Upto (i + 1)) 0)
     unfolding slot_of
-    count-step {n} {k} {first} {yes} z a b c =
+    count-step {n} {first} {yes} z a c =
         let d : yes ≡ counts_at (slot_of s page) g t l m page i = a ∙ ap (λ (f : ℕ). counts_at f g t l m page i) z in
-        b ∙ count_by n yes (sym d) c
+        count_by n yes (sym d) c
 
   -- all of them
   upto_all : (n : ℕ) (b : Bool) → is_staged s n ≡ b → both (both b (slot_differs g t l m n (slot_of s n))) b ≡ both b (slot_differs g t l m n (slot_of s n))
@@ -182,11 +185,6 @@ module _ (s : Staged) (g t l m : List ℕ) where
 
   pub count-all : (i : ℕ) → i ≡ length (staged_pages s) → length (pages_from (Upto i) 0) ≡ length (pages_from D 0)
   count-all i e = ap length (pages-same (Upto i) D 0 (λ n a b. upto_is i n e))
-
--- no more than the slots
-pub tally-most : (n : ℕ) (yes : Bool) {k i : ℕ} → k ≡ pick yes (n + 1) n → n ≤ i → k ≤ i + 1
-tally-most n true e h = omega arith
-tally-most n false e h = omega arith
 
 -- ---- joining pages that aren't staged
 

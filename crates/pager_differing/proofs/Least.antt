@@ -1,5 +1,5 @@
 -- The search for the lowest page of a list that is not below another. Assumes nothing.
-use Rattle.std.proofs.Common.{◌≡◌, ℕ, ◌+◌, ◌%◌, ◌<◌, ◌≤◌, min, Bool, true, false, ltb, List, [], length, get_or, take, sym, refl, ap, ◌∙◌, ⊎_elim, arith, length-take, get_or-take, ltb-true, lt-ltb}
+use Rattle.std.proofs.Common.{◌≡◌, ℕ, ◌+◌, ◌%◌, ◌<◌, ◌≤◌, min, Bool, true, false, ltb, List, [], length, get_or, sym, refl, ap, ◌∙◌, ⊎_elim, arith, ltb-true, lt-ltb}
 use Rattle.le.proofs.Tests.{le-or-lt, eq-or-not}
 use Rattle.pager_state.specs.World.{page_limit}
 use Rattle.pager_state.specs.Overlay.{find_in}
@@ -64,44 +64,38 @@ module _ (s : List ℕ) (page i : ℕ) {least : ℕ} (v : Least s page i least) 
     old l = record { most = v.most; low = low-with least (omega arith) (λ g. omega (arith, rises g)); stands = old-stands }
 
   -- one more
-  pub least_step : (rise : ℕ) {next : ℕ} → rise < 65536 → page < page_limit → (rise + page) % 65536 ≡ get_or s i 0 → next ≡ min rise least
+  pub least_step : (rise : ℕ) {next : ℕ} → rise < 65536 → page < page_limit → (rise + page) % 65536 ≡ get_or s i 0 → next ≡ min least rise
       → Least s page (i + 1) next
   least_step rise {next} h p e f =
       ⊎_elim (λ l. let z : next ≡ least = omega (arith, l) in rw z (old rise h p e l))
       (λ l. let z : next ≡ rise = omega (arith, l) in rw z (new rise h p e l)) (le-or-lt least rise)
 
-module _ (s : List ℕ) (n page : ℕ) {i least : ℕ} (all : i ≡ min n (length s)) (p : page < page_limit) (v : Least s page i least) where
-  size : length (take n s) ≡ i
-  size = length-take n s ∙ sym all
-
-  same_at : (j : ℕ) → j < i → get_or (take n s) j 0 ≡ get_or s j 0
-  same_at j h = get_or-take n s j 0 (omega arith)
-
+module _ (s : List ℕ) (page : ℕ) {i least : ℕ} (all : i ≡ length s) (p : page < page_limit) (v : Least s page i least) where
   -- no page from `page` to below the lowest is in the list
-  none-lower : (k : ℕ) → page ≤ k → k < page + least → is_in (take n s) k ≡ false
+  none-lower : (k : ℕ) → page ≤ k → k < page + least → is_in s k ≡ false
   none-lower k g l =
-      not_in (take n s) k
-      (λ j h e. let f : j < i = omega (arith, size, h) in let z = same_at j f in let y = v.low j f (omega arith) in omega arith)
+      not_in s k
+      (λ j h e. let y = v.low j (omega arith) (omega arith) in omega arith)
 
-  is-in : page + least < page_limit → is_in (take n s) (page + least) ≡ true
+  is-in : page + least < page_limit → is_in s (page + least) ≡ true
   unfolding is_in
   is-in h =
       let u = v.stands h in
-      let k : u.index < length (take n s) = omega (arith, size, u.front) in
-      let m = find-most (take n s) u.index (page + least) k (same_at u.index u.front ∙ u.there) in
-      lt-ltb (find_in (take n s) (page + least)) (length (take n s)) (omega (arith, m, k))
+      let k : u.index < length s = omega (arith, u.front) in
+      let m = find-most s u.index (page + least) k u.there in
+      lt-ltb (find_in s (page + least)) (length s) (omega (arith, m, k))
 
-  some : page + least < page_limit → min (page + least) page_limit ≡ first_of (pages_from (is_in (take n s)) page)
+  some : page + least < page_limit → min page_limit (page + least) ≡ first_of (pages_from (is_in s) page)
   some h =
-      let m : min (page + least) page_limit ≡ page + least = omega arith in
-      m ∙ sym (first-is (is_in (take n s)) page (page + least) (omega arith) h (is-in h) none-lower)
+      let m : min page_limit (page + least) ≡ page + least = omega arith in
+      m ∙ sym (first-is (is_in s) page (page + least) (omega arith) h (is-in h) none-lower)
 
-  none : page_limit ≤ page + least → min (page + least) page_limit ≡ first_of (pages_from (is_in (take n s)) page)
+  none : page_limit ≤ page + least → min page_limit (page + least) ≡ first_of (pages_from (is_in s) page)
   none h =
-      let e : pages_from (is_in (take n s)) page ≡ [] = none_is (is_in (take n s)) page (λ k g l. none-lower k g (omega (arith, h))) in
-      let m : min (page + least) page_limit ≡ page_limit = omega arith in
+      let e : pages_from (is_in s) page ≡ [] = none_is (is_in s) page (λ k g l. none-lower k g (omega (arith, h))) in
+      let m : min page_limit (page + least) ≡ page_limit = omega arith in
       m ∙ sym (ap first_of e)
 
   -- all of them
-  pub least-page : min (page + least) page_limit ≡ first_of (pages_from (is_in (take n s)) page)
+  pub least-page : min page_limit (page + least) ≡ first_of (pages_from (is_in s) page)
   least-page = ⊎_elim none some (le-or-lt page_limit (page + least))

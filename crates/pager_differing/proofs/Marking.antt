@@ -1,6 +1,6 @@
 -- The marks of the pages that differ, slot by slot. Assumes nothing.
-use Rattle.std.proofs.Common.{◌≡◌, ℕ, ◌+◌, ◌<◌, min, Bool, true, false, List, length, get_or, take, set, replicate, sym, refl, ◌∙◌, ⊎_elim, arith, length-set, length-take, get_or-set_other, get_or-take, get_or-set_same, ltb-true, lt-ltb, eq-eqb}
-use lib.ListN.{length-replicate}
+use Rattle.std.proofs.Common.{◌≡◌, ℕ, ◌+◌, ◌<◌, ◌≤◌, min, Bool, true, false, List, length, get_or, take, set, replicate, sym, refl, ◌∙◌, ⊎_elim, arith, length-set, length-take, get_or-set_other, get_or-take, get_or-set_same, ltb-true, lt-ltb, eq-eqb}
+use lib.ListN.{length-replicate, get_or-replicate}
 use Rattle.le.specs.Choice.{pick}
 use Rattle.le.proofs.Tests.{eq-or-not}
 use Rattle.le.proofs.Compare.{both_true}
@@ -23,29 +23,30 @@ module _ (s : Staged) (g t l m : List ℕ) where
   pub record Front (i : ℕ) (marks : List ℕ) : Type 0 where
     pub long : length marks ≡ staged_limit
     pub front : (j : ℕ) → j < i → get_or marks j 0 ≡ mark_at j
+    pub back : (j : ℕ) → i ≤ j → j < staged_limit → get_or marks j 0 ≡ 65535
 
   pub marks-none : Front 0 (replicate {A = ℕ} staged_limit 65535)
-  marks-none = record { long = length-replicate {A = ℕ} staged_limit 65535; front = λ j h. absurd (omega (arith, h)) }
+  marks-none = record { long = length-replicate {A = ℕ} staged_limit 65535; front = λ j h. absurd (omega (arith, h)); back = λ j h k. get_or-replicate staged_limit j 65535 0 k }
 
-  module _ (i : ℕ) {marks : List ℕ} {mark : ℕ} (k : Front i marks) (h : i < staged_limit) (e : mark ≡ mark_at i) where
-    same-mark : (j : ℕ) → (j ≡ i → ⊥) → get_or (set marks i mark) j 0 ≡ get_or marks j 0
-    same-mark j d = get_or-set_other marks i j mark 0 d
+  -- one slot more, whose page is marked
+  pub marks-more : (i : ℕ) {marks : List ℕ} → Front i marks → i < staged_limit → counts_at (slot_of s (page_at i)) g t l m (page_at i) i ≡ true
+      → Front (i + 1) (set marks i (page_at i))
+  marks-more i {marks} k h c = record {
+    long = length-set marks i (page_at i) ∙ k.long;
+    front = λ j f. ⊎_elim (λ (z : j ≡ i). rw (z, c) (get_or-set_same marks i (page_at i) 0 (omega (arith, k.long, h)))) (λ z. other j z ∙ k.front j (omega (arith, f, z))) (eq-or-not j i);
+    back = λ j f o. other j (λ z. omega (arith, z, f)) ∙ k.back j (omega arith) o;
+  }
+    where
+      other : (j : ℕ) → (j ≡ i → ⊥) → get_or (set marks i (page_at i)) j 0 ≡ get_or marks j 0
+      other j d = get_or-set_other marks i j (page_at i) 0 d
 
-    own-mark : get_or (set marks i mark) i 0 ≡ mark_at i
-    own-mark = get_or-set_same marks i mark 0 (omega (arith, k.long, h)) ∙ e
-
-    front-mark : (j : ℕ) → j < i + 1 → get_or (set marks i mark) j 0 ≡ mark_at j
-    front-mark j f =
-        ⊎_elim (λ (z : j ≡ i). rw z own-mark) (λ z. same-mark j z ∙ k.front j (omega (arith, f, z))) (eq-or-not j i)
-
-    marks-more : Front (i + 1) (set marks i mark)
-    marks-more = record { long = length-set marks i mark ∙ k.long; front = front-mark }
-
-  -- one slot more
-  pub marks-step : (i : ℕ) {marks : List ℕ} {page first mark : ℕ} {yes : Bool} → Front i marks → i < staged_limit → page ≡ page_at i → first ≡ find_in (staged_pages s) page
-      → yes ≡ counts_at first g t l m page i → mark ≡ pick yes page 65535 → Front (i + 1) (set marks i mark)
-  unfolding slot_of
-  marks-step i k h e f y b = marks-more i k h (b ∙ rw (y, f, e))
+  -- or not
+  pub marks-kept : (i : ℕ) {marks : List ℕ} → Front i marks → i < staged_limit → counts_at (slot_of s (page_at i)) g t l m (page_at i) i ≡ false → Front (i + 1) marks
+  marks-kept i k h c = record {
+    long = k.long;
+    front = λ j f. ⊎_elim (λ (z : j ≡ i). rw (z, c) (k.back i (omega arith) h)) (λ z. k.front j (omega (arith, f, z))) (eq-or-not j i);
+    back = λ j f o. k.back j (omega arith) o;
+  }
 
   -- ---- all of them
 

@@ -8,6 +8,7 @@ use Rattle.pager_state.specs.World.{page_limit}
 use Rattle.pager_state.specs.Overlay.{page_from, find_in, slot_of, committed_in}
 use Rattle.pager_state.specs.Pages.{pages_from, first_of}
 use Rattle.pager_state.specs.declared.Staged.{Staged}
+use Rattle.pager_differing.specs.declared.Slot.{Slot}
 
 -- a list has a page
 unfoldable pub is_in : List ℕ → ℕ → Bool
@@ -16,6 +17,12 @@ is_in l n = nat_lt (find_in l n) (length l)
 -- the first page from `page` on that a list has; 1,024 if there is none
 abbrev pub next_in : List ℕ → ℕ → ℕ
 next_in l page = first_of (pages_from (is_in l) page)
+
+-- q is found, and the slot has it and its place
+pub record Found (q : ℕ) (place : ℕ → ℕ) (slot : Slot) : Type 0 where
+  pub page : slot.page ≡ q
+  pub page_lt_page_limit : slot.page < page_limit
+  pub index : slot.index ≡ place slot.page
 
 -- the bytes of a slot of the staging area differ from a page's
 unfoldable pub slot_differs : List ℕ → List ℕ → List ℕ → List ℕ → ℕ → ℕ → Bool

@@ -1,134 +1,92 @@
 // How a commit is judged before anything is stored.
 #![tactic(auto)]
 
-ghost use Rattle.std.specs.Prelude.{◌≡◌, length, take};
-ghost use Rattle.le.specs.Choice.{pick};
-ghost use Rattle.refusal.specs.Refusal.{accepts};
-ghost use Rattle.pager_state.specs.World.{world, staged_limit};
+ghost use Rattle.std.specs.Prelude.{◌≡◌, IfOk};
+ghost use Rattle.pager_state.specs.World.{world};
 ghost use Rattle.pager_state.specs.Overlay.{staged_pages};
-ghost use Rattle.pager_state.specs.Pages.{differs};
-ghost use Rattle.pager_state.specs.Steps.{header_good, differing, stands_before, all_before, commit_refusal, commit_start};
-ghost use Rattle.pager_differing.specs.Differing.{Marks};
+ghost use Rattle.pager_state.specs.Steps.{header_good, stands_before, all_before, commit_start};
+ghost use Rattle.pager_judge.specs.Judged.{start_of, Begins};
 
 use frame::FRAME_SIZE;
 use header::DbHeader;
-use pager_state::{CommitStart, PAGES, Pager, STAGED_PAGES, Staged};
+use pager_differing::Areas;
+use pager_state::{PAGES, Pager, STAGED_PAGES, Staged};
 use refusal::Refusal;
 use wal::WAL_AREA;
 
 // Whether a page's frame in the log, if there is one, ends at `len` or before.
+#[tactic(auto, unfolding(pager_state::specs::Overlay::in_log))]
 fn stands_before(table: &[u32], page: usize, len: usize) -> bool
     ensures { result ≡ stands_before table.now page len }
 {
     let at = pager_state::frame_of(table, page);
-    if at == 0 {
-        return true;
-    }
-    le::fits_in(len, at, FRAME_SIZE)
+    at == 0 || le::fits_in(len, at, FRAME_SIZE)
 }
 
 // Whether those of all staged pages do: then no frame stored at `len` or behind changes what a staged page is compared with.
 fn all_stand_before(staged: Staged, table: &[u32], len: usize) -> bool
     ensures { result ≡ all_before table.now len (staged_pages staged) }
 {
-    let end = le::min(staged.count, STAGED_PAGES);
-    let mut all = true;
-    let mut i: usize = 0;
-    while i < end {
-        let page = le::widen_u16(staged.pages[i]);
-        all = le::both(all, stands_before(table, page, len));
-        i += 1;
-    }
-    all
+    staged.pages[..staged.count.min(STAGED_PAGES)]
+        .iter()
+        .all(|page| stands_before(table, usize::from(*page), len))
 }
 
 // Whether a new header has a page count and a version that a store can have.
 fn is_header_good(header: DbHeader) -> bool
     ensures { result ≡ header_good header }
 {
-    if header.page_count < 1 {
-        return false;
-    }
-    if (PAGES as u32) < header.page_count {
-        return false;
-    }
-    if header.format_version < header::FORMAT_VERSION_V4 {
-        return false;
-    }
-    header.format_version <= header::FORMAT_VERSION_V6
+    (1..=PAGES as u32).contains(&header.page_count)
+        && (header::FORMAT_VERSION_V4..=header::FORMAT_VERSION_V6).contains(&header.format_version)
 }
 
-// How a commit is judged; if it begins, how many pages differ, and which.
+// What is found of a commit that begins: how many pages differ, and which.
 #[derive(Clone, Copy)]
 pub struct Judged {
-    pub answer: CommitStart,
     pub pages: usize,
     // As `Marked` of `pager_differing` has them.
     pub marks: [u16; STAGED_PAGES],
 }
 
-fn refused(refusal: Refusal) -> Judged
-    ensures { (result.answer ≡ CommitStart.Refused refusal) × (result.pages ≡ 0) }
-{
-    let marks = [u16::MAX; STAGED_PAGES];
-    Judged {
-        answer: CommitStart::Refused(refusal),
-        pages: 0,
-        marks,
-    }
-}
-
 // Judges a commit.
-pub fn judge<'a>(
-    pager: Pager,
-    table: &[u32],
-    log: &'a [u8],
-    main: &'a [u8],
-    staging: &'a [u8],
-    new_header: DbHeader,
-) -> Judged
-    ensures answer_value { let w = world pager table.now log.now main.now in
-        result.answer ≡ commit_start staging.now w new_header }
-    ensures pages_value { let w = world pager table.now log.now main.now in
-        let g = staging.now in
-        result.pages ≡ pick (accepts (commit_refusal g w new_header)) (differing g w) 0 }
-    ensures fact { let w = world pager table.now log.now main.now in
-        let marks = take pager.staged.count result.marks in
-        (result.answer ≡ CommitStart.Begun → Marks (differs staging.now w) pager.staged marks) }
-    ensures marks_len { result.answer ≡ CommitStart.Begun → length result.marks ≡ staged_limit }
+#[tactic(auto, unfolding(pager_state::specs::World::fine, pager_state::specs::Steps::commit_start, pager_state::specs::Steps::commit_refusal, pager_state::specs::Steps::lacking, pager_state::specs::Steps::differing))]
+pub fn judge(pager: Pager, areas: Areas, new_header: DbHeader) -> Result<Judged, Refusal>
+    ensures answer_value { let a = areas.entry in
+        let w = world pager a.table.now a.log.now a.main.now in
+        start_of result ≡ commit_start a.staging.now w new_header }
+    ensures begins { let a = areas.entry in
+        let w = world pager a.table.now a.log.now a.main.now in
+        IfOk result (Begins a.staging.now w) }
 {
-    if !pager_state::are_fine(pager, table.len(), log.len(), main.len(), staging.len()) {
-        return refused(Refusal::Area);
+    if !areas.are_fine(pager) {
+        return Err(Refusal::Area);
     }
-    let job = pager.job;
-    if pager_state::is_busy(job) {
-        return refused(Refusal::Busy);
+    if pager_state::is_busy(pager.job) {
+        return Err(Refusal::Busy);
     }
     let staged = pager.staged;
     let wal = pager.wal;
-    if !all_stand_before(staged, table, wal.len) {
-        return refused(Refusal::Area);
+    if !all_stand_before(staged, areas.table, wal.len) {
+        return Err(Refusal::Area);
     }
-    let opening = pager.opening;
-    if pager_state::is_read_only(opening) {
-        return refused(Refusal::ReadOnly);
+    if pager_state::is_read_only(pager.opening) {
+        return Err(Refusal::ReadOnly);
     }
     if !is_header_good(new_header) {
-        return refused(Refusal::NewHeader);
+        return Err(Refusal::NewHeader);
     }
     let old = pager.current_header;
     let lacking = pager_differing::first_lacking(staged, old.page_count, new_header.page_count);
     if lacking < PAGES {
-        return refused(Refusal::Joining(lacking));
+        return Err(Refusal::Joining(lacking));
     }
-    let found = pager_differing::mark_differing(staged, table, log, main, staging);
+    let found = pager_differing::mark_differing(staged, areas);
     if WAL_AREA < wal.len + FRAME_SIZE * (found.count + 1) {
-        return refused(Refusal::LogFull);
+        return Err(Refusal::LogFull);
     }
     let marks = found.pages;
-    Judged {
-        answer: CommitStart::Begun,
+    Ok(Judged {
         pages: found.count,
         marks,
-    }
+    })
 }

@@ -2,19 +2,19 @@
 use mathlib.Core.Path.{◌≡◌, refl, sym, ap, ◌∙◌}
 use mathlib.Core.Bool.{Bool, true, false}
 use mathlib.Core.List.{List, [], ◌∷◌, ◌++◌, map, append-nil, map-append}
-use Prim.Native.Nat.{ℕ, ◌+◌, max, ◌≤◌}
+use Prim.Native.Nat.{ℕ, ◌+◌, ◌-◌, ◌/◌, max, ◌≤◌, ◌<◌}
 use native.Mathlib.Omega.{arith}
 use borrow.Author.Tests.{le-leb}
 use lib.Dec.{leb}
-use lib.ListN.{length}
+use lib.ListN.{length, take}
 use Rattle.le.specs.Choice.{pick}
 use Rattle.frame.specs.Frame.{frame_at, body_of}
 use Rattle.mvcc.specs.Seen.{commit_ts_of}
-use Rattle.wal.specs.Recovery.{chunk_at, is_batch, batches_in}
+use Rattle.wal.specs.Recovery.{chunks, chunk_at, is_batch, batches_in}
 use Rattle.wal.proofs.Frames.{batches_in-append}
 use Rattle.pager_state.specs.Opening.{commit_times, greatest}
 use Rattle.pager_open.specs.Judging.{time_of}
-use Rattle.pager_open.proofs.Front.{Front, front-on}
+use Rattle.pager_open.proofs.Front.{front-more}
 use Rattle.pager_open.proofs.Found.{length-frame}
 
 -- ---- one frame more
@@ -45,9 +45,9 @@ pub none-greatest : 0 ≡ greatest_in []
 unfolding greatest batches_in
 none-greatest = refl
 
-pub greatest-on : (l : List ℕ) (t at : ℕ) {u : ℕ} → Front greatest_in l t at → at + 4112 ≤ length l → u ≡ max t (time_of (frame_at at l))
-    → Front greatest_in l u (at + 4112)
-greatest-on l t at r k e = front-on greatest_in l t at r k (λ fs a b. e ∙ rw (a, b) (sym (greatest-more fs (frame_at (chunk_at (length fs)) l))))
+pub greatest-on : (l : List ℕ) (t i : ℕ) {u : ℕ} → t ≡ greatest_in (take i (chunks l)) → i < (length l - 32) / 4112 → u ≡ max t (time_of (frame_at (chunk_at i) l))
+    → u ≡ greatest_in (take (i + 1) (chunks l))
+greatest-on l t i e h f = f ∙ rw (e, front-more l i h) (sym (greatest-more (take i (chunks l)) (frame_at (chunk_at i) l)))
 
 -- a frame that is wholly there has its body's time
 pub time-there : (l : List ℕ) (at : ℕ) {t : ℕ} → at + 4112 ≤ length l → is_batch (frame_at at l) ≡ true

@@ -7,6 +7,7 @@ use native.Mathlib.Omega.{arith}
 use borrow.Author.Tests.{eq-eqb}
 use lib.ListN.{length, take, drop, length-append, length-take, length-drop}
 use lib.Seq.{drop-drop}
+use Rattle.std.specs.Prelude.{Err, Ok}
 use Rattle.refusal.specs.declared.Refusal.TheVariants as refusal
 use Rattle.le.specs.Le.{put}
 use Rattle.page.specs.Page.{empty_table_page, empty_after}
@@ -19,8 +20,7 @@ use Rattle.wal.specs.Write.{created_header, with_header}
 use Rattle.pager_state.specs.Stores.{File, grown, put_file, len_file, stored_all}
 use Rattle.pager_state.specs.Opening.{table_of, first_header, log_stores, create_stores, empty_file, created_disk, created_pager, create_fine, create, create_table, create_log, create_main, no_pager}
 use Rattle.pager_state.specs.declared.Pager.{Pager}
-use Rattle.pager_state.specs.declared.CreateAnswer.TheVariants as created
-use Rattle.pager_state.specs.declared.PagerCreated.{PagerCreated}
+use Rattle.pager_state.specs.declared.Outcome.{Outcome}
 use Rattle.pager_open.proofs.Opened.{grown-none, fresh-area}
 
 -- ---- the main file
@@ -61,17 +61,17 @@ module _ (l m : List ℕ) (salt : ℕ) where
 -- ---- what creation answers and leaves
 
 module _ (t l m g : List ℕ) (salt : ℕ) where
-  abbrev pub Creates : PagerCreated → List ℕ → List ℕ → List ℕ → Type 0
+  abbrev pub Creates : Outcome (Unit {0}) → List ℕ → List ℕ → List ℕ → Type 0
   Creates r u v w =
       (r ≡ create t l m g salt) × ((u ≡ create_table t l m g) × ((v ≡ create_log t l m g salt) × (w ≡ create_main t l m g salt)))
 
-  pub create-refused : {r : PagerCreated} → create_fine t l m g ≡ false → r ≡ record { answer = created.Refused refusal.Area; pager = no_pager } → Creates r t l m
+  pub create-refused : {r : (Outcome (Unit {0}))} → create_fine t l m g ≡ false → r ≡ record { answer = Err refusal.Area; pager = no_pager } → Creates r t l m
   unfolding create create_table create_log create_main
   create-refused n a = (rw n a, (rw n, (rw n, rw n)))
 
   pub create-done : {p : Pager} {u v w : List ℕ} → create_fine t l m g ≡ true → length l ≡ 4210720 → p ≡ created_pager salt → u ≡ table_of first_header []
       → v ≡ with_header l (created_header salt) → w ≡ put (put m 0 (encode_header first_header)) 4096 empty_table_page
-      → Creates (record { answer = created.Created; pager = p }) u v w
+      → Creates (record { answer = Ok tt; pager = p }) u v w
   unfolding create create_table create_log create_main with_header
   create-done y n a b c d =
       (rw (y, a), (rw y b, (rw (y, created-log l m salt) (c ∙ rw (eq-eqb (length l) 4210720 n)), rw (y, created-main l m salt) d)))

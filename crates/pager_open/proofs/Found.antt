@@ -8,11 +8,11 @@ use borrow.Author.Tests.{eq-eqb, ne_eqb}
 use lib.Dec.{eqb}
 use lib.ListN.{length, take, length-take, length-drop}
 use lib.Seq.{take-take}
+use Rattle.std.specs.Prelude.{Ok}
 use Rattle.le.specs.Choice.{pick}
 use Rattle.frame.specs.Frame.{frame_at, body_of}
 use Rattle.header.specs.Header.{decode_header}
 use Rattle.header.specs.declared.DbHeader.{DbHeader}
-use Rattle.header.specs.declared.HeaderDecoded.TheVariants as main
 use Rattle.wal.specs.Header.{wal_header_in}
 use Rattle.wal.specs.Recovery.{chunks, chunk_at, page_of, page_in, recovered, committed_frames, commit_point, last_commit_of, last_count, wal_of}
 use Rattle.wal.specs.Write.{empty_wal, with_clock}
@@ -105,7 +105,7 @@ module _ (mh : DbHeader) (clean : Bool) (l : List ℕ) where
 
   -- "otherwise the last commit count replaces the page count"
   pub header-main : {z : List ℕ} → z ≡ body_of (page_in 0 (committed_frames (recovered l))) → length z ≡ 0
-      → main.Header (recounted mh (last_commit_of (recovered l))) ≡ header_by mh (found_in clean l)
+      → Ok (recounted mh (last_commit_of (recovered l))) ≡ header_by mh (found_in clean l)
   unfolding header_by
   header-main {z} e n =
       let b : eqb (place_from 0 0 (found_in clean l).frames) 0 ≡ true = sym page-zero ∙ rw (← e) (eq-eqb (length z) 0 n) in

@@ -7,18 +7,15 @@ use native.Mathlib.Omega.{arith}
 use borrow.Author.Tests.{le-leb, lt-leb, leb-true, leb-false}
 use lib.Dec.{leb}
 use lib.ListN.{length}
+use Rattle.std.specs.Prelude.{Err, Ok, Result}
 use Rattle.le.specs.Choice.{pick}
 use Rattle.refusal.specs.declared.Refusal.TheVariants as refusal
+use Rattle.refusal.specs.declared.Refusal.{Refusal}
 use Rattle.header.specs.declared.DbHeader.{DbHeader}
-use Rattle.header.specs.declared.HeaderDecoded.{HeaderDecoded}
-use Rattle.header.specs.declared.HeaderDecoded.TheVariants as main
 use Rattle.wal.specs.Header.{decode_wal_header}
 use Rattle.wal.specs.Recovery.{recovered, wal_of, opened_by, open_log}
-use Rattle.wal.specs.declared.WalHeaderDecoded.{WalHeaderDecoded}
-use Rattle.wal.specs.declared.WalHeaderDecoded.TheVariants as log
-use Rattle.wal.specs.declared.WalOpened.{WalOpened}
-use Rattle.wal.specs.declared.WalOpened.TheVariants as wal
 use Rattle.wal.specs.declared.Wal.{Wal}
+use Rattle.wal.specs.declared.WalHeader.{WalHeader}
 use Rattle.pager_state.specs.World.{count_of}
 use Rattle.pager_state.specs.Stores.{File, Disk, content}
 use Rattle.pager_state.specs.Opening.{place_from, How, found_in, found_fresh, found_by, main_header_of, is_long, judged_main, judged_log, judged_zero, header_by, opening_of, opens_as, opened_store, judged, open_fine, open_pager}
@@ -57,12 +54,12 @@ header-either mh clean l = rw (found-frames clean l, found-last clean l, found-f
 
 module _ (how : How) (len : ℕ) (mh : DbHeader) (l : List ℕ) where
   -- r is the header that counts, as it was looked for in the log as it lies there
-  pub found-as : {r d : HeaderDecoded} → r ≡ header_by mh (found_in false l) → r ≡ d
+  pub found-as : {r d : (Result DbHeader Refusal)} → r ≡ header_by mh (found_in false l) → r ≡ d
       → judged_zero d (opened_with how len mh (found_in how.clean l).log) ≡ judged_found how len mh (found_in how.clean l)
   unfolding judged_found
   found-as a e = rw (sym (header-either mh how.clean l) ∙ sym a ∙ e)
 
-  pub found-opens : {r : HeaderDecoded} {h : DbHeader} {v w : Wal} → r ≡ header_by mh (found_in false l) → r ≡ main.Header h → 32 ≤ length l
+  pub found-opens : {r : (Result DbHeader Refusal)} {h : DbHeader} {v w : Wal} → r ≡ header_by mh (found_in false l) → r ≡ Ok h → 32 ≤ length l
       → w ≡ wal_of (length l) (recovered l) → v ≡ kept_wal how.clean l w → opened_with how len mh v h ≡ judged_found how len mh (found_in how.clean l)
   found-opens {r} {h} {v} {w} a e n k b =
       ap (λ (x : Wal). opened_with how len mh x h) (b ∙ found-log how.clean l w n k) ∙ found-as a e
@@ -70,15 +67,15 @@ module _ (how : How) (len : ℕ) (mh : DbHeader) (l : List ℕ) where
 -- ---- the log's 2 to 5
 
 -- by what opening the log answers
-abbrev pub judged_open : WalOpened → Opens → Opens
-judged_open (wal.Opened w) next = next
-judged_open (wal.Refused r) next = opened.Refused r
+abbrev pub judged_open : Result Wal Refusal → Opens → Opens
+judged_open (Ok w) next = next
+judged_open (Err r) next = opened.Refused r
 
-open-either : (d : WalHeaderDecoded) (w : Wal) (next : Opens) → judged_open (opened_by d w) next ≡ judged_log d next
-open-either (log.Header h) w next = refl
-open-either (log.Refused r) w next = refl
+open-either : (d : Result WalHeader Refusal) (w : Wal) (next : Opens) → judged_open (opened_by d w) next ≡ judged_log d next
+open-either (Ok h) w next = refl
+open-either (Err r) w next = refl
 
-pub log-judged : (l : List ℕ) (next : Opens) {r o : WalOpened} → length l ≤ 4210720 → r ≡ open_log l → r ≡ o
+pub log-judged : (l : List ℕ) (next : Opens) {r o : (Result Wal Refusal)} → length l ≤ 4210720 → r ≡ open_log l → r ≡ o
     → judged_open o next ≡ judged_log (decode_wal_header l) next
 unfolding open_log
 log-judged l next h a e =
@@ -86,13 +83,13 @@ log-judged l next h a e =
 
 -- ---- the main file's 2 to 5, and 7
 
-main-like : (d : HeaderDecoded) (f g : DbHeader → Opens) → ((h : DbHeader) → f h ≡ g h) → judged_main d f ≡ judged_main d g
-main-like (main.Header h) f g e = e h
-main-like (main.Refused r) f g e = refl
+main-like : (d : Result DbHeader Refusal) (f g : DbHeader → Opens) → ((h : DbHeader) → f h ≡ g h) → judged_main d f ≡ judged_main d g
+main-like (Ok h) f g e = e h
+main-like (Err r) f g e = refl
 
-zero-like : (d : HeaderDecoded) (f g : DbHeader → Opens) → ((h : DbHeader) → f h ≡ g h) → judged_zero d f ≡ judged_zero d g
-zero-like (main.Header h) f g e = e h
-zero-like (main.Refused r) f g e = refl
+zero-like : (d : Result DbHeader Refusal) (f g : DbHeader → Opens) → ((h : DbHeader) → f h ≡ g h) → judged_zero d f ≡ judged_zero d g
+zero-like (Ok h) f g e = e h
+zero-like (Err r) f g e = refl
 
 module _ (how : How) (d : Disk) where
   with-as : (mh h : DbHeader) → opened_store how d mh (found_by how d.log) h ≡ opened_with how d.main.len mh (found_by how d.log).log h
@@ -124,7 +121,7 @@ module _ (how : How) (len : ℕ) (f : File) (mh : DbHeader) where
   unfolding judged_behind found_by judged_found header_by found_fresh place_from
   log-absent e x k = rw (e, x, k)
 
-pub files-judged : (how : How) (d : Disk) {r m : HeaderDecoded} → r ≡ main_header_of d.main → r ≡ m
+pub files-judged : (how : How) (d : Disk) {r m : (Result DbHeader Refusal)} → r ≡ main_header_of d.main → r ≡ m
     → judged_main m (judged_behind how d.main.len d.log) ≡ judged_files how d
 unfolding judged_files
 files-judged how d a e = rw (sym a ∙ e)

@@ -7,6 +7,7 @@ use native.Mathlib.Omega.{arith}
 use borrow.Author.Tests.{eq-eqb, eqb-true, leb-true}
 use lib.Dec.{leb, eqb}
 use lib.ListN.{length, take, length-take}
+use Rattle.std.specs.Prelude.{Err, Ok, Result}
 use Rattle.le.specs.Choice.{pick, both}
 use Rattle.le.specs.Le.{put}
 use Rattle.le.proofs.Fields.{field-part}
@@ -14,15 +15,11 @@ use Rattle.le.proofs.Stores.{put-none}
 use Rattle.le.proofs.Compare.{no_test, both_true}
 use Rattle.header.specs.Header.{header_in, decode_header}
 use Rattle.header.specs.declared.DbHeader.{DbHeader}
-use Rattle.header.specs.declared.HeaderDecoded.{HeaderDecoded}
-use Rattle.header.specs.declared.HeaderDecoded.TheVariants as main
 use Rattle.header.proofs.RoundTrip.{decoded-as}
 use Rattle.wal.specs.Header.{decode_wal_header, encode_wal_header}
 use Rattle.wal.specs.Recovery.{chunks, chunk_at, recovered, commit_point}
 use Rattle.wal.specs.Write.{created_header, with_header}
 use Rattle.wal.specs.declared.WalHeader.{WalHeader}
-use Rattle.wal.specs.declared.WalHeaderDecoded.{WalHeaderDecoded}
-use Rattle.wal.specs.declared.WalHeaderDecoded.TheVariants as log
 use Rattle.wal.specs.declared.Wal.{Wal}
 use Rattle.wal.proofs.HeaderRoundTrip.{decoded-as as log-decoded-as}
 use Rattle.wal.proofs.Recovered.{commit-within}
@@ -34,8 +31,7 @@ use Rattle.pager_state.specs.Opening.{table_of, opens_as, How, writes, found_in,
 use Rattle.pager_state.specs.Opened.{Opens}
 use Rattle.pager_state.specs.Opened as opened
 use Rattle.pager_state.specs.declared.Pager.{Pager}
-use Rattle.pager_state.specs.declared.PagerOpened.{PagerOpened}
-use Rattle.pager_state.specs.declared.OpenAnswer.TheVariants as answer
+use Rattle.pager_state.specs.declared.Outcome.{Outcome}
 use Rattle.pager_open.specs.Judging.{is_clean_read_only, opened_with, judged_found, judged_behind, judged_files}
 use Rattle.pager_open.proofs.Found.{found-end, found-chunks, fresh-chunks}
 use Rattle.pager_open.proofs.Judged.{opening-judged}
@@ -64,19 +60,19 @@ lengths t la l ma m g e =
 
 -- ---- the answer and what it stands for
 
-no_answer : {A : Type 0} (r : Refusal) → answer.Refused r ≡ answer.Opened → A
+no_answer : {A : Type 0} (r : Refusal) → ◌≡◌ {A = Result (Unit {0}) Refusal} (Err r) (Ok tt) → A
 no_answer r e = absurd (let z : ◌≡◌ {A = ℕ} 0 1 = cc in omega arith)
 
-opened-by : (o : Opens) → (opened_answer o).answer ≡ answer.Opened → o ≡ opened.Opened (opened_answer o).pager
+opened-by : (o : Opens) → (opened_answer o).answer ≡ Ok tt → o ≡ opened.Opened (opened_answer o).pager
 opened-by (opened.Opened p) e = refl
 opened-by (opened.Refused r) e = no_answer r e
 
-refused-by : (o : Opens) (r : Refusal) → (opened_answer o).answer ≡ answer.Refused r → opens o ≡ false
+refused-by : (o : Opens) (r : Refusal) → (opened_answer o).answer ≡ Err r → opens o ≡ false
 refused-by (opened.Opened p) r e = no_answer r (sym e)
 refused-by (opened.Refused k) r e = refl
 
-pub store-opened : (o : Opens) (r : PagerOpened) → r ≡ opened_answer o → r.answer ≡ answer.Opened → o ≡ opened.Opened r.pager
-store-opened o r e t = rw e (opened-by o (sym (ap (λ (x : PagerOpened). x.answer) e) ∙ t))
+pub store-opened : (o : Opens) (r : Outcome (Unit {0})) → r ≡ opened_answer o → r.answer ≡ Ok tt → o ≡ opened.Opened r.pager
+store-opened o r e t = rw e (opened-by o (sym (ap (λ (x : Outcome (Unit {0})). x.answer) e) ∙ t))
 
 -- ---- what the refusals that were passed tell
 
@@ -85,30 +81,30 @@ chosen : (t : Bool) (x r : Opens) (p : Pager) → opens r ≡ false → pick t x
 chosen true x r p n e = (refl, e)
 chosen false x r p n e = no_test (sym n ∙ ap opens e)
 
-record Read (d : HeaderDecoded) (next : DbHeader → Opens) (p : Pager) : Type 0 where
+record Read (d : Result DbHeader Refusal) (next : DbHeader → Opens) (p : Pager) : Type 0 where
   found : DbHeader
-  header : d ≡ main.Header found
+  header : d ≡ Ok found
   rest : next found ≡ opened.Opened p
 
 refused-not : (r : Opens) (p : Pager) {A : Type 0} → opens r ≡ false → r ≡ opened.Opened p → A
 refused-not r p n e = no_test (sym n ∙ ap opens e)
 
-main-read : (d : HeaderDecoded) (next : DbHeader → Opens) (p : Pager) → judged_main d next ≡ opened.Opened p → Read d next p
-main-read (main.Header h) next p e = record { found = h; header = refl; rest = e }
-main-read (main.Refused r) next p e = refused-not (opened.Refused r) p refl e
+main-read : (d : Result DbHeader Refusal) (next : DbHeader → Opens) (p : Pager) → judged_main d next ≡ opened.Opened p → Read d next p
+main-read (Ok h) next p e = record { found = h; header = refl; rest = e }
+main-read (Err r) next p e = refused-not (opened.Refused r) p refl e
 
-zero-read : (d : HeaderDecoded) (next : DbHeader → Opens) (p : Pager) → judged_zero d next ≡ opened.Opened p → Read d next p
-zero-read (main.Header h) next p e = record { found = h; header = refl; rest = e }
-zero-read (main.Refused r) next p e = refused-not (opened.Refused refusal.PageZero) p refl e
+zero-read : (d : Result DbHeader Refusal) (next : DbHeader → Opens) (p : Pager) → judged_zero d next ≡ opened.Opened p → Read d next p
+zero-read (Ok h) next p e = record { found = h; header = refl; rest = e }
+zero-read (Err r) next p e = refused-not (opened.Refused refusal.PageZero) p refl e
 
-record LogRead (d : WalHeaderDecoded) (next : Opens) (p : Pager) : Type 0 where
+record LogRead (d : Result WalHeader Refusal) (next : Opens) (p : Pager) : Type 0 where
   found : WalHeader
-  header : d ≡ log.Header found
+  header : d ≡ Ok found
   rest : next ≡ opened.Opened p
 
-log-read : (d : WalHeaderDecoded) (next : Opens) (p : Pager) → judged_log d next ≡ opened.Opened p → LogRead d next p
-log-read (log.Header h) next p e = record { found = h; header = refl; rest = e }
-log-read (log.Refused r) next p e = refused-not (opened.Refused r) p refl e
+log-read : (d : Result WalHeader Refusal) (next : Opens) (p : Pager) → judged_log d next ≡ opened.Opened p → LogRead d next p
+log-read (Ok h) next p e = record { found = h; header = refl; rest = e }
+log-read (Err r) next p e = refused-not (opened.Refused r) p refl e
 
 -- what a store was opened with
 record With (mh : DbHeader) (v : Wal) (p : Pager) : Type 0 where
@@ -167,13 +163,13 @@ pub record Known (how : How) (d : Disk) (p : Pager) : Type 0 where
   pub end : p.recovered ≡ chunk_at (length (found_by how d.log).frames)
   pub long : how.exists ≡ true → 32 ≤ length (content d.log)
 
-main-there : (f : File) (h : DbHeader) → main_header_of f ≡ main.Header h → h ≡ header_in f.area
+main-there : (f : File) (h : DbHeader) → main_header_of f ≡ Ok h → h ≡ header_in f.area
 unfolding main_header_of
 main-there f h e =
     let k = long-enough (leb 4096 f.len) (decode_header (take 4096 f.area)) e in
     sym (decoded-as (take 4096 f.area) h k).fields ∙ header-front f.area
   where
-    long-enough : (t : Bool) (x : HeaderDecoded) → pick t x (main.Refused refusal.Short) ≡ main.Header h → x ≡ main.Header h
+    long-enough : (t : Bool) (x : Result DbHeader Refusal) → pick t x (Err refusal.Short) ≡ Ok h → x ≡ Ok h
     long-enough true x k = k
     long-enough false x k = let z : ◌≡◌ {A = ℕ} 0 1 = cc in absurd (omega arith)
 
@@ -248,25 +244,25 @@ module _ (how : How) (d : Disk) where
         (rw e (table_filled how d p k a), rw e (b ∙ stored-log how.exists how.clean (writes how.access) refl refl refl n k.long))
 
     -- what an opening answers and leaves
-    abbrev pub Leaves : PagerOpened → List ℕ → List ℕ → Type 0
+    abbrev pub Leaves : Outcome (Unit {0}) → List ℕ → List ℕ → Type 0
     Leaves r u v = (r ≡ opened_answer (open_pager how t d g)) × ((u ≡ open_table how t d g) × (v ≡ open_log_area how t d g))
 
-    leaves-refused : (o : Opens) {r : PagerOpened} → open_pager how t d g ≡ o → opens o ≡ false → r ≡ opened_answer o → Leaves r t d.log.area
+    leaves-refused : (o : Opens) {r : (Outcome (Unit {0}))} → open_pager how t d g ≡ o → opens o ≡ false → r ≡ opened_answer o → Leaves r t d.log.area
     leaves-refused o e n a = (rw e a, refused-leaves (rw e n))
 
     -- refusal 1, then the others
-    pub area-refused : {r : PagerOpened} → open_fine t d g ≡ false → r ≡ opened_answer (opened.Refused refusal.Area) → Leaves r t d.log.area
+    pub area-refused : {r : (Outcome (Unit {0}))} → open_fine t d g ≡ false → r ≡ opened_answer (opened.Refused refusal.Area) → Leaves r t d.log.area
     area-refused n a = leaves-refused (opened.Refused refusal.Area) (opening-judged how d t g ∙ rw n) refl a
 
-    module _ (fine : open_fine t d g ≡ true) (r : PagerOpened) (a : r ≡ opened_answer (judged_files how d)) where
+    module _ (fine : open_fine t d g ≡ true) (r : Outcome (Unit {0})) (a : r ≡ opened_answer (judged_files how d)) where
       judged-here : open_pager how t d g ≡ judged_files how d
       judged-here = opening-judged how d t g ∙ rw fine
 
-      pub judged-refused : (k : Refusal) → r.answer ≡ answer.Refused k → Leaves r t d.log.area
+      pub judged-refused : (k : Refusal) → r.answer ≡ Err k → Leaves r t d.log.area
       judged-refused k n =
-          leaves-refused (judged_files how d) judged-here (refused-by (judged_files how d) k (sym (ap (λ (x : PagerOpened). x.answer) a) ∙ n)) a
+          leaves-refused (judged_files how d) judged-here (refused-by (judged_files how d) k (sym (ap (λ (x : Outcome (Unit {0})). x.answer) a) ∙ n)) a
 
-      pub judged-opened : {u v : List ℕ} → r.answer ≡ answer.Opened → length d.log.area ≡ 4210720
+      pub judged-opened : {u v : List ℕ} → r.answer ≡ Ok tt → length d.log.area ≡ 4210720
           → u ≡ table_of r.pager.storage.header (chunks (take r.pager.recovered d.log.area))
           → v ≡ pick how.exists d.log.area (pick (writes how.access) (with_header d.log.area (created_header how.salt)) d.log.area)
           → Leaves r u v

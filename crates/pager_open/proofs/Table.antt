@@ -3,14 +3,13 @@ use mathlib.Core.Path.{◌≡◌, refl, sym, ap, ◌∙◌}
 use mathlib.Core.Bool.{Bool, true, false}
 use mathlib.Core.List.{List, [], ◌∷◌, ◌++◌}
 use mathlib.Core.Logic.{⊎_elim}
-use Prim.Native.Nat.{ℕ, zero, suc, ◌+◌, ◌*◌, ◌%◌, ◌≤◌, ◌<◌}
+use Prim.Native.Nat.{ℕ, zero, suc, ◌+◌, ◌-◌, ◌*◌, ◌/◌, ◌%◌, ◌≤◌, ◌<◌}
 use native.Mathlib.Nat.{add-zero, zero-add}
-use native.Mathlib.Numerals.{add-one}
 use native.Mathlib.Omega.{arith}
 use borrow.Author.Tests.{eq-eqb, ne_eqb}
 use lib.Dec.{eqb}
 use lib.ListN.{length, take, get_or, set, length-set}
-use lib.Seq.{set_out, take-suc-set, get_or-set_same, get_or-set_other, ext_get_or}
+use lib.Seq.{set_out, get_or-set_same, get_or-set_other, ext_get_or}
 use Rattle.le.specs.Choice.{pick, both}
 use Rattle.le.proofs.Tests.{le-or-lt, eq-or-not}
 use Rattle.frame.specs.Frame.{frame_at}
@@ -19,7 +18,7 @@ use Rattle.wal.specs.Recovery.{chunks, chunk_at, page_of}
 use Rattle.pager_state.specs.Overlay.{on_main, entry}
 use Rattle.pager_state.specs.Opening.{tabulate, place_from, has_page, table_of}
 use Rattle.pager_state.specs.Commit.{with_entry}
-use Rattle.pager_open.proofs.Front.{Front, front-on}
+use Rattle.pager_open.proofs.Front.{front-length, front-more}
 
 -- ---- tabulated lists
 
@@ -28,13 +27,6 @@ module _ (g : ℕ → ℕ) where
   unfolding tabulate
   length-tabulate i zero = refl
   length-tabulate i (suc k) = ap suc (length-tabulate (suc i) k)
-
-  pub tabulate-snoc : (i k : ℕ) → tabulate g i (suc k) ≡ tabulate g i k ++ (g (i + k) ∷ [])
-  unfolding tabulate
-  tabulate-snoc i zero = rw add-zero
-  tabulate-snoc i (suc k) =
-      let e : suc i + k ≡ i + suc k = omega arith in
-      ap (λ (l : List ℕ). g i ∷ l) (rw e at (tabulate-snoc (suc i) k))
 
   get_from : (i k n : ℕ) → n < k → get_or (tabulate g i k) n 0 ≡ g (i + n)
   unfolding tabulate
@@ -67,11 +59,6 @@ module _ (g h : ℕ → ℕ) (k p v : ℕ) (below : p < k) (here : h p ≡ v) (o
       let w : length (set (tabulate g 0 k) p v) ≡ k = rw (length-set, length-tabulate g 0 k) in
       ext_get_or 0 (set (tabulate g 0 k) p v) (tabulate h 0 k) (w ∙ sym (length-tabulate h 0 k))
       (λ n b. let m : n < k = rw w at b in set_at n m ∙ sym (get-tabulate h k n m))
-
--- filling one from the front
-pub tabulate-next : (g : ℕ → ℕ) (t : List ℕ) (n v : ℕ) → n < length t → take n t ≡ tabulate g 0 n → v ≡ g n
-    → take (n + 1) (set t n v) ≡ tabulate g 0 (n + 1)
-tabulate-next g t n v h e k = rw (add-one, take-suc-set t n v h, tabulate-snoc g 0 n, e, k, zero-add)
 
 -- ---- the last frame of a page
 
@@ -111,13 +98,6 @@ pub entered-as : (t : List ℕ) (n at : ℕ) → set t n (2 * at + get_or t n 0 
 unfolding on_main
 entered-as t n at = ap (λ (r : ℕ). set t n (2 * at + r)) (flag-kept (get_or t n 0))
 
-pub entered-none : (t : List ℕ) (n at : ℕ) → length t ≤ n → t ≡ with_entry t n at
-entered-none t n at h = sym (set_out t n (entry at (on_main t n)) h)
-
-pub length-table : (h : DbHeader) (fs : List (List ℕ)) → length (table_of h fs) ≡ 1024
-unfolding table_of
-length-table h fs = length-tabulate (λ (n : ℕ). entry (place_from n 0 fs) (has_page h n)) 0 1024
-
 module _ (h : DbHeader) (fs : List (List ℕ)) (f : List ℕ) where
   before : ℕ → ℕ
   before n = entry (place_from n 0 fs) (has_page h n)
@@ -155,20 +135,16 @@ module _ (h : DbHeader) (fs : List (List ℕ)) (f : List ℕ) where
   entered_frame = ⊎_elim entered-above entered_below (le-or-lt 1024 (page_of f))
 
 -- without frames
-pub table_empty : (h : DbHeader) → tabulate (λ (n : ℕ). entry 0 (has_page h n)) 0 1024 ≡ table_of h []
+pub table_empty : (h : DbHeader) (t : List ℕ) → length t ≡ 1024 → ((n : ℕ) → n < 1024 → get_or t n 0 ≡ entry 0 (has_page h n)) → t ≡ table_of h []
 unfolding table_of place_from
-table_empty h = refl
+table_empty h t e a =
+    let g : ℕ → ℕ = λ n. entry 0 (has_page h n) in
+    ext_get_or 0 t (tabulate g 0 1024) (e ∙ sym (length-tabulate g 0 1024)) (λ n b. let m : n < 1024 = rw e at b in a n m ∙ sym (get-tabulate g 1024 n m))
 
 -- ---- entering the frames of a log, one behind the other
 
--- those in front of `at` are entered
-abbrev pub Entering : DbHeader → List ℕ → List ℕ → ℕ → Type 0
-Entering h l t at = Front (table_of h) l t at
-
-module _ (h : DbHeader) (l : List ℕ) where
-  pub entering-long : (t : List ℕ) (at : ℕ) → Entering h l t at → length t ≡ 1024
-  entering-long t at r = rw r.is (length-table h (take r.index (chunks l)))
-
-  pub entering-on : (t : List ℕ) (at : ℕ) {u : List ℕ} → Entering h l t at → at + 4112 ≤ length l → u ≡ with_entry t (page_of (frame_at at l)) at
-      → Entering h l u (at + 4112)
-  entering-on t at r k e = front-on (table_of h) l t at r k (λ fs a b. e ∙ rw (a, b) (entered_frame h fs (frame_at (chunk_at (length fs)) l)))
+pub entering-on : (h : DbHeader) (l t : List ℕ) (i : ℕ) {u : List ℕ} → t ≡ table_of h (take i (chunks l)) → i < (length l - 32) / 4112
+    → u ≡ with_entry t (page_of (frame_at (chunk_at i) l)) (chunk_at i) → u ≡ table_of h (take (i + 1) (chunks l))
+entering-on h l t i e b f =
+    let n = front-length l i (omega arith) in
+    f ∙ rw (e, front-more l i b) (rw n at (entered_frame h (take i (chunks l)) (frame_at (chunk_at i) l)))

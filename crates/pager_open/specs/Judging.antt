@@ -1,5 +1,5 @@
 -- What the parts of an opening answer: pieces of `open_pager` over what the parts before them found.
-use Rattle.std.specs.Prelude.{Bool, true, false, List, ℕ, ◌-◌, ◌*◌, ◌/◌, max, leb}
+use Rattle.std.specs.Prelude.{Option, Bool, true, false, List, ℕ, ◌-◌, ◌*◌, ◌/◌, max, leb}
 use Rattle.le.specs.Choice.{pick, both}
 use Rattle.page.specs.Page.{page_size}
 use Rattle.frame.specs.Frame.{frame_size, body_of}
@@ -10,7 +10,6 @@ use Rattle.wal.specs.Header.{header_size, decode_wal_header}
 use Rattle.wal.specs.Recovery.{is_batch}
 use Rattle.wal.specs.Read.{committed_chunks}
 use Rattle.wal.specs.declared.WalHeader.{WalHeader}
-use Rattle.wal.specs.declared.LastCommit.{LastCommit}
 use Rattle.wal.specs.declared.Wal.{Wal}
 use Rattle.pager_state.specs.World.{page_limit, count_of}
 use Rattle.pager_state.specs.Stores.{File, Disk, content}
@@ -33,7 +32,7 @@ clocked h fs =
     }
 
 -- an open log that ends with its last commit frame: "its frame count is the frames kept"
-unfoldable pub committed_wal : WalHeader → ℕ → LastCommit → Wal
+unfoldable pub committed_wal : WalHeader → ℕ → Option ℕ → Wal
 committed_wal h end last =
     record {
       header = h;

@@ -3,7 +3,7 @@
 // All refusals are judged before any area is written. Every public function is total.
 #![tactic(auto)]
 
-ghost use Rattle.std.specs.Prelude.{◌≡◌, true, false, [], ◌+◌, ◌*◌, max, ◌≤◌, ◌<◌, ◌^◌, leb, length};
+ghost use Rattle.std.specs.Prelude.{◌≡◌, true, false, [], ◌+◌, ◌-◌, ◌*◌, ◌/◌, ◌≤◌, ◌<◌, ◌^◌, leb, length};
 ghost use Rattle.le.specs.Choice.{pick};
 ghost use Rattle.le.specs.Le.{put};
 ghost use Rattle.page.specs.Page.{empty_table_page, page_size};
@@ -22,15 +22,15 @@ ghost use Rattle.pager_open.specs.Given.{how, how_of, files};
 ghost use Rattle.pager_open.specs.Judging.{time_of, committed_wal, kept_wal, is_clean_read_only, opened_with, judged_found, judged_behind, judged_files};
 
 use frame::FRAME_SIZE;
-use header::{DbHeader, HeaderDecoded};
+use header::DbHeader;
 use mvcc::MVCC_FRAME_MARKER;
 use page::PAGE_SIZE;
 use pager_state::{
-    AccessMode, CreateAnswer, FileStorage, Job, MAIN_AREA, OpenAnswer, Opening, PAGES, Pager,
-    PagerCreated, PagerOpened, STAGED_PAGES, STAGING_AREA, Staged,
+    AccessMode, FileStorage, Job, MAIN_AREA, Opening, Outcome, PAGES, Pager, STAGED_PAGES,
+    STAGING_AREA, Staged,
 };
 use refusal::Refusal;
-use wal::{LastCommit, WAL_AREA, WAL_HEADER_SIZE, Wal, WalHeader, WalOpened};
+use wal::{WAL_AREA, WAL_HEADER_SIZE, Wal, WalHeader};
 
 // How a store is to be opened.
 #[derive(Clone, Copy)]
@@ -52,32 +52,20 @@ fn are_fine(
 ) -> bool
     ensures { result ≡ lengths_fine table log_area log main_area main staging }
 {
-    if !pager_state::are_files_inside(table, log_area, log, main_area, main) {
-        return false;
-    }
-    staging == STAGING_AREA
+    pager_state::are_files_inside(table, log_area, log, main_area, main) && staging == STAGING_AREA
 }
 
 fn writes(access_mode: AccessMode) -> bool
     ensures { result ≡ writes access_mode }
 {
-    match access_mode {
-        AccessMode::ReadWrite => true,
-        AccessMode::ReadOnly => false,
-    }
+    matches!(access_mode, AccessMode::ReadWrite)
 }
 
 // The entry of a page that the log does not have: 1 if the main file has it.
 fn main_entry(header: DbHeader, n: usize) -> u32
     ensures { result ≡ entry 0 (has_page header n) }
 {
-    if n < 1 {
-        return 0;
-    }
-    if n < header.page_count as usize {
-        return 1;
-    }
-    0
+    u32::from(1 <= n && n < header.page_count as usize)
 }
 
 // Makes the table that of a store without frames.
@@ -85,10 +73,8 @@ fn clear_table(table: &mut [u32], main_header: DbHeader)
     requires { length table.old ≡ page_limit }
     ensures { table.new ≡ table_of main_header [] }
 {
-    let mut n = 0;
-    while n < table.len() {
-        table[n] = main_entry(main_header, n);
-        n += 1;
+    for (n, entry) in table.iter_mut().enumerate() {
+        *entry = main_entry(main_header, n);
     }
 }
 
@@ -103,24 +89,24 @@ fn enter_frame(table: &mut [u32], page_num: u32, at: usize)
     }
 }
 
+// How many frames stand wholly inside a log of a length.
+fn frames_in(len: usize) -> usize
+    ensures { result ≡ (len - header_size) / frame_size }
+{
+    len.saturating_sub(WAL_HEADER_SIZE) / FRAME_SIZE
+}
+
 // Fills the table from the committed frames' headings, each over those before it.
 fn fill_table(table: &mut [u32], file: &[u8], main_header: DbHeader)
     requires { (length table.old ≡ page_limit) × (length file.now ≤ wal_area) }
     ensures { table.new ≡ table_of main_header (chunks file.now) }
 {
     clear_table(table, main_header);
-    let mut at = WAL_HEADER_SIZE;
-    while le::fits_in(file.len(), at, FRAME_SIZE) {
+    for index in 0..frames_in(file.len()) {
+        let at = WAL_HEADER_SIZE + FRAME_SIZE * index;
         let header = frame::read_frame_header(file, at);
         enter_frame(table, header.page_num, at);
-        at += FRAME_SIZE;
     }
-}
-
-fn larger(a: u64, b: u64) -> u64
-    ensures { result ≡ max a b }
-{
-    if a < b { b } else { a }
 }
 
 // The commit time of the batch whose frame is at `at`; 0 if a page's is.
@@ -140,17 +126,16 @@ fn greatest_commit_ts(file: &[u8]) -> u64
     requires { length file.now ≤ wal_area }
     ensures { result ≡ greatest (commit_times (chunks file.now)) }
 {
-    let mut greatest = 0;
-    let mut at = WAL_HEADER_SIZE;
-    while le::fits_in(file.len(), at, FRAME_SIZE) {
-        greatest = larger(greatest, batch_time(file, at));
-        at += FRAME_SIZE;
+    let mut greatest: u64 = 0;
+    for index in 0..frames_in(file.len()) {
+        let time = batch_time(file, WAL_HEADER_SIZE + FRAME_SIZE * index);
+        greatest = greatest.max(time);
     }
     greatest
 }
 
 // An open log that ends with its last commit frame.
-fn committed_wal(header: WalHeader, end: usize, last: LastCommit) -> Wal
+fn committed_wal(header: WalHeader, end: usize, last: Option<u32>) -> Wal
     requires { header_size ≤ end }
     ensures { result ≡ committed_wal header end last }
 {
@@ -174,7 +159,7 @@ fn empty_wal(salt: u32) -> Wal
         checkpoint_seq: 0,
         clock_high_water: 0,
     };
-    committed_wal(header, WAL_HEADER_SIZE, LastCommit::Nothing)
+    committed_wal(header, WAL_HEADER_SIZE, None)
 }
 
 // The log cut at its commit point, with the larger of its header's clock and the greatest commit time in it.
@@ -182,11 +167,13 @@ fn cut_at_commit(file: &[u8], wal: Wal) -> Wal
     requires { (header_size ≤ wal.last_commit_offset) × (length file.now ≤ wal_area) }
     ensures { result ≡ kept_wal true file.now wal }
 {
-    let mut header = wal.header;
     let last = wal.last_commit_page_count;
     let end = wal.last_commit_offset;
     let greatest = greatest_commit_ts(le::part(file, 0, end));
-    header.clock_high_water = larger(header.clock_high_water, greatest);
+    let header = WalHeader {
+        clock_high_water: wal.header.clock_high_water.max(greatest),
+        ..wal.header
+    };
     committed_wal(header, end, last)
 }
 
@@ -202,25 +189,18 @@ fn kept(file: &[u8], wal: Wal, clean: bool) -> Wal
 }
 
 // An open store with nothing staged and nothing part done; the batches that were found end at the log's commit point.
-fn open_store(
-    header: DbHeader,
-    main_header: DbHeader,
-    main_len: usize,
-    wal: Wal,
-    opening: Opening,
-) -> Pager
-    ensures { result ≡ opens_as header main_header main_len wal wal.last_commit_offset opening }
+fn open_store(header: DbHeader, storage: FileStorage, wal: Wal, opening: Opening) -> Pager
+    ensures { result ≡ opens_as header storage.header storage.len wal wal.last_commit_offset opening }
 {
-    let pages = [0u16; STAGED_PAGES];
     Pager {
         current_header: header,
         wal,
         recovered: wal.last_commit_offset,
-        storage: FileStorage {
-            len: main_len,
-            header: main_header,
+        storage,
+        staged: Staged {
+            count: 0,
+            pages: [0; STAGED_PAGES],
         },
-        staged: Staged { count: 0, pages },
         job: Job::Idle,
         opening,
     }
@@ -236,14 +216,19 @@ fn no_store() -> Pager
         format_version: 0,
         freelist_head: 0,
     };
-    open_store(header, header, 0, empty_wal(0), Opening::NoLog)
+    open_store(
+        header,
+        FileStorage { len: 0, header },
+        empty_wal(0),
+        Opening::NoLog,
+    )
 }
 
-fn refused(refusal: Refusal) -> PagerOpened
+fn refused(refusal: Refusal) -> Outcome<()>
     ensures { result ≡ opened_answer (Refused refusal) }
 {
-    PagerOpened {
-        answer: OpenAnswer::Refused(refusal),
+    Outcome {
+        answer: Err(refusal),
         pager: no_store(),
     }
 }
@@ -252,31 +237,23 @@ fn refused(refusal: Refusal) -> PagerOpened
 fn opening_of(options: OpenOptions) -> Opening
     ensures { result ≡ opening_of (how_of options) }
 {
-    let access_mode = options.access_mode;
-    if writes(access_mode) {
-        if options.clean {
-            return Opening::Clean;
-        }
-        return Opening::Plain;
+    match (
+        writes(options.access_mode),
+        options.clean,
+        options.log_exists,
+    ) {
+        (true, true, _) => Opening::Clean,
+        (true, false, _) => Opening::Plain,
+        (false, _, true) => Opening::ReadOnly,
+        (false, _, false) => Opening::NoLog,
     }
-    if options.log_exists {
-        return Opening::ReadOnly;
-    }
-    Opening::NoLog
 }
 
 // Whether the opening is clean and read-only.
 fn is_clean_read_only(options: OpenOptions) -> bool
     ensures { result ≡ is_clean_read_only (how_of options) }
 {
-    let access_mode = options.access_mode;
-    if options.clean {
-        return match access_mode {
-            AccessMode::ReadWrite => false,
-            AccessMode::ReadOnly => true,
-        };
-    }
-    false
+    options.clean && !writes(options.access_mode)
 }
 
 // Whether a header's pages lie within a length.
@@ -289,12 +266,11 @@ fn covers(len: usize, header: DbHeader) -> bool
 // Judges refusals 6 and 10; `header` is the one that counts.
 fn opened_with(
     options: OpenOptions,
-    main_len: usize,
-    main_header: DbHeader,
+    storage: FileStorage,
     wal: Wal,
     header: DbHeader,
-) -> PagerOpened
-    ensures { result ≡ opened_answer (opened_with (how_of options) main_len main_header wal header) }
+) -> Outcome<()>
+    ensures { result ≡ opened_answer (opened_with (how_of options) storage.len storage.header wal header) }
 {
     if !covers(MAIN_AREA, header) {
         return refused(Refusal::Limit);
@@ -303,78 +279,59 @@ fn opened_with(
         return refused(Refusal::ReadOnly);
     }
     let opening = opening_of(options);
-    PagerOpened {
-        answer: OpenAnswer::Opened,
-        pager: open_store(header, main_header, main_len, wal, opening),
+    Outcome {
+        answer: Ok(()),
+        pager: open_store(header, storage, wal, opening),
     }
 }
 
 // The header with the last commit count, if there is one.
-fn recounted(header: DbHeader, last: LastCommit) -> DbHeader
+fn recounted(header: DbHeader, last: Option<u32>) -> DbHeader
     ensures { result ≡ recounted header last }
 {
     match last {
-        LastCommit::Nothing => header,
-        LastCommit::Count(count) => DbHeader {
+        None => header,
+        Some(count) => DbHeader {
             page_count: count,
-            schema_root_page: header.schema_root_page,
-            format_version: header.format_version,
-            freelist_head: header.freelist_head,
+            ..header
         },
     }
 }
 
 // The header that counts: page 0's in the log, else the main file's with the last commit count.
-fn header_by(file: &[u8], wal: Wal, main_header: DbHeader) -> HeaderDecoded
+fn header_by(file: &[u8], wal: Wal, main_header: DbHeader) -> Result<DbHeader, Refusal>
     requires { wal ≡ wal_of (length file.now) (recovered file.now) }
     ensures { result ≡ header_by main_header (found_in false file.now) }
 {
     let zero = wal::read_page(file, wal, 0);
     if zero.len() == 0 {
         let last = wal.last_commit_page_count;
-        return HeaderDecoded::Header(recounted(main_header, last));
+        return Ok(recounted(main_header, last));
     }
     header::decode_header(zero)
 }
 
 // Judges refusal 8 and those behind it.
-fn judge_found(
-    file: &[u8],
-    wal: Wal,
-    main_len: usize,
-    main_header: DbHeader,
-    options: OpenOptions,
-) -> PagerOpened
+fn judge_found(file: &[u8], wal: Wal, storage: FileStorage, options: OpenOptions) -> Outcome<()>
     requires { (wal ≡ wal_of (length file.now) (recovered file.now)) × (header_size ≤ length file.now) × (length file.now ≤ wal_area) }
-    ensures { result ≡ opened_answer (judged_found (how_of options) main_len main_header (found_in options.clean file.now)) }
+    ensures { result ≡ opened_answer (judged_found (how_of options) storage.len storage.header (found_in options.clean file.now)) }
 {
-    match header_by(file, wal, main_header) {
-        HeaderDecoded::Header(header) => opened_with(
-            options,
-            main_len,
-            main_header,
-            kept(file, wal, options.clean),
-            header,
-        ),
-        HeaderDecoded::Refused(_) => refused(Refusal::PageZero),
+    match header_by(file, wal, storage.header) {
+        Ok(header) => { opened_with(options, storage, kept(file, wal, options.clean), header) }
+        Err(_) => refused(Refusal::PageZero),
     }
 }
 
 // Judges a log that exists: reads it once, with its checksums.
-fn judge_log(
-    file: &[u8],
-    main_len: usize,
-    main_header: DbHeader,
-    options: OpenOptions,
-) -> PagerOpened
+fn judge_log(file: &[u8], storage: FileStorage, options: OpenOptions) -> Outcome<()>
     requires { length file.now ≤ wal_area }
     ensures { let o = how_of options in
         let x = found_in options.clean file.now in
-        result ≡ opened_answer (judged_log (decode_wal_header file.now) (judged_found o main_len main_header x)) }
+        result ≡ opened_answer (judged_log (decode_wal_header file.now) (judged_found o storage.len storage.header x)) }
 {
     match Wal::open(file) {
-        WalOpened::Opened(wal) => judge_found(file, wal, main_len, main_header, options),
-        WalOpened::Refused(refusal) => refused(refusal),
+        Ok(wal) => judge_found(file, wal, storage, options),
+        Err(refusal) => refused(refusal),
     }
 }
 
@@ -382,8 +339,7 @@ fn judge_log(
 fn fresh_wal(options: OpenOptions) -> Wal
     ensures { result ≡ (found_fresh (how_of options)).log }
 {
-    let access_mode = options.access_mode;
-    if writes(access_mode) {
+    if writes(options.access_mode) {
         return empty_wal(options.salt);
     }
     empty_wal(0)
@@ -393,35 +349,28 @@ fn fresh_wal(options: OpenOptions) -> Wal
 fn judge_behind(
     log: &[u8],
     log_len: usize,
-    main_len: usize,
-    main_header: DbHeader,
+    storage: FileStorage,
     options: OpenOptions,
-) -> PagerOpened
+) -> Outcome<()>
     requires { log_len ≤ wal_area }
     ensures { (let f : File = record { area = log.now; len = log_len } in
-        result ≡ opened_answer (judged_behind (how_of options) main_len f main_header)) }
+        result ≡ opened_answer (judged_behind (how_of options) storage.len f storage.header)) }
 {
-    if !covers(main_len, main_header) {
+    if !covers(storage.len, storage.header) {
         return refused(Refusal::MainShort);
     }
     if options.log_exists {
-        return judge_log(le::part(log, 0, log_len), main_len, main_header, options);
+        return judge_log(le::part(log, 0, log_len), storage, options);
     }
-    opened_with(
-        options,
-        main_len,
-        main_header,
-        fresh_wal(options),
-        main_header,
-    )
+    opened_with(options, storage, fresh_wal(options), storage.header)
 }
 
 // The main file's own header.
-fn read_header(main: &[u8], main_len: usize) -> HeaderDecoded
+fn read_header(main: &[u8], main_len: usize) -> Result<DbHeader, Refusal>
     ensures { result ≡ main_header_of (record { area = main.now; len = main_len }) }
 {
     if main_len < PAGE_SIZE {
-        return HeaderDecoded::Refused(Refusal::Short);
+        return Err(Refusal::Short);
     }
     header::decode_header(le::part(main, 0, PAGE_SIZE))
 }
@@ -433,13 +382,19 @@ fn judge(
     log_len: usize,
     main_len: usize,
     options: OpenOptions,
-) -> PagerOpened
+) -> Outcome<()>
     requires { log_len ≤ wal_area }
     ensures { result ≡ opened_answer (judged_files (how_of options) (files main.now main_len log.now log_len)) }
 {
     match read_header(main, main_len) {
-        HeaderDecoded::Header(header) => judge_behind(log, log_len, main_len, header, options),
-        HeaderDecoded::Refused(refusal) => refused(refusal),
+        Ok(header) => {
+            let storage = FileStorage {
+                len: main_len,
+                header,
+            };
+            judge_behind(log, log_len, storage, options)
+        }
+        Err(refusal) => refused(refusal),
     }
 }
 
@@ -448,12 +403,8 @@ fn store_log(log: &mut [u8], options: OpenOptions)
     ensures { let l = log.old in
         log.new ≡ pick options.log_exists l (pick (writes options.access_mode) (with_header l (created_header options.salt)) l) }
 {
-    if options.log_exists {
-        return;
-    }
-    let access_mode = options.access_mode;
-    if writes(access_mode) {
-        wal::create(log, options.salt);
+    if !options.log_exists && writes(options.access_mode) {
+        let _ = wal::create(log, options.salt);
     }
 }
 
@@ -466,7 +417,7 @@ fn open(
     main_len: usize,
     log_len: usize,
     options: OpenOptions,
-) -> PagerOpened
+) -> Outcome<()>
     ensures result_value { let d = files main.now main_len log.old log_len in
         let o = how_of options in
         result ≡ opened_answer (open_pager o table.old d staging.now) }
@@ -489,12 +440,15 @@ fn open(
     }
     let opened = judge(log, main, log_len, main_len, options);
     let answer = opened.answer;
-    let OpenAnswer::Opened = answer else {
+    let Ok(()) = answer else {
         return opened;
     };
     let pager = opened.pager;
-    let storage = pager.storage;
-    fill_table(table, le::part(log, 0, pager.recovered), storage.header);
+    fill_table(
+        table,
+        le::part(log, 0, pager.recovered),
+        pager.storage.header,
+    );
     store_log(log, options);
     opened
 }
@@ -510,7 +464,7 @@ pub fn open_with_mode(
     access_mode: AccessMode,
     log_exists: bool,
     salt: u32,
-) -> PagerOpened
+) -> Outcome<()>
     ensures result_value { let d = files main.now main_len log.old log_len in
         let o = how false access_mode log_exists salt in
         result ≡ opened_answer (open_pager o table.old d staging.now) }
@@ -541,7 +495,7 @@ pub fn open_clean(
     access_mode: AccessMode,
     log_exists: bool,
     salt: u32,
-) -> PagerOpened
+) -> Outcome<()>
     ensures result_value { let d = files main.now main_len log.old log_len in
         let o = how true access_mode log_exists salt in
         result ≡ opened_answer (open_pager o table.old d staging.now) }
@@ -566,8 +520,8 @@ fn store_pages(main: &mut [u8], header: DbHeader)
     requires { 2 * page_size ≤ length main.old }
     ensures { main.new ≡ put (put main.old 0 (encode_header header)) page_size empty_table_page }
 {
-    header::encode_header(header, &mut main[0..PAGE_SIZE]);
-    page::TablePage::empty(&mut main[PAGE_SIZE..2 * PAGE_SIZE]);
+    let _ = header::encode_header(header, &mut main[0..PAGE_SIZE]);
+    let _ = page::TablePage::empty(&mut main[PAGE_SIZE..2 * PAGE_SIZE]);
 }
 
 // Makes the areas a new store: a header, an empty table page, and a log without frames.
@@ -577,15 +531,15 @@ pub fn create(
     main: &mut [u8],
     staging: &[u8],
     salt: u32,
-) -> PagerCreated
+) -> Outcome<()>
     ensures value { result ≡ create table.old log.old main.old staging.now salt }
     ensures table_after { table.new ≡ create_table table.old log.old main.old staging.now }
     ensures log_after { log.new ≡ create_log table.old log.old main.old staging.now salt }
     ensures main_after { main.new ≡ create_main table.old log.old main.old staging.now salt }
 {
     if !are_fine(table.len(), log.len(), 0, main.len(), 0, staging.len()) {
-        return PagerCreated {
-            answer: CreateAnswer::Refused(Refusal::Area),
+        return Outcome {
+            answer: Err(Refusal::Area),
             pager: no_store(),
         };
     }
@@ -596,11 +550,14 @@ pub fn create(
         freelist_head: 0,
     };
     store_pages(main, header);
-    wal::create(log, salt);
+    let _ = wal::create(log, salt);
     clear_table(table, header);
-    let wal = empty_wal(salt);
-    PagerCreated {
-        answer: CreateAnswer::Created,
-        pager: open_store(header, header, 2 * PAGE_SIZE, wal, Opening::Clean),
+    let storage = FileStorage {
+        len: 2 * PAGE_SIZE,
+        header,
+    };
+    Outcome {
+        answer: Ok(()),
+        pager: open_store(header, storage, empty_wal(salt), Opening::Clean),
     }
 }

@@ -1,6 +1,6 @@
 -- What a commit that is begun leaves is its end in closed form, in any store, made up or not, and with any salt. Assumes nothing.
 use Rattle.std.proofs.Common.{◌≡◌, ℕ, ◌+◌, ◌*◌, ◌<◌, ◌≤◌, ◌⊎◌, List, length, ap, inl, inr, arith, ne_eqb, le-leb}
-use mathlib.Core.Option.{none, some}
+use Rattle.std.specs.Prelude.{None, Some, Err, Ok}
 use borrow.Author.Tests.{lt-leb}
 use Rattle.le.proofs.Tests.{le-or-lt}
 use Rattle.refusal.specs.declared.Refusal.{Refusal}
@@ -16,7 +16,6 @@ use Rattle.pager_state.proofs.CommitEnd.{committed, committed-is, ends-behind, e
 use Rattle.pager_preview.specs.Preview.{seen, preview_commit}
 use Rattle.pager_preview.specs.Closed.{frames_after, end_of}
 use Rattle.pager_preview.specs.declared.Preview.{Preview}
-use Rattle.pager_preview.specs.declared.PreviewAnswer.TheVariants as preview
 
 module _ (g : List ℕ) (w : World) (h : DbHeader) where
   -- ---- begun
@@ -29,7 +28,7 @@ module _ (g : List ℕ) (w : World) (h : DbHeader) where
   abbrev frames : ℕ
   frames = frames_after (differing g w) w.pager.wal
 
-  module _ (salt : ℕ) (slots : length w.pager.staged.pages ≡ staged_limit) (b : commit_refusal g w h ≡ none) where
+  module _ (salt : ℕ) (slots : length w.pager.staged.pages ≡ staged_limit) (b : commit_refusal g w h ≡ None) where
     seen-behind : frames < checkpoint_frames → seen (differing g w) (commit_world g w h salt) ≡ end
     unfolding end_of
     seen-behind k =
@@ -52,12 +51,12 @@ module _ (g : List ℕ) (w : World) (h : DbHeader) where
     pub seen_end : seen (differing g w) (commit_world g w h salt) ≡ end
     seen_end = seen_by (le-or-lt checkpoint_frames frames)
 
-    pub closed : preview_commit g w h salt ≡ preview.Previewed end
+    pub closed : preview_commit g w h salt ≡ Ok end
     unfolding preview_commit commit_answer
-    closed = rw b (ap preview.Previewed seen_end)
+    closed = rw b (ap Ok seen_end)
 
   -- ---- refused
 
-  pub refused : (r : Refusal) → commit_refusal g w h ≡ some r → (salt : ℕ) → preview_commit g w h salt ≡ preview.Refused r
+  pub refused : (r : Refusal) → commit_refusal g w h ≡ Some r → (salt : ℕ) → preview_commit g w h salt ≡ Err r
   unfolding preview_commit commit_answer
   refused r e salt = rw e

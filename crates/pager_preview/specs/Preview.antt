@@ -1,15 +1,12 @@
 -- Document 02, P5: "Before committing, the desk wants to see the answer the call would give, the frame count, the log and main lengths
 -- afterwards and whether it would fold. The preview must equal committing on a copy of all areas, refusals included, and alter nothing."
-use Rattle.std.specs.Prelude.{ℕ, Bool, List, ◌==◌}
+use Rattle.std.specs.Prelude.{Err, Ok, Result, ℕ, Bool, List, ◌==◌}
+use Rattle.refusal.specs.declared.Refusal.{Refusal}
 use Rattle.header.specs.declared.DbHeader.{DbHeader}
 use Rattle.wal.specs.Header.{header_size}
 use Rattle.pager_state.specs.World.{World}
 use Rattle.pager_state.specs.Steps.{commit_answer, commit_world}
-use Rattle.pager_state.specs.declared.CommitAnswer.{CommitAnswer}
-use Rattle.pager_state.specs.declared.CommitAnswer.TheVariants as committed
 use Rattle.pager_preview.specs.declared.Preview.{Preview}
-use Rattle.pager_preview.specs.declared.PreviewAnswer.{PreviewAnswer}
-use Rattle.pager_preview.specs.declared.PreviewAnswer.TheVariants as preview
 
 -- "whether it would fold": the log that the commit leaves is emptied, "log length 32"
 abbrev pub emptied : World → Bool
@@ -27,10 +24,10 @@ seen n v =
     }
 
 -- "refusals included"
-abbrev pub shown : CommitAnswer → World → PreviewAnswer
-shown (committed.Committed n) v = preview.Previewed (seen n v)
-shown (committed.Refused r) v = preview.Refused r
+abbrev pub shown : Result ℕ Refusal → World → Result Preview Refusal
+shown (Ok n) v = Ok (seen n v)
+shown (Err r) v = Err r
 
 -- "committing on a copy of all areas": what the commit itself answers, and the world that it leaves of w. The salt is the commit's
-unfoldable pub preview_commit : List ℕ → World → DbHeader → ℕ → PreviewAnswer
+unfoldable pub preview_commit : List ℕ → World → DbHeader → ℕ → Result Preview Refusal
 preview_commit g w h salt = shown (commit_answer g w h) (commit_world g w h salt)

@@ -11,7 +11,8 @@ ghost use Rattle.pager_preview.specs.Closed.{end_of};
 use frame::FRAME_SIZE;
 use header::DbHeader;
 use page::PAGE_SIZE;
-use pager_state::{AUTO_CHECKPOINT_THRESHOLD_FRAMES, CommitStart, Pager};
+use pager_differing::Areas;
+use pager_state::{AUTO_CHECKPOINT_THRESHOLD_FRAMES, Pager};
 use refusal::Refusal;
 use wal::{WAL_HEADER_SIZE, Wal};
 
@@ -27,25 +28,20 @@ pub struct Preview {
     pub checkpointed: bool,
 }
 
-#[derive(Clone, Copy)]
-pub enum PreviewAnswer {
-    Previewed(Preview),
-    Refused(Refusal),
-}
-
 // The end of a commit of so many differing pages, for whose frames and commit frame the log has room.
+#[tactic(auto, unfolding(crate::specs::Closed::end_of))]
 fn end_of(pages: usize, wal: Wal, main_len: usize, page_count: u32) -> Preview
     requires pages_bound { wal.len + frame_size * (pages + 1) ≤ wal_area }
     requires page_count_le_page_limit { page_count ≤ page_limit }
     ensures { result ≡ end_of pages wal main_len page_count }
 {
-    let frames = std::num::wrapping_add_usize(wal.frame_count, pages + 1);
+    let frames = wal.frame_count.wrapping_add(pages + 1);
     if AUTO_CHECKPOINT_THRESHOLD_FRAMES <= frames {
         return Preview {
             answer: pages,
             frame_count: 0,
             log_len: WAL_HEADER_SIZE,
-            main_len: PAGE_SIZE * le::widen_u32(page_count),
+            main_len: PAGE_SIZE * page_count as usize,
             checkpointed: true,
         };
     }
@@ -66,18 +62,21 @@ pub fn preview_commit<'a>(
     main: &'a [u8],
     staging: &'a [u8],
     new_header: DbHeader,
-) -> PreviewAnswer
+) -> Result<Preview, Refusal>
     ensures { let w = world pager table.now log.now main.now in
         ((salt : ℕ) → result ≡ preview_commit staging.now w new_header salt) }
 {
-    let judged = pager_judge::judge(pager, table, log, main, staging, new_header);
-    let wal = pager.wal;
-    let storage = pager.storage;
-    let answer = judged.answer;
-    match answer {
-        CommitStart::Begun => {
-            PreviewAnswer::Previewed(end_of(judged.pages, wal, storage.len, new_header.page_count))
-        }
-        CommitStart::Refused(refusal) => PreviewAnswer::Refused(refusal),
-    }
+    let areas = Areas {
+        table,
+        log,
+        main,
+        staging,
+    };
+    let judged = pager_judge::judge(pager, areas, new_header)?;
+    Ok(end_of(
+        judged.pages,
+        pager.wal,
+        pager.storage.len,
+        new_header.page_count,
+    ))
 }

@@ -2,12 +2,12 @@
 use mathlib.Core.Path.{◌≡◌, refl, sym, ap, ◌∙◌}
 use mathlib.Core.Bool.{not}
 use mathlib.Core.List.{List}
-use mathlib.Core.Option.{Option, none, some}
 use Prim.Native.Nat.{ℕ, zero, suc, ◌*◌, ◌≤◌, ◌<◌, min}
 use native.Mathlib.Omega.{arith}
 use borrow.Author.Tests.{lt-ltb, le-ltb, le-leb, ne_eqb}
 use lib.Dec.{eqb}
 use lib.ListN.{length, take, length-take}
+use Rattle.std.specs.Prelude.{Option, None, Some, Err, Ok}
 use Rattle.le.specs.Choice.{both}
 use Rattle.page.specs.Page.{page_size}
 use Rattle.refusal.specs.Refusal.{answered}
@@ -17,7 +17,6 @@ use Rattle.pager_state.specs.Overlay.{find_in, slots, slot_of, is_staged, below,
 use Rattle.pager_state.specs.declared.Pager.{Pager}
 use Rattle.pager_state.specs.declared.PageFound.{PageFound}
 use Rattle.pager_state.specs.declared.PageFound.TheVariants as found
-use Rattle.pager_read.specs.declared.ReadAnswer.TheVariants as may
 use Rattle.pager_read.specs.Reading.{may_read, read_end, read_as}
 
 -- ---- what place_page finds
@@ -44,9 +43,9 @@ none-behind count n (suc k) s t h l =
 
 -- ---- beside find_page
 
-allowed : (v : Option Refusal) (f : PageFound) → answered found.Refused f v ≡ read_as (answered may.Refused may.Allowed v) f
-allowed none f = refl
-allowed (some r) f = refl
+allowed : (v : Option Refusal) (f : PageFound) → answered Err (Ok f) v ≡ read_as (answered Err (Ok tt) v) f
+allowed None f = refl
+allowed (Some r) f = refl
 
 -- of a store's own numbers, j telling whether something is part done
 pub place-find :

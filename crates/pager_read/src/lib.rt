@@ -6,71 +6,69 @@ ghost use Rattle.std.specs.Prelude.{◌≡◌};
 ghost use Rattle.pager_state.specs.World.{world};
 ghost use Rattle.pager_state.specs.Overlay.{slots, below, place_page, find_page, read_page};
 ghost use Rattle.pager_state.specs.Queries.{header, mode_by, access_mode, clock_high_water_of, raised, observed_by, observe_clock};
-ghost use Rattle.pager_state.specs.Batches.{recovered_batch, next_recovered};
+ghost use Rattle.pager_state.specs.Batches.{next_recovered};
 ghost use Rattle.pager_read.specs.Reading.{may_read, read_end};
 
 use frame::FRAME_HEADER_SIZE;
+use header::DbHeader;
 use page::PAGE_SIZE;
 use pager_state::{
-    AccessMode, ClockObserved, ClockRead, HeaderRead, ModeRead, ObserveAnswer, Opening, PageFound,
-    Pager, RecoveredFound, STAGED_PAGES, STAGING_AREA, Staged,
+    AccessMode, Opening, Outcome, PageFound, Pager, STAGED_PAGES, STAGING_AREA, Staged,
 };
 use refusal::Refusal;
-use wal::{BatchFound, ClockSet, WAL_AREA, Wal};
+use wal::{BatchAt, WAL_AREA, Wal};
 
 // The header that counts.
-pub fn header(pager: Pager) -> HeaderRead
+pub fn header(pager: Pager) -> Result<DbHeader, Refusal>
     ensures { result ≡ header pager }
 {
     let job = pager.job;
     if pager_state::is_busy(job) {
-        return HeaderRead::Refused(Refusal::Busy);
+        return Err(Refusal::Busy);
     }
     let current = pager.current_header;
-    HeaderRead::Header(current)
+    Ok(current)
 }
 
 fn mode_of(opening: Opening) -> AccessMode
     ensures { result ≡ mode_by opening }
 {
     match opening {
-        Opening::Clean => AccessMode::ReadWrite,
-        Opening::Plain => AccessMode::ReadWrite,
-        Opening::ReadOnly => AccessMode::ReadOnly,
-        Opening::NoLog => AccessMode::ReadOnly,
+        Opening::Clean | Opening::Plain => AccessMode::ReadWrite,
+        Opening::ReadOnly | Opening::NoLog => AccessMode::ReadOnly,
     }
 }
 
 // Whether the store can be written.
-pub fn access_mode(pager: Pager) -> ModeRead
+pub fn access_mode(pager: Pager) -> Result<AccessMode, Refusal>
     ensures { result ≡ access_mode pager }
 {
     let job = pager.job;
     if pager_state::is_busy(job) {
-        return ModeRead::Refused(Refusal::Busy);
+        return Err(Refusal::Busy);
     }
     let opening = pager.opening;
-    ModeRead::Mode(mode_of(opening))
+    Ok(mode_of(opening))
 }
 
 // The clock, as it was raised last.
-pub fn clock_high_water(pager: Pager) -> ClockRead
+pub fn clock_high_water(pager: Pager) -> Result<u64, Refusal>
     ensures { result ≡ clock_high_water_of pager }
 {
     let job = pager.job;
     if pager_state::is_busy(job) {
-        return ClockRead::Refused(Refusal::Busy);
+        return Err(Refusal::Busy);
     }
     let wal = pager.wal;
     let header = wal.header;
-    ClockRead::Clock(header.clock_high_water)
+    Ok(header.clock_high_water)
 }
 
 // The log with its clock raised; a lower one is ignored.
 fn raised(wal: Wal, value: u64) -> Wal
     ensures { result ≡ raised wal value }
 {
-    let ClockSet::Set(higher) = wal::set_clock_high_water(wal, value) else {
+    let Ok(higher) = wal::set_clock_high_water(wal, value) else {
         return wal;
     };
     higher
@@ -81,31 +79,26 @@ fn observed(opening: Opening, wal: Wal, value: u64) -> Wal
     ensures { result ≡ observed_by opening wal value }
 {
     match opening {
-        Opening::Clean => raised(wal, value),
-        Opening::Plain => raised(wal, value),
-        Opening::ReadOnly => raised(wal, value),
+        Opening::Clean | Opening::Plain | Opening::ReadOnly => raised(wal, value),
         Opening::NoLog => wal,
     }
 }
 
 // Raises the clock in memory; it reaches the log's header at a checkpoint.
-pub fn observe_clock_high_water(pager: Pager, value: u64) -> ClockObserved
+pub fn observe_clock_high_water(pager: Pager, value: u64) -> Outcome<()>
     ensures { result ≡ observe_clock pager value }
 {
     let job = pager.job;
     if pager_state::is_busy(job) {
-        return ClockObserved {
-            answer: ObserveAnswer::Refused(Refusal::Busy),
+        return Outcome {
+            answer: Err(Refusal::Busy),
             pager,
         };
     }
-    let opening = pager.opening;
-    let wal = pager.wal;
-    let mut later = pager;
-    later.wal = observed(opening, wal, value);
-    ClockObserved {
-        answer: ObserveAnswer::Observed,
-        pager: later,
+    let wal = observed(pager.opening, pager.wal, value);
+    Outcome {
+        answer: Ok(()),
+        pager: Pager { wal, ..pager },
     }
 }
 
@@ -138,10 +131,7 @@ pub fn place_page(
     ensures { result ≡ place_page page_count (slots staged_count staged.now) table.now page_num }
 {
     let slot = pager_state::find_in(staged, staged_count, page_num as usize);
-    if staged_count <= slot {
-        return below(page_count, table, page_num);
-    }
-    if STAGED_PAGES <= slot {
+    if staged_count <= slot || STAGED_PAGES <= slot {
         return below(page_count, table, page_num);
     }
     PageFound::Staged(PAGE_SIZE * slot)
@@ -151,8 +141,7 @@ pub fn place_page(
 fn overlay(staged: Staged, count: u32, table: &[u32], page_num: u32) -> PageFound
     ensures { result ≡ place_page count staged table.now page_num }
 {
-    let n = staged.count;
-    place_page(count, page_num, n, &staged.pages, table)
+    place_page(count, page_num, staged.count, &staged.pages, table)
 }
 
 // The area and place of a page's bytes: staged, else none if at or above the page count, else in the log, else in the main file.
@@ -163,25 +152,26 @@ pub fn find_page(
     main: &[u8],
     staging: &[u8],
     page_num: u32,
-) -> PageFound
+) -> Result<PageFound, Refusal>
     ensures { result ≡ find_page (world pager table.now log.now main.now) staging.now page_num }
 {
     if !pager_state::are_fine(pager, table.len(), log.len(), main.len(), staging.len()) {
-        return PageFound::Refused(Refusal::Area);
+        return Err(Refusal::Area);
     }
     let job = pager.job;
     if pager_state::is_busy(job) {
-        return PageFound::Refused(Refusal::Busy);
+        return Err(Refusal::Busy);
     }
     let staged = pager.staged;
     let header = pager.current_header;
-    overlay(staged, header.page_count, table, page_num)
+    Ok(overlay(staged, header.page_count, table, page_num))
 }
 
 // Page numbers that there can be.
 const PAGE_NUMBERS: usize = 4_294_967_296;
 
 // No page is found from there on, so that a host need not look: the page count, if nothing is staged.
+#[tactic(auto, unfolding(crate::specs::Reading::read_end))]
 pub fn read_end(page_count: u32, staged_count: usize) -> usize
     ensures { result ≡ read_end page_count staged_count }
 {
@@ -189,13 +179,6 @@ pub fn read_end(page_count: u32, staged_count: usize) -> usize
         return page_count as usize;
     }
     PAGE_NUMBERS
-}
-
-// What judging a reading answers.
-#[derive(Clone, Copy)]
-pub enum ReadAnswer {
-    Allowed,
-    Refused(Refusal),
 }
 
 // What a reading refuses, judged once for all pages of a store: for a host that reads often. A job of 0 is none.
@@ -208,7 +191,7 @@ pub fn may_read(
     log: &[u8],
     main: &[u8],
     staging: &[u8],
-) -> ReadAnswer
+) -> Result<(), Refusal>
     ensures { result ≡ may_read page_count job log_len main_len table.now log.now main.now staging.now }
 {
     if !pager_state::is_inside(
@@ -219,15 +202,15 @@ pub fn may_read(
         log.len(),
         main.len(),
     ) {
-        return ReadAnswer::Refused(Refusal::Area);
+        return Err(Refusal::Area);
     }
     if staging.len() != STAGING_AREA {
-        return ReadAnswer::Refused(Refusal::Area);
+        return Err(Refusal::Area);
     }
     if job != 0 {
-        return ReadAnswer::Refused(Refusal::Busy);
+        return Err(Refusal::Busy);
     }
-    ReadAnswer::Allowed
+    Ok(())
 }
 
 // A page's own bytes inside the staging area, the log or the main file; no byte where there is no page.
@@ -241,39 +224,35 @@ pub fn read_page<'a>(
 ) -> &'a [u8]
     ensures { result.now ≡ read_page (world pager table.now log.now main.now) staging.now page_num }
 {
-    let found = find_page(pager, table, log, main, staging, page_num);
+    let Ok(found) = find_page(pager, table, log, main, staging, page_num) else {
+        return &log[..0];
+    };
     match found {
         PageFound::Staged(at) => pager_state::page_from(staging, at),
         PageFound::Log(at) => pager_state::page_from(log, at),
         PageFound::Main(at) => pager_state::page_from(main, at),
         PageFound::Nothing => &log[..0],
-        PageFound::Refused(_) => &log[..0],
-    }
-}
-
-fn recovered_as(found: BatchFound) -> RecoveredFound
-    ensures { result ≡ recovered_batch found }
-{
-    match found {
-        BatchFound::Batch { index, offset } => RecoveredFound::Batch { index, offset },
-        BatchFound::Nothing => RecoveredFound::Nothing,
     }
 }
 
 // The next of the batches that the opening found, at a frame's index or behind it.
-pub fn recovered_mvcc_commits(pager: Pager, log: &[u8], index: usize) -> RecoveredFound
+pub fn recovered_mvcc_commits(
+    pager: Pager,
+    log: &[u8],
+    index: usize,
+) -> Result<Option<BatchAt>, Refusal>
     ensures { result ≡ next_recovered pager log.now index }
 {
     if log.len() != WAL_AREA {
-        return RecoveredFound::Refused(Refusal::Area);
+        return Err(Refusal::Area);
     }
     let wal = pager.wal;
     if WAL_AREA < wal.len {
-        return RecoveredFound::Refused(Refusal::Area);
+        return Err(Refusal::Area);
     }
     let job = pager.job;
     if pager_state::is_busy(job) {
-        return RecoveredFound::Refused(Refusal::Busy);
+        return Err(Refusal::Busy);
     }
-    recovered_as(wal::first_batch(le::part(log, 0, pager.recovered), index))
+    Ok(wal::first_batch(le::part(log, 0, pager.recovered), index))
 }

@@ -1,6 +1,5 @@
 -- Parts of appending a batch; the whole is `append_batch` of the pager's definitions.
-use Rattle.std.specs.Prelude.{List, ℕ, leb, length}
-use Rattle.std.proofs.Math.Option.{Option, none, some}
+use Rattle.std.specs.Prelude.{Option, None, Some, List, ℕ, leb, length}
 use Rattle.le.specs.Choice.{pick, both}
 use Rattle.page.specs.Page.{page_size}
 use Rattle.refusal.specs.declared.Refusal.{Refusal}
@@ -11,8 +10,8 @@ use Rattle.pager_state.specs.World.{in_area}
 
 -- the refusal itself, or another where there is none
 abbrev pub refusal_or : Option Refusal → Refusal → Refusal
-refusal_or none other = other
-refusal_or (some r) other = r
+refusal_or None other = other
+refusal_or (Some r) other = r
 
 -- "lowest number first": 1, 2 and 3 before another refusal
 abbrev pub lowest : ℕ → ℕ → List ℕ → Refusal → Refusal

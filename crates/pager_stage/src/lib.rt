@@ -2,35 +2,30 @@
 // Every public function is total; a refusal changes neither the store nor an area.
 #![tactic(auto)]
 
-ghost use Rattle.std.specs.Prelude.{◌≡◌, not, eqb};
+ghost use Rattle.std.specs.Prelude.{Err, Ok, ◌≡◌, not, eqb};
 ghost use Rattle.pager_state.specs.World.{with_wal};
 ghost use Rattle.pager_state.specs.Overlay.{slots};
 ghost use Rattle.pager_state.specs.Staging.{stage_answer, staged_after, staging_bytes, stage_page, stage_after, clear_staged};
 ghost use Rattle.pager_state.specs.Batches.{append_batch, append_after};
 ghost use Rattle.pager_stage.specs.Append.{lowest};
 
-use mvcc::HeadingJudged;
 use page::PAGE_SIZE;
-use pager_state::{
-    BatchAnswer, ClearAnswer, PAGES, PageStaged, Pager, PagerAppended, STAGED_PAGES, STAGING_AREA,
-    StageAnswer, StagedCleared,
-};
+use pager_state::{Outcome, PAGES, Pager, STAGED_PAGES, STAGING_AREA, Staged};
 use refusal::Refusal;
 use wal::{WAL_AREA, Wal};
-use wal_batch::BatchAppended;
 
 // What staging answers, and how many pages are staged then.
 #[derive(Clone, Copy)]
 pub struct StagedIn {
-    pub answer: StageAnswer,
+    pub answer: Result<(), Refusal>,
     pub count: usize,
 }
 
 fn refused_in(refusal: Refusal, count: usize) -> StagedIn
-    ensures { (result.answer ≡ StageAnswer.Refused refusal) × (result.count ≡ count) }
+    ensures { (result.answer ≡ Err refusal) × (result.count ≡ count) }
 {
     StagedIn {
-        answer: StageAnswer::Refused(refusal),
+        answer: Err(refusal),
         count,
     }
 }
@@ -67,10 +62,10 @@ fn stage(
         return refused_in(Refusal::Staging, count);
     }
     pages[slot] = page_num as u16;
-    le::write_bytes(staging, PAGE_SIZE * slot, bytes);
+    let _ = le::write_bytes(staging, PAGE_SIZE * slot, bytes);
     StagedIn {
-        answer: StageAnswer::Staged,
-        count: le::max(count, slot + 1),
+        answer: Ok(()),
+        count: count.max(slot + 1),
     }
 }
 
@@ -94,7 +89,7 @@ pub fn stage_in(
 }
 
 // Stages a page in a store.
-pub fn stage_page(pager: Pager, staging: &mut [u8], page_num: u32, bytes: &[u8]) -> PageStaged
+pub fn stage_page(pager: Pager, staging: &mut [u8], page_num: u32, bytes: &[u8]) -> Outcome<()>
     ensures value { result ≡ stage_page pager staging.old page_num bytes.now }
     ensures staging_after { staging.new ≡ stage_after pager staging.old page_num bytes.now }
 {
@@ -112,28 +107,30 @@ pub fn stage_page(pager: Pager, staging: &mut [u8], page_num: u32, bytes: &[u8])
     );
     later.staged.count = done.count;
     let answer = done.answer;
-    PageStaged {
+    Outcome {
         answer,
         pager: later,
     }
 }
 
 // Drops all that is staged; the area's bytes stay.
-pub fn clear_staged(pager: Pager) -> StagedCleared
+pub fn clear_staged(pager: Pager) -> Outcome<()>
     ensures { result ≡ clear_staged pager }
 {
     let job = pager.job;
     if pager_state::is_busy(job) {
-        return StagedCleared {
-            answer: ClearAnswer::Refused(Refusal::Busy),
+        return Outcome {
+            answer: Err(Refusal::Busy),
             pager,
         };
     }
-    let mut later = pager;
-    later.staged.count = 0;
-    StagedCleared {
-        answer: ClearAnswer::Cleared,
-        pager: later,
+    let staged = Staged {
+        count: 0,
+        ..pager.staged
+    };
+    Outcome {
+        answer: Ok(()),
+        pager: Pager { staged, ..pager },
     }
 }
 
@@ -141,45 +138,37 @@ pub fn clear_staged(pager: Pager) -> StagedCleared
 fn lowest(log: usize, len: usize, body: &[u8], other: Refusal) -> Refusal
     ensures { result ≡ lowest log len body.now other }
 {
-    if log != WAL_AREA {
-        return Refusal::Area;
-    }
-    if WAL_AREA < len {
-        return Refusal::Area;
-    }
-    if PAGE_SIZE < body.len() {
+    if log != WAL_AREA || WAL_AREA < len || PAGE_SIZE < body.len() {
         return Refusal::Area;
     }
     match mvcc::heading_refusal(body) {
-        HeadingJudged::Fine => other,
-        HeadingJudged::Refused(refusal) => refusal,
+        Ok(()) => other,
+        Err(refusal) => refusal,
     }
 }
 
 // The store as it was, with the refusal that left it so.
-fn not_appended(refusal: Refusal, pager: Pager) -> PagerAppended
-    ensures { (result.answer ≡ BatchAnswer.Refused refusal) × (result.pager ≡ pager) }
+fn not_appended(refusal: Refusal, pager: Pager) -> Outcome<()>
+    ensures { (result.answer ≡ Err refusal) × (result.pager ≡ pager) }
 {
-    PagerAppended {
-        answer: BatchAnswer::Refused(refusal),
+    Outcome {
+        answer: Err(refusal),
         pager,
     }
 }
 
 // The store with a longer log.
-fn appended(wal: Wal, pager: Pager) -> PagerAppended
-    ensures { (result.answer ≡ BatchAnswer.Appended) × (result.pager ≡ with_wal pager wal) }
+fn appended(wal: Wal, pager: Pager) -> Outcome<()>
+    ensures { (result.answer ≡ (Ok tt)) × (result.pager ≡ with_wal pager wal) }
 {
-    let mut later = pager;
-    later.wal = wal;
-    PagerAppended {
-        answer: BatchAnswer::Appended,
-        pager: later,
+    Outcome {
+        answer: Ok(()),
+        pager: Pager { wal, ..pager },
     }
 }
 
 // Appends a batch to the log, as `encode` writes it, uncommitted.
-pub fn append_mvcc_batch(pager: Pager, log: &mut [u8], body: &[u8]) -> PagerAppended
+pub fn append_mvcc_batch(pager: Pager, log: &mut [u8], body: &[u8]) -> Outcome<()>
     ensures value { result ≡ append_batch pager log.old body.now }
     ensures log_after { log.new ≡ append_after pager log.old body.now }
 {
@@ -193,7 +182,7 @@ pub fn append_mvcc_batch(pager: Pager, log: &mut [u8], body: &[u8]) -> PagerAppe
         return not_appended(lowest(log.len(), wal.len, body, Refusal::ReadOnly), pager);
     }
     match wal_batch::append_mvcc_batch(log, wal, body) {
-        BatchAppended::Refused(refusal) => not_appended(refusal, pager),
-        BatchAppended::Appended(longer) => appended(longer, pager),
+        Err(refusal) => not_appended(refusal, pager),
+        Ok(longer) => appended(longer, pager),
     }
 }

@@ -2,10 +2,10 @@
 use mathlib.Core.Path.{◌≡◌, refl, sym, ap, ◌∙◌}
 use mathlib.Core.Bool.{Bool, true, false}
 use mathlib.Core.List.{List, [], ◌∷◌}
-use mathlib.Core.Option.{none}
 use Prim.Native.Nat.{ℕ, zero, suc}
 use native.Mathlib.Omega.{arith}
 use lib.ListN.{length, drop}
+use Rattle.std.specs.Prelude.{None, Err, Ok}
 use Rattle.refusal.specs.declared.Refusal.TheVariants as refusal
 use Rattle.header.specs.declared.DbHeader.{DbHeader}
 use Rattle.pager_state.specs.World.{World, busy_with, busy}
@@ -13,17 +13,17 @@ use Rattle.pager_state.specs.Stores.{Act, inside, place_of}
 use Rattle.pager_state.specs.Steps.{differing, commit_refusal, begin_commit, checkpoint_begins, checkpoint_count, begin_checkpoint, todo, answer_of, named, step_fine, step_answer, stepped, steps}
 use Rattle.pager_state.specs.declared.Job.{Job}
 use Rattle.pager_state.specs.declared.Job.TheVariants as job
-use Rattle.pager_state.specs.declared.StepAnswer.TheVariants as step
 use Rattle.pager_state.proofs.Stored.{AllInside}
 use Rattle.pager_state.proofs.Made.{ReadyOf}
 use Rattle.pager_state.proofs.Steps.{idle-todo, step_after, step-rest, step_keeps}
 use Rattle.pager_state.proofs.Runs.{steps-rest, steps-keep}
 use Rattle.pager_state.proofs.Begun.{begun-commit, begun-checkpoint}
+use Rattle.pager_state.specs.declared.Step.TheVariants as step
 
 -- ---- one step, in any store
 
 module _ (g : List ℕ) (w : World) where
-  pub answer-unfine : step_fine g w ≡ false → step_answer g w ≡ step.Refused refusal.Area
+  pub answer-unfine : step_fine g w ≡ false → step_answer g w ≡ Err refusal.Area
   unfolding step_answer
   answer-unfine e = rw e
 
@@ -32,23 +32,23 @@ module _ (g : List ℕ) (w : World) where
   answer-fine e = rw e
 
   -- "does nothing and says Idle"
-  pub answer-idle : step_fine g w ≡ true → w.pager.job ≡ job.Idle → step_answer g w ≡ step.Idle
+  pub answer-idle : step_fine g w ≡ true → w.pager.job ≡ job.Idle → step_answer g w ≡ (Ok step.Idle)
   unfolding named
   answer-idle e j = answer-fine e ∙ rw (idle-todo g w j)
 
-  pub answer-outside : (a : Act) (rest : List Act) → step_fine g w ≡ true → todo g w ≡ a ∷ rest → inside a ≡ false → step_answer g w ≡ step.Refused refusal.Area
+  pub answer-outside : (a : Act) (rest : List Act) → step_fine g w ≡ true → todo g w ≡ a ∷ rest → inside a ≡ false → step_answer g w ≡ Err refusal.Area
   unfolding named
   answer-outside a rest e t i = answer-fine e ∙ rw (t, i)
 
   -- a store that others follow
   pub answer-stored : (a b : Act) (rest : List Act) → step_fine g w ≡ true → todo g w ≡ a ∷ b ∷ rest → inside a ≡ true
-      → step_answer g w ≡ step.Stored (place_of a)
+      → step_answer g w ≡ Ok (step.Stored (place_of a))
   unfolding named
   answer-stored a b rest e t i = answer-fine e ∙ rw (t, i)
 
   -- the last one
   pub answer-last : (a : Act) → step_fine g w ≡ true → todo g w ≡ a ∷ [] → inside a ≡ true
-      → step_answer g w ≡ step.Last (place_of a) (answer_of w.pager.job)
+      → step_answer g w ≡ Ok (step.Last (place_of a) (answer_of w.pager.job))
   unfolding named
   answer-last a e t i = answer-fine e ∙ rw (t, i)
 
@@ -124,7 +124,7 @@ module _ (g : List ℕ) where
 
 -- ---- the number fixed at the start
 
-pub commit-answer : (g : List ℕ) (w : World) (h : DbHeader) (salt : ℕ) → commit_refusal g w h ≡ none
+pub commit-answer : (g : List ℕ) (w : World) (h : DbHeader) (salt : ℕ) → commit_refusal g w h ≡ None
     → answer_of (begin_commit g w h salt).pager.job ≡ differing g w
 commit-answer g w h salt e = rw (begun-commit g w h e salt)
 

@@ -2,11 +2,11 @@
 use mathlib.Core.Path.{◌≡◌, refl, sym}
 use mathlib.Core.Bool.{Bool, true, false, not}
 use mathlib.Core.List.{List, append-nil}
-use mathlib.Core.Option.{none}
 use Prim.Native.Nat.{ℕ, ◌+◌, ◌*◌, ◌≤◌}
 use borrow.Author.Tests.{leb-true}
 use lib.Dec.{leb}
 use lib.ListN.{length}
+use Rattle.std.specs.Prelude.{None}
 use Rattle.le.specs.Choice.{pick, both}
 use Rattle.le.proofs.Compare.{no_test, both_true}
 use Rattle.refusal.specs.Refusal.{accepts}
@@ -55,7 +55,7 @@ pub record CommitBegun (g : List ℕ) (w : World) (h : DbHeader) : Type 0 where
   pub joined : page_limit ≤ lacking w h
   pub room : w.pager.wal.len + frame_size * (differing g w + 1) ≤ wal_area
 
-module _ (g : List ℕ) (w : World) (h : DbHeader) (e : commit_refusal g w h ≡ none) where
+module _ (g : List ℕ) (w : World) (h : DbHeader) (e : commit_refusal g w h ≡ None) where
   pub commit-begun : CommitBegun g w h
   unfolding commit_refusal
   commit-begun =
@@ -65,7 +65,7 @@ module _ (g : List ℕ) (w : World) (h : DbHeader) (e : commit_refusal g w h ≡
       let c = met (not (read_only w.pager)) refusal.ReadOnly _ b.1 in
       let d = met (header_good h) refusal.NewHeader _ c.1 in
       let i = met (leb page_limit (lacking w h)) (refusal.Joining (lacking w h)) _ d.1 in
-      let k = met (room_for w (differing g w + 1)) refusal.LogFull none i.1 in
+      let k = met (room_for w (differing g w + 1)) refusal.LogFull None i.1 in
       let q : busy w.pager ≡ false = off _ b.0 in
       let x = both_true (leb 1 (count_of h)) (both (leb (count_of h) page_limit) (is_version h.format_version)) d.0 in
       let y = both_true (leb (count_of h) page_limit) (is_version h.format_version) x.1 in
@@ -131,7 +131,7 @@ module _ (g : List ℕ) (w : World) (e : checkpoint_begins g w ≡ true) where
       let x = both_true (accepts (checkpoint_refusal g w)) (not (nothing_to_checkpoint w)) e in
       let a = met (step_fine g w) refusal.Area _ (accepts-none _ x.0) in
       let b = met (not (busy w.pager)) refusal.Busy _ a.1 in
-      let c = met (not (read_only w.pager)) refusal.ReadOnly none b.1 in
+      let c = met (not (read_only w.pager)) refusal.ReadOnly None b.1 in
       record { right = a.0; idle = not-busy w.pager.job (off _ b.0); writes = off _ c.0; some = off _ x.1 }
 
   pub begun-checkpoint : (salt : ℕ) → (begin_checkpoint g w salt).pager ≡ with_job w.pager (job.Checkpoint salt 0 (checkpoint_count w))
@@ -161,5 +161,5 @@ module _ (g : List ℕ) (w : World) (e : checkpoint_begins g w ≡ true) where
   checkpoint-made salt m = checkpoint-is-ready salt m.slots (rw checkpoint-begun.idle at m.asked)
 
 -- a checkpoint that is not refused and has something to do is begun
-pub begins : (g : List ℕ) (w : World) → checkpoint_refusal g w ≡ none → nothing_to_checkpoint w ≡ false → checkpoint_begins g w ≡ true
+pub begins : (g : List ℕ) (w : World) → checkpoint_refusal g w ≡ None → nothing_to_checkpoint w ≡ false → checkpoint_begins g w ≡ true
 begins g w e n = rw (e, n)

@@ -2,11 +2,11 @@
 use mathlib.Core.Path.{◌≡◌, refl, sym, subst, ◌∙◌}
 use mathlib.Core.Bool.{Bool, true, false, not}
 use mathlib.Core.List.{List}
-use mathlib.Core.Option.{Option, none, some}
 use Prim.Native.Nat.{ℕ}
 use native.Mathlib.Omega.{arith}
 use lib.Dec.{leb}
 use lib.ListN.{length, length-set}
+use Rattle.std.specs.Prelude.{Option, None, Some}
 use Rattle.le.specs.Choice.{pick, both}
 use Rattle.le.specs.Le.{put}
 use Rattle.page.specs.Page.{page_size}
@@ -101,7 +101,7 @@ observe-made w c m = observed-made w c m (busy w.pager) refl
 
 -- ---- batches: one is appended where nothing is part done
 
-pub append-idle : (p : Pager) (l body : List ℕ) → append_refusal p l body ≡ none → p.job ≡ job.Idle
+pub append-idle : (p : Pager) (l body : List ℕ) → append_refusal p l body ≡ None → p.job ≡ job.Idle
 unfolding append_refusal
 append-idle p l body e =
     let a = met (both (log_fine p.wal.len l) (leb (length body) page_size)) refusal.Area _ e in
@@ -114,14 +114,14 @@ longer-placed w l p n h o i = omega (arith, p n h o i, frame-len w.pager.wal 0)
 appended-made : (w : World) (body : List ℕ) → Made w → (v : Option Refusal) → append_refusal w.pager w.log body ≡ v
     → Made (world (append_batch w.pager w.log body).pager w.table (append_after w.pager w.log body) w.main)
 unfolding append_batch append_after
-appended-made w body m none e =
+appended-made w body m None e =
     let j : w.pager.job ≡ job.Idle = append-idle w.pager w.log body e in
     let l : List ℕ = put w.log w.pager.wal.len (batch_frame w.pager body) in
     let v : World = world (with_wal w.pager (with_frame w.pager.wal 0)) w.table l w.main in
     let p : PlacedOf every w = subst (λ (x : Job). AsksOf every x w) j m.asked in
     let q : AsksOf every w.pager.job v = subst (λ (x : Job). AsksOf every x v) (sym j) (longer-placed w l p) in
     rw e (record { slots = m.slots; asked = q })
-appended-made w body m (some r) e = rw e (record { slots = m.slots; asked = asks-same w.pager.job w w refl refl m.asked })
+appended-made w body m (Some r) e = rw e (record { slots = m.slots; asked = asks-same w.pager.job w w refl refl m.asked })
 
 pub append-made : (w : World) (body : List ℕ) → Made w
     → Made (world (append_batch w.pager w.log body).pager w.table (append_after w.pager w.log body) w.main)

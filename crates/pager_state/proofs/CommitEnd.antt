@@ -2,12 +2,12 @@
 use mathlib.Core.Path.{◌≡◌, refl, sym, ap, ◌∙◌}
 use mathlib.Core.Bool.{Bool}
 use mathlib.Core.List.{List, [], ◌∷◌, append-nil}
-use mathlib.Core.Option.{none}
 use Prim.Native.Nat.{ℕ, suc, ◌+◌, ◌-◌, ◌*◌, ◌%◌, ◌^◌, ◌≤◌, ◌<◌}
 use native.Mathlib.Nat.{suc-add}
 use native.Mathlib.Omega.{arith}
 use borrow.Author.Tests.{le-leb, lt-leb}
 use lib.ListN.{length}
+use Rattle.std.specs.Prelude.{None}
 use Rattle.header.specs.declared.DbHeader.{DbHeader}
 use Rattle.frame.specs.Frame.{frame_size}
 use Rattle.wal.specs.Write.{longer}
@@ -112,7 +112,7 @@ pub record Behind (w v : World) (h : DbHeader) (n : ℕ) : Type 0 where
   pub log_file : v.pager.wal.len ≡ w.pager.wal.len + frame_size * (n + 1)
   pub frames : v.pager.wal.frame_count ≡ (w.pager.wal.frame_count + (n + 1)) % 2 ^ 64
 
-module _ (g : List ℕ) (w : World) (h : DbHeader) (salt : ℕ) (slots : length w.pager.staged.pages ≡ staged_limit) (b : commit_refusal g w h ≡ none) where
+module _ (g : List ℕ) (w : World) (h : DbHeader) (salt : ℕ) (slots : length w.pager.staged.pages ≡ staged_limit) (b : commit_refusal g w h ≡ None) where
   abbrev answer : ℕ
   answer = differing g w
 

@@ -2,11 +2,11 @@
 use mathlib.Core.Path.{◌≡◌, refl, sym, ap, ◌∙◌}
 use mathlib.Core.Bool.{Bool, true, false}
 use mathlib.Core.List.{List, [], ◌∷◌, ◌++◌, append-nil}
-use mathlib.Core.Option.{none}
 use Prim.Native.Nat.{ℕ, ◌+◌, ◌≤◌, ◌<◌}
 use native.Mathlib.Omega.{arith}
 use lib.ListN.{length, take, drop, drop_of_length-le}
 use lib.Seq.{take_all}
+use Rattle.std.specs.Prelude.{None}
 use Rattle.header.specs.declared.DbHeader.{DbHeader}
 use Rattle.pager_state.specs.World.{World, staged_limit}
 use Rattle.pager_state.specs.Overlay.{is_staged}
@@ -111,7 +111,7 @@ module _ {P : ℕ → Bool} (g : List ℕ) (w : World) (r : ReadyOf P g w) (h : 
 -- ---- in one call
 
 -- in any store; P says of which pages what the laws of steps ask is known
-module _ (g : List ℕ) (w : World) (h : DbHeader) (salt : ℕ) (e : commit_refusal g w h ≡ none) where
+module _ (g : List ℕ) (w : World) (h : DbHeader) (salt : ℕ) (e : commit_refusal g w h ≡ None) where
   begun-disk : disk_of (on_store w (begin_commit g w h salt).pager) ≡ disk_of w
   begun-disk = rw (begun-commit g w h e salt)
 

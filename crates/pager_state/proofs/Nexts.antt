@@ -3,18 +3,18 @@ use mathlib.Core.Path.{◌≡◌}
 use mathlib.Core.Bool.{true, false}
 use mathlib.Core.List.{List, ◌∷◌}
 use Prim.Native.Nat.{ℕ}
+use Rattle.std.specs.Prelude.{Err}
 use Rattle.refusal.specs.declared.Refusal.TheVariants as refusal
 use Rattle.pager_state.specs.World.{World}
 use Rattle.pager_state.specs.Stores.{Act, inside}
 use Rattle.pager_state.specs.Steps.{named_by, named, done}
-use Rattle.pager_state.specs.declared.StepAnswer.TheVariants as step
 
 module _ (a : Act) (rest : List Act) where
   pub named_in : (answer : ℕ) → inside a ≡ true → named answer (a ∷ rest) ≡ named_by answer a rest
   unfolding named
   named_in answer e = rw e
 
-  pub named-out : (answer : ℕ) → inside a ≡ false → named answer (a ∷ rest) ≡ step.Refused refusal.Area
+  pub named-out : (answer : ℕ) → inside a ≡ false → named answer (a ∷ rest) ≡ Err refusal.Area
   unfolding named
   named-out answer e = rw e
 

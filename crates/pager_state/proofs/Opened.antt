@@ -8,20 +8,19 @@ use native.Mathlib.Omega.{arith}
 use borrow.Author.Tests.{eqb-false, not-true}
 use lib.Dec.{leb, eqb}
 use lib.ListN.{length, get_or}
+use Rattle.std.specs.Prelude.{Err, Ok, Result}
 use Rattle.refusal.specs.declared.Refusal.TheVariants as refusal
+use Rattle.refusal.specs.declared.Refusal.{Refusal}
 use Rattle.le.specs.Choice.{pick, both}
 use Rattle.header.specs.Header.{header_in}
 use Rattle.header.specs.declared.DbHeader.{DbHeader}
-use Rattle.header.specs.declared.HeaderDecoded.{HeaderDecoded}
-use Rattle.header.specs.declared.HeaderDecoded.TheVariants as main
 use Rattle.wal.specs.Header.{decode_wal_header}
 use Rattle.wal.specs.Recovery.{chunk_at, page_of, Recovered, recovered, wal_of}
 use Rattle.wal.specs.Write.{empty_wal, created_header, with_clock}
 use Rattle.wal.specs.declared.Wal.{Wal}
-use Rattle.wal.specs.declared.WalHeaderDecoded.{WalHeaderDecoded}
-use Rattle.wal.specs.declared.WalHeaderDecoded.TheVariants as log
 use Rattle.wal.proofs.Frames.{committed-most}
 use Rattle.wal.proofs.Opening.{frame_count_of-most}
+use Rattle.wal.specs.declared.WalHeader.{WalHeader}
 use Rattle.pager_state.specs.World.{world, page_limit, count_of}
 use Rattle.pager_state.specs.Overlay.{frame_of, in_log, entry}
 use Rattle.pager_state.specs.Opening.{tabulate, place_from, has_page, table_of, empty_staged, opens_as, first_header, created_pager, How, Found, kept_of, found_in, found_fresh, found_by, writes, main_header_of, judged_main, is_long, judged_log, judged_zero, header_by, opening_of, opened_store, judged, open_fine, open_pager, open_table}
@@ -132,17 +131,17 @@ module _ (P : Pager → Type 0) where
   IfOpened (opened.Opened p) = P p
   IfOpened (opened.Refused r) = Unit {0}
 
-  if-main : (d : HeaderDecoded) (next : DbHeader → Opens) → ((h : DbHeader) → IfOpened (next h)) → IfOpened (judged_main d next)
-  if-main (main.Header h) next k = k h
-  if-main (main.Refused r) next k = tt
+  if-main : (d : Result DbHeader Refusal) (next : DbHeader → Opens) → ((h : DbHeader) → IfOpened (next h)) → IfOpened (judged_main d next)
+  if-main (Ok h) next k = k h
+  if-main (Err r) next k = tt
 
-  if-zero : (d : HeaderDecoded) (next : DbHeader → Opens) → ((h : DbHeader) → IfOpened (next h)) → IfOpened (judged_zero d next)
-  if-zero (main.Header h) next k = k h
-  if-zero (main.Refused r) next k = tt
+  if-zero : (d : Result DbHeader Refusal) (next : DbHeader → Opens) → ((h : DbHeader) → IfOpened (next h)) → IfOpened (judged_zero d next)
+  if-zero (Ok h) next k = k h
+  if-zero (Err r) next k = tt
 
-  if-log : (d : WalHeaderDecoded) (next : Opens) → IfOpened next → IfOpened (judged_log d next)
-  if-log (log.Header h) next k = k
-  if-log (log.Refused r) next k = tt
+  if-log : (d : Result WalHeader Refusal) (next : Opens) → IfOpened next → IfOpened (judged_log d next)
+  if-log (Ok h) next k = k
+  if-log (Err r) next k = tt
 
   if-pick : (b : Bool) (x y : Opens) → IfOpened x → IfOpened y → IfOpened (pick b x y)
   if-pick true x y k l = k

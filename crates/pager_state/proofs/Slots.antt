@@ -1,15 +1,19 @@
 -- Laws of the search for a staged page's slot.
-use Prim.Native.Nat.{ℕ, zero, suc, ◌+◌, ◌-◌, ◌≤◌, ◌<◌, min}
+use Prim.Native.Nat.{ℕ, zero, suc, ◌+◌, ◌-◌, ◌*◌, ◌≤◌, ◌<◌, min}
 use mathlib.Core.List.{List, [], ◌∷◌}
-use mathlib.Core.Bool.{Bool, true, false, not}
+use mathlib.Core.Bool.{Bool, true, false, not, cond, ◌&&◌}
 use mathlib.Core.Logic.{◌⊎◌, inl, inr}
 use mathlib.Core.Path.{◌≡◌, refl, sym, ap, ◌∙◌}
 use native.Mathlib.Omega.{arith}
 use native.Mathlib.Numerals.{add-one}
-use lib.Dec.{leb, eqb}
+use lib.Dec.{leb, ltb, eqb}
 use lib.ListN.{length, get_or, take, drop, drop_of_length-le, length-take, length-drop}
-use lib.Seq.{drop-cons}
-use borrow.Author.Tests.{eq-eqb, ne_eqb, le-leb, lt-leb, eqb-true}
+use lib.Seq.{drop-cons, drop-drop}
+use borrow.Author.Tests.{eq-eqb, ne_eqb, le-leb, lt-leb, le-ltb, lt-ltb, eqb-true}
+use Rattle.std.specs.Prelude.{Some, None, position, unwrap_or}
+use Rattle.std.specs.List.{position_or_len}
+use Rattle.std.specs.Simd.{first_chunks}
+use Rattle.std.proofs.lemmas.List.Recursion.{is_position_or_len}
 use Rattle.le.specs.Choice.{pick, both}
 use Rattle.le.proofs.Tests.{le-or-lt, eq-or-not}
 use Rattle.pager_state.specs.Overlay.{find_in}
@@ -42,6 +46,21 @@ pub find-length : (l : List ℕ) (p : ℕ) → find_in l p ≤ length l
 find-length [] p = omega arith
 find-length (x ∷ l) p = length-next (find_in l p) (length l) (eqb x p) (find-length l p)
 
+-- found by the library's search
+pub find-position : (l : List ℕ) (p : ℕ) → unwrap_or (position (λ x. eqb x p) l) (length l) ≡ find_in l p
+find-position l p = rw (← same) (go (le-or-lt (length l) (find_in l p)))
+  where
+    step : (b : Bool) (n : ℕ) → pick b 0 (suc n) ≡ cond b 0 (1 + n)
+    step true n = refl
+    step false n = omega arith
+
+    same : find_in l p ≡ position_or_len (λ x. eqb x p) l
+    same = is_position_or_len (λ (m : List ℕ). find_in m p) (λ x. eqb x p) refl (λ x xs. step (eqb x p) (find_in xs p)) l
+
+    go : (length l ≤ find_in l p) ⊎ (find_in l p < length l) → unwrap_or (cond (ltb (find_in l p) (length l)) (Some (find_in l p)) None) (length l) ≡ find_in l p
+    go (inl h) = rw (le-ltb (find_in l p) (length l) h) (omega (arith, find-length l p))
+    go (inr h) = rw (lt-ltb (find_in l p) (length l) h)
+
 there-next : (x p : ℕ) (l : List ℕ) (b : Bool) → eqb x p ≡ b → (find_in l p < length l → get_or l (find_in l p) 0 ≡ p) → pick b 0 (suc (find_in l p)) < suc (length l)
     → get_or (x ∷ l) (pick b 0 (suc (find_in l p))) 0 ≡ p
 there-next x p l true e k h = eqb-true x p e
@@ -71,11 +90,11 @@ find-take (x ∷ l) (suc n) p = next n (find_in (take n l) p) (find_in l p) (eqb
 -- ---- every number looked at
 
 -- none of the first i and not the next
-pub past : (l : List ℕ) (p i : ℕ) → i < length l → both (leb i (find_in l p)) (not (eqb (get_or l i 0) p)) ≡ leb (i + 1) (find_in l p)
+pub past : (l : List ℕ) (p i : ℕ) → i < length l → (leb i (find_in l p) && not (eqb (get_or l i 0) p)) ≡ leb (i + 1) (find_in l p)
 past l p i h = go (le-or-lt i (find_in l p)) (eq-or-not (get_or l i 0) p)
   where
     go : (i ≤ find_in l p) ⊎ (find_in l p < i) → (get_or l i 0 ≡ p) ⊎ (get_or l i 0 ≡ p → ⊥)
-        → both (leb i (find_in l p)) (not (eqb (get_or l i 0) p)) ≡ leb (i + 1) (find_in l p)
+        → (leb i (find_in l p) && not (eqb (get_or l i 0) p)) ≡ leb (i + 1) (find_in l p)
     go (inr a) e = rw (lt-leb i (find_in l p) a, lt-leb (i + 1) (find_in l p) (omega arith))
     go (inl a) (inl e) =
         rw (le-leb i (find_in l p) a, eq-eqb (get_or l i 0) p e, lt-leb (i + 1) (find_in l p) (omega (arith, find-most l i p h e)))
@@ -132,26 +151,37 @@ pub record Front (s : List ℕ) (p k at front : ℕ) (clear : Bool) : Type 0 whe
   pub free : front ≤ find_in s p
   pub ends : ((at ≤ find_in s p) × (front ≡ at)) ⊎ ((find_in s p < at) × (find_in s p < front + k))
 
-pub front-next : (s : List ℕ) (p k at front : ℕ) {clear none clear' : Bool} {front' : ℕ} → Front s p k at front clear → at + k ≤ length s
-    → none ≡ leb (length (take (at + k - at) (drop at s))) (find_in (take (at + k - at) (drop at s)) p) → clear' ≡ both clear none → front' ≡ pick clear' (at + k) front
-    → Front s p k (at + k) front' clear'
-front-next s p k at front {clear} {none} {clear'} {front'} v h n c f = go v.ends (le-or-lt (at + k) (find_in s p))
+pub front-next : (s : List ℕ) (p k at front : ℕ) {clear none : Bool} {front' : ℕ} → Front s p k at front clear → at + k ≤ length s
+    → none ≡ leb (length (take k (drop at s))) (find_in (take k (drop at s)) p) → ((clear && none) ≡ true → front' ≡ at + k) → ((clear && none) ≡ false → front' ≡ front)
+    → Front s p k (at + k) front' (clear && none)
+front-next s p k at front {clear} {none} {front'} v h n f g = go v.ends (le-or-lt (at + k) (find_in s p))
   where
+    same : at ≤ find_in s p → none ≡ leb (at + k) (find_in s p)
+    same j = let d : at + k - at ≡ k = omega arith in n ∙ rw d at (block_none s p at k h j)
+
     go : ((at ≤ find_in s p) × (front ≡ at)) ⊎ ((find_in s p < at) × (find_in s p < front + k)) → (at + k ≤ find_in s p) ⊎ (find_in s p < at + k)
-        → Front s p k (at + k) front' clear'
+        → Front s p k (at + k) front' (clear && none)
     go (inl a) (inl b) =
-        let z : clear' ≡ true = c ∙ rw (v.tells, n, le-leb at (find_in s p) a.0, block_none s p at k h a.0, le-leb (at + k) (find_in s p) b) in
-        let y : front' ≡ at + k = f ∙ rw z in
+        let z : (clear && none) ≡ true = rw (v.tells, same a.0, le-leb at (find_in s p) a.0, le-leb (at + k) (find_in s p) b) in
+        let y : front' ≡ at + k = f z in
         record { within = h; tells = z ∙ sym (le-leb (at + k) (find_in s p) b); free = omega (arith, y, b); ends = inl (b, y) }
     go (inl a) (inr b) =
-        let z : clear' ≡ false = c ∙ rw (v.tells, n, le-leb at (find_in s p) a.0, block_none s p at k h a.0, lt-leb (at + k) (find_in s p) b) in
-        let y : front' ≡ front = f ∙ rw z in
+        let z : (clear && none) ≡ false = rw (v.tells, same a.0, le-leb at (find_in s p) a.0, lt-leb (at + k) (find_in s p) b) in
+        let y : front' ≡ front = g z in
         record { within = h; tells = z ∙ sym (lt-leb (at + k) (find_in s p) b); free = omega (arith, y, v.free); ends = inr (b, omega (arith, y, a, b)) }
     go (inr a) b =
-        let z : clear' ≡ false = c ∙ rw (v.tells, lt-leb at (find_in s p) a.0) in
-        let y : front' ≡ front = f ∙ rw z in
-        let g : find_in s p < at + k = omega (arith, a) in
-        record { within = h; tells = z ∙ sym (lt-leb (at + k) (find_in s p) g); free = omega (arith, y, v.free); ends = inr (g, omega (arith, y, a)) }
+        let z : (clear && none) ≡ false = rw (v.tells, lt-leb at (find_in s p) a.0) in
+        let y : front' ≡ front = g z in
+        let j : find_in s p < at + k = omega (arith, a) in
+        record { within = h; tells = z ∙ sym (lt-leb (at + k) (find_in s p) j); free = omega (arith, y, v.free); ends = inr (j, omega (arith, y, a)) }
+
+-- the i-th of the first n blocks of k numbers
+pub block_at : (k n : ℕ) (s : List ℕ) (i : ℕ) → i < n → get_or (first_chunks k n s) i [] ≡ take k (drop (k * i) s)
+block_at k zero s i h = absurd (omega arith)
+block_at k (suc n) s zero h = let e : k * 0 ≡ 0 = omega arith in rw e
+block_at k (suc n) s (suc i) h =
+    let e : k * suc i ≡ k + k * i = omega arith in
+    block_at k n (drop k s) i (omega arith) ∙ rw (e, drop-drop)
 
 -- all were looked at
 pub front-end : (s : List ℕ) (p k at front : ℕ) {clear : Bool} → Front s p k at front clear → length s < at + k

@@ -1,6 +1,5 @@
 -- Batches: appending one, and walking those that the opening found.
-use Rattle.std.specs.Prelude.{not, List, ℕ, leb, length}
-use Rattle.std.proofs.Math.Option.{Option}
+use Rattle.std.specs.Prelude.{Option, Err, Ok, Result, not, List, ℕ, leb, length}
 use Rattle.le.specs.Choice.{pick, both}
 use Rattle.le.specs.Le.{put}
 use Rattle.page.specs.Page.{page_size}
@@ -12,14 +11,10 @@ use Rattle.mvcc.specs.Seen.{decode_refusal, heading_refusal, canonical}
 use Rattle.wal.specs.Recovery.{batch_page}
 use Rattle.wal.specs.Read.{next_batch}
 use Rattle.wal.specs.Write.{has_room, with_frame}
-use Rattle.wal.specs.declared.BatchFound.{BatchFound}
-use Rattle.wal.specs.declared.BatchFound.TheVariants as batch
+use Rattle.wal.specs.declared.BatchAt.{BatchAt}
 use Rattle.pager_state.specs.World.{log_fine, busy, busy_refusal, read_only, with_wal}
 use Rattle.pager_state.specs.declared.Pager.{Pager}
-use Rattle.pager_state.specs.declared.BatchAnswer.TheVariants as append
-use Rattle.pager_state.specs.declared.PagerAppended.{PagerAppended}
-use Rattle.pager_state.specs.declared.RecoveredFound.{RecoveredFound}
-use Rattle.pager_state.specs.declared.RecoveredFound.TheVariants as found
+use Rattle.pager_state.specs.declared.Outcome.{Outcome}
 
 -- ---- appending: "a body lent for it is decoded first, with decoding's refusals"
 
@@ -36,10 +31,10 @@ append_refusal p l body =
 unfoldable pub batch_frame : Pager → List ℕ → List ℕ
 batch_frame p body = encode_frame batch_page 0 p.wal.header.salt (canonical body)
 
-unfoldable pub append_batch : Pager → List ℕ → List ℕ → PagerAppended
+unfoldable pub append_batch : Pager → List ℕ → List ℕ → Outcome (Unit {0})
 append_batch p l body =
     let refused = append_refusal p l body in
-    record { answer = answered append.Refused append.Appended refused; pager = pick (accepts refused) (with_wal p (with_frame p.wal 0)) p }
+    record { answer = answered Err (Ok tt) refused; pager = pick (accepts refused) (with_wal p (with_frame p.wal 0)) p }
 
 -- the log's later bytes
 unfoldable pub append_after : Pager → List ℕ → List ℕ → List ℕ
@@ -47,14 +42,10 @@ append_after p l body = pick (accepts (append_refusal p l body)) (put l p.wal.le
 
 -- ---- the batches that the opening found, "in log order"
 
-abbrev pub recovered_batch : BatchFound → RecoveredFound
-recovered_batch (batch.Batch i at) = found.Batch i at
-recovered_batch batch.Nothing = found.Nothing
-
 -- refusals 1 and 9
 unfoldable pub recovered_refusal : Pager → List ℕ → Option Refusal
 recovered_refusal p l = unless (log_fine p.wal.len l) refusal.Area (busy_refusal p)
 
 -- the first at a frame's index or behind it
-unfoldable pub next_recovered : Pager → List ℕ → ℕ → RecoveredFound
-next_recovered p l i = answered found.Refused (recovered_batch (next_batch l p.recovered i)) (recovered_refusal p l)
+unfoldable pub next_recovered : Pager → List ℕ → ℕ → Result (Option BatchAt) Refusal
+next_recovered p l i = answered Err (Ok (next_batch l p.recovered i)) (recovered_refusal p l)

@@ -1,6 +1,5 @@
 -- Creation and opening: document 01's lines on `pager.rs` and "Added by design". What an opening knows is a function of the two files' bytes.
-use Rattle.std.specs.Prelude.{Bool, true, false, List, [], ◌∷◌, map, ℕ, zero, suc, ◌*◌, max, leb, ltb, eqb, length, take, replicate}
-use Rattle.std.proofs.Math.Option.{Option, none}
+use Rattle.std.specs.Prelude.{Option, Err, None, Ok, Result, Some, Bool, true, false, List, [], ◌∷◌, map, ℕ, zero, suc, ◌*◌, max, leb, ltb, eqb, length, take, replicate}
 use Rattle.le.specs.Choice.{pick, both}
 use Rattle.page.specs.Page.{page_size, empty_table_page}
 use Rattle.refusal.specs.Refusal.{number, unless, answered}
@@ -8,18 +7,13 @@ use Rattle.refusal.specs.declared.Refusal.{Refusal}
 use Rattle.refusal.specs.declared.Refusal.TheVariants as refusal
 use Rattle.header.specs.Header.{encode_header, header_in, decode_header}
 use Rattle.header.specs.declared.DbHeader.{DbHeader}
-use Rattle.header.specs.declared.HeaderDecoded.{HeaderDecoded}
-use Rattle.header.specs.declared.HeaderDecoded.TheVariants as main
 use Rattle.frame.specs.Frame.{body_of}
 use Rattle.mvcc.specs.Seen.{commit_ts_of}
 use Rattle.wal.specs.Header.{header_size, encode_wal_header, decode_wal_header}
 use Rattle.wal.specs.Recovery.{chunk_at, page_of, page_in, batches_in, Recovered, recovered, committed_frames, commit_point, last_commit_of, wal_of}
 use Rattle.wal.specs.Write.{empty_wal, created_header, with_clock}
-use Rattle.wal.specs.declared.WalHeaderDecoded.{WalHeaderDecoded}
-use Rattle.wal.specs.declared.WalHeaderDecoded.TheVariants as log
-use Rattle.wal.specs.declared.LastCommit.{LastCommit}
-use Rattle.wal.specs.declared.LastCommit.TheVariants as commit
 use Rattle.wal.specs.declared.Wal.{Wal}
+use Rattle.wal.specs.declared.WalHeader.{WalHeader}
 use Rattle.pager_state.specs.World.{page_limit, count_of, lengths_fine, staged_limit}
 use Rattle.pager_state.specs.Overlay.{entry}
 use Rattle.pager_state.specs.Stores.{File, Disk, content, Act, Put, SetLen, Other, stored_all}
@@ -31,12 +25,9 @@ use Rattle.pager_state.specs.declared.FileKind.TheVariants as file
 use Rattle.pager_state.specs.declared.Staged.{Staged}
 use Rattle.pager_state.specs.declared.Job.TheVariants as job
 use Rattle.pager_state.specs.declared.Pager.{Pager}
-use Rattle.pager_state.specs.declared.CreateAnswer.TheVariants as created
-use Rattle.pager_state.specs.declared.PagerCreated.{PagerCreated}
-use Rattle.pager_state.specs.declared.OpenAnswer.TheVariants as answer
-use Rattle.pager_state.specs.declared.PagerOpened.{PagerOpened}
 use Rattle.pager_state.specs.Opened as opened
 use Rattle.pager_state.specs.Opened.{Opens}
+use Rattle.pager_state.specs.declared.Outcome.{Outcome}
 
 -- ---- the page table
 
@@ -118,12 +109,12 @@ abbrev pub create_fine : List ℕ → List ℕ → List ℕ → List ℕ → Boo
 create_fine t l m g = lengths_fine (length t) (length l) 0 (length m) 0 (length g)
 
 abbrev pub create_refusal : List ℕ → List ℕ → List ℕ → List ℕ → Option Refusal
-create_refusal t l m g = unless (create_fine t l m g) refusal.Area none
+create_refusal t l m g = unless (create_fine t l m g) refusal.Area None
 
-unfoldable pub create : List ℕ → List ℕ → List ℕ → List ℕ → ℕ → PagerCreated
+unfoldable pub create : List ℕ → List ℕ → List ℕ → List ℕ → ℕ → Outcome (Unit {0})
 create t l m g salt =
     record {
-      answer = answered created.Refused created.Created (create_refusal t l m g);
+      answer = answered Err (Ok tt) (create_refusal t l m g);
       pager = pick (create_fine t l m g) (created_pager salt) no_pager;
     }
 
@@ -155,7 +146,7 @@ writes mode.ReadOnly = false
 pub record Found : Type 0 where
   pub frames : List (List ℕ)
   pub log : Wal
-  pub last : LastCommit
+  pub last : Option ℕ
 
 -- "Plain opening .. keeps the tail"; "A clean opening .. cuts the log at the commit point; its frame count is the frames kept"
 unfoldable pub kept_of : Bool → List ℕ → List ℕ
@@ -185,7 +176,7 @@ found_in clean l =
 
 -- "absent means a fresh log, or read-only an empty one whose clock stays 0"
 unfoldable pub found_fresh : How → Found
-found_fresh how = record { frames = []; log = empty_wal (created_header (pick (writes how.access) how.salt 0)); last = commit.Nothing }
+found_fresh how = record { frames = []; log = empty_wal (created_header (pick (writes how.access) how.salt 0)); last = None }
 
 unfoldable pub found_by : How → File → Found
 found_by how f = pick how.exists (found_in how.clean (content f)) (found_fresh how)
@@ -193,30 +184,30 @@ found_by how f = pick how.exists (found_in how.clean (content f)) (found_fresh h
 -- ---- refusals: "opening, after 1, judges the main file (2 to 5, then 7), then the log (2 to 5), then 8, then 6 for the final count, then 10"
 
 -- 2 to 5 of the main file; "main under 4,096"
-unfoldable pub main_header_of : File → HeaderDecoded
-main_header_of f = pick (leb page_size f.len) (decode_header (take page_size f.area)) (main.Refused refusal.Short)
+unfoldable pub main_header_of : File → Result DbHeader Refusal
+main_header_of f = pick (leb page_size f.len) (decode_header (take page_size f.area)) (Err refusal.Short)
 
-abbrev pub judged_main : HeaderDecoded → (DbHeader → Opens) → Opens
-judged_main (main.Header h) next = next h
-judged_main (main.Refused r) next = opened.Refused r
+abbrev pub judged_main : Result DbHeader Refusal → (DbHeader → Opens) → Opens
+judged_main (Ok h) next = next h
+judged_main (Err r) next = opened.Refused r
 
 -- 7: "main below page count × 4,096"
 abbrev pub is_long : File → DbHeader → Bool
 is_long f h = leb (page_size * count_of h) f.len
 
 -- 2 to 5 of the log, where one exists
-abbrev pub judged_log : WalHeaderDecoded → Opens → Opens
-judged_log (log.Header h) next = next
-judged_log (log.Refused r) next = opened.Refused r
+abbrev pub judged_log : Result WalHeader Refusal → Opens → Opens
+judged_log (Ok h) next = next
+judged_log (Err r) next = opened.Refused r
 
 -- 8: "the log's page 0 has refusal 3, 4 or 5"
-abbrev pub judged_zero : HeaderDecoded → (DbHeader → Opens) → Opens
-judged_zero (main.Header h) next = next h
-judged_zero (main.Refused r) next = opened.Refused refusal.PageZero
+abbrev pub judged_zero : Result DbHeader Refusal → (DbHeader → Opens) → Opens
+judged_zero (Ok h) next = next h
+judged_zero (Err r) next = opened.Refused refusal.PageZero
 
-abbrev pub recounted : DbHeader → LastCommit → DbHeader
-recounted h commit.Nothing = h
-recounted h (commit.Count c) =
+abbrev pub recounted : DbHeader → Option ℕ → DbHeader
+recounted h None = h
+recounted h (Some c) =
     record {
       page_count = c;
       schema_root_page = h.schema_root_page;
@@ -225,8 +216,8 @@ recounted h (commit.Count c) =
     }
 
 -- "Page 0 in the log replaces the main header, its own page count included; otherwise the last commit count replaces the page count"
-unfoldable pub header_by : DbHeader → Found → HeaderDecoded
-header_by mh x = pick (eqb (place_from 0 0 x.frames) 0) (main.Header (recounted mh x.last)) (decode_header (body_of (page_in 0 x.frames)))
+unfoldable pub header_by : DbHeader → Found → Result DbHeader Refusal
+header_by mh x = pick (eqb (place_from 0 0 x.frames) 0) (Ok (recounted mh x.last)) (decode_header (body_of (page_in 0 x.frames)))
 
 abbrev pub opening_of : How → Opening
 opening_of how =
@@ -267,9 +258,9 @@ opens (opened.Opened p) = true
 opens (opened.Refused r) = false
 
 -- the same as the call gives it, the answer beside the store
-abbrev pub opened_answer : Opens → PagerOpened
-opened_answer (opened.Opened p) = record { answer = answer.Opened; pager = p }
-opened_answer (opened.Refused r) = record { answer = answer.Refused r; pager = no_pager }
+abbrev pub opened_answer : Opens → Outcome (Unit {0})
+opened_answer (opened.Opened p) = record { answer = Ok tt; pager = p }
+opened_answer (opened.Refused r) = record { answer = Err r; pager = no_pager }
 
 -- ---- the areas afterwards; a refusal leaves them
 

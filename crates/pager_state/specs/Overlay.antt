@@ -1,7 +1,6 @@
 -- Reading a page: document 01's line on `pager.rs`, "Reading a page: staged; else none if at or above the page count; else log; else
 -- the main file's pages from 1 to below its own header's count; else none".
-use Rattle.std.specs.Prelude.{Bool, not, List, [], ◌∷◌, ℕ, suc, ◌+◌, ◌*◌, ◌/◌, ◌%◌, leb, ltb, eqb, length, take, drop, get_or}
-use Rattle.std.proofs.Math.Option.{Option, none}
+use Rattle.std.specs.Prelude.{Result, Ok, Err, Option, None, Bool, not, List, [], ◌∷◌, ℕ, suc, ◌+◌, ◌*◌, ◌/◌, ◌%◌, leb, ltb, eqb, length, take, drop, get_or}
 use Rattle.le.specs.Choice.{pick, both}
 use Rattle.page.specs.Page.{page_size}
 use Rattle.refusal.specs.Refusal.{number, unless, answered}
@@ -96,30 +95,30 @@ overlay p t n = place_page (count_of (header_of p)) p.staged t n
 
 -- refusals 1 and 9: whether the areas are fine, and whether something is part done
 abbrev pub read_refusal_by : Bool → Bool → Option Refusal
-read_refusal_by ok busy = unless ok refusal.Area (unless (not busy) refusal.Busy none)
+read_refusal_by ok busy = unless ok refusal.Area (unless (not busy) refusal.Busy None)
 
 unfoldable pub read_refusal : World → List ℕ → Option Refusal
 read_refusal w g = read_refusal_by (both (fine w) (staging_fine g)) (busy w.pager)
 
 -- then the overlay
-unfoldable pub find_page : World → List ℕ → ℕ → PageFound
-find_page w g n = answered found.Refused (overlay w.pager w.table n) (read_refusal w g)
+unfoldable pub find_page : World → List ℕ → ℕ → Result PageFound Refusal
+find_page w g n = answered Err (Ok (overlay w.pager w.table n)) (read_refusal w g)
 
 -- "Page reads answer with the page's own bytes inside log, main or staging area"; no byte where there is no page
-abbrev pub bytes_at : World → List ℕ → PageFound → List ℕ
-bytes_at w g (found.Staged at) = page_from at g
-bytes_at w g (found.Log at) = page_from at w.log
-bytes_at w g (found.Main at) = page_from at w.main
-bytes_at w g found.Nothing = []
-bytes_at w g (found.Refused r) = []
+abbrev pub bytes_at : World → List ℕ → Result PageFound Refusal → List ℕ
+bytes_at w g (Ok (found.Staged at)) = page_from at g
+bytes_at w g (Ok (found.Log at)) = page_from at w.log
+bytes_at w g (Ok (found.Main at)) = page_from at w.main
+bytes_at w g (Ok found.Nothing) = []
+bytes_at w g (Err r) = []
 
 unfoldable pub read_page : World → List ℕ → ℕ → List ℕ
 read_page w g n = bytes_at w g (find_page w g n)
 
 -- 0 is no refusal
-abbrev pub find_refusal : PageFound → ℕ
-find_refusal (found.Staged at) = 0
-find_refusal (found.Log at) = 0
-find_refusal (found.Main at) = 0
-find_refusal found.Nothing = 0
-find_refusal (found.Refused r) = number r
+abbrev pub find_refusal : Result PageFound Refusal → ℕ
+find_refusal (Ok (found.Staged at)) = 0
+find_refusal (Ok (found.Log at)) = 0
+find_refusal (Ok (found.Main at)) = 0
+find_refusal (Ok found.Nothing) = 0
+find_refusal (Err r) = number r

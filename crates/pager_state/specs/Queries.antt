@@ -1,7 +1,9 @@
 -- Header, access mode and clock. Refusal 9 comes for these too: "a call other than the next step or an opening".
-use Rattle.std.specs.Prelude.{ℕ, leb}
+use Rattle.std.specs.Prelude.{Err, Ok, Result, ℕ, leb}
 use Rattle.le.specs.Choice.{pick}
 use Rattle.refusal.specs.Refusal.{accepts, answered}
+use Rattle.refusal.specs.declared.Refusal.{Refusal}
+use Rattle.header.specs.declared.DbHeader.{DbHeader}
 use Rattle.wal.specs.Header.{wal_header_in}
 use Rattle.wal.specs.Write.{with_clock}
 use Rattle.wal.specs.declared.Wal.{Wal}
@@ -12,19 +14,12 @@ use Rattle.pager_state.specs.declared.AccessMode.TheVariants as mode
 use Rattle.pager_state.specs.declared.Opening.{Opening}
 use Rattle.pager_state.specs.declared.Opening.TheVariants as opening
 use Rattle.pager_state.specs.declared.Pager.{Pager}
-use Rattle.pager_state.specs.declared.HeaderRead.{HeaderRead}
-use Rattle.pager_state.specs.declared.HeaderRead.TheVariants as head
-use Rattle.pager_state.specs.declared.ModeRead.{ModeRead}
-use Rattle.pager_state.specs.declared.ModeRead.TheVariants as moded
-use Rattle.pager_state.specs.declared.ClockRead.{ClockRead}
-use Rattle.pager_state.specs.declared.ClockRead.TheVariants as clock
-use Rattle.pager_state.specs.declared.ObserveAnswer.TheVariants as observe
-use Rattle.pager_state.specs.declared.ClockObserved.{ClockObserved}
+use Rattle.pager_state.specs.declared.Outcome.{Outcome}
 
 -- ---- the header that counts
 
-unfoldable pub header : Pager → HeaderRead
-header p = answered head.Refused (head.Header (header_of p)) (busy_refusal p)
+unfoldable pub header : Pager → Result DbHeader Refusal
+header p = answered Err (Ok (header_of p)) (busy_refusal p)
 
 -- ---- the access mode
 
@@ -34,8 +29,8 @@ mode_by opening.Plain = mode.ReadWrite
 mode_by opening.ReadOnly = mode.ReadOnly
 mode_by opening.NoLog = mode.ReadOnly
 
-unfoldable pub access_mode : Pager → ModeRead
-access_mode p = answered moded.Refused (moded.Mode (mode_by p.opening)) (busy_refusal p)
+unfoldable pub access_mode : Pager → Result AccessMode Refusal
+access_mode p = answered Err (Ok (mode_by p.opening)) (busy_refusal p)
 
 -- ---- the clock
 
@@ -46,8 +41,8 @@ clock_of p = p.wal.header.clock_high_water
 abbrev pub log_clock : Disk → ℕ
 log_clock d = (wal_header_in (content d.log)).clock_high_water
 
-unfoldable pub clock_high_water_of : Pager → ClockRead
-clock_high_water_of p = answered clock.Refused (clock.Clock (clock_of p)) (busy_refusal p)
+unfoldable pub clock_high_water_of : Pager → Result ℕ Refusal
+clock_high_water_of p = answered Err (Ok (clock_of p)) (busy_refusal p)
 
 -- "a lower one is .. ignored by the pager"
 unfoldable pub raised : Wal → ℕ → Wal
@@ -60,9 +55,9 @@ observed_by opening.Plain v c = raised v c
 observed_by opening.ReadOnly v c = raised v c
 observed_by opening.NoLog v c = v
 
-unfoldable pub observe_clock : Pager → ℕ → ClockObserved
+unfoldable pub observe_clock : Pager → ℕ → Outcome (Unit {0})
 observe_clock p c =
     record {
-      answer = answered observe.Refused observe.Observed (busy_refusal p);
+      answer = answered Err (Ok tt) (busy_refusal p);
       pager = pick (accepts (busy_refusal p)) (with_wal p (observed_by p.opening p.wal c)) p;
     }

@@ -1,6 +1,5 @@
 -- Staging a page, and dropping what is staged.
-use Rattle.std.specs.Prelude.{Bool, not, List, ℕ, ◌+◌, max, ltb, eqb, length, set}
-use Rattle.std.proofs.Math.Option.{Option, none}
+use Rattle.std.specs.Prelude.{Option, None, Err, Ok, Result, Bool, not, List, ℕ, ◌+◌, max, ltb, eqb, length, set}
 use Rattle.le.specs.Choice.{pick, both}
 use Rattle.le.specs.Le.{put}
 use Rattle.page.specs.Page.{page_size}
@@ -11,11 +10,7 @@ use Rattle.pager_state.specs.World.{page_limit, staged_limit, staging_fine, busy
 use Rattle.pager_state.specs.Overlay.{slot_of, staged_at}
 use Rattle.pager_state.specs.declared.Staged.{Staged}
 use Rattle.pager_state.specs.declared.Pager.{Pager}
-use Rattle.pager_state.specs.declared.StageAnswer.{StageAnswer}
-use Rattle.pager_state.specs.declared.StageAnswer.TheVariants as stage
-use Rattle.pager_state.specs.declared.PageStaged.{PageStaged}
-use Rattle.pager_state.specs.declared.ClearAnswer.TheVariants as clear
-use Rattle.pager_state.specs.declared.StagedCleared.{StagedCleared}
+use Rattle.pager_state.specs.declared.Outcome.{Outcome}
 
 -- ---- staging, by what it takes of a store: whether something is part done, and the staged pages
 
@@ -25,10 +20,10 @@ stage_refusal busy s g n bytes =
     unless (both (staging_fine g) (eqb (length bytes) page_size)) refusal.Area
     (unless (not busy) refusal.Busy
     (unless (ltb n page_limit) refusal.Page
-    (unless (ltb (slot_of s n) staged_limit) refusal.Staging none)))
+    (unless (ltb (slot_of s n) staged_limit) refusal.Staging None)))
 
-abbrev pub stage_answer : Bool → Staged → List ℕ → ℕ → List ℕ → StageAnswer
-stage_answer busy s g n bytes = answered stage.Refused stage.Staged (stage_refusal busy s g n bytes)
+abbrev pub stage_answer : Bool → Staged → List ℕ → ℕ → List ℕ → Result (Unit {0}) Refusal
+stage_answer busy s g n bytes = answered Err (Ok tt) (stage_refusal busy s g n bytes)
 
 -- the slots with page n in slot i
 unfoldable pub with_slot : Staged → ℕ → ℕ → Staged
@@ -44,7 +39,7 @@ staging_bytes busy s g n bytes = pick (accepts (stage_refusal busy s g n bytes))
 
 -- ---- of a store
 
-abbrev pub stage_page : Pager → List ℕ → ℕ → List ℕ → PageStaged
+abbrev pub stage_page : Pager → List ℕ → ℕ → List ℕ → Outcome (Unit {0})
 stage_page p g n bytes =
     record {
       answer = stage_answer (busy p) p.staged g n bytes;
@@ -56,9 +51,9 @@ stage_after p g n bytes = staging_bytes (busy p) p.staged g n bytes
 
 -- ---- "A call that drops the staging"
 
-unfoldable pub clear_staged : Pager → StagedCleared
+unfoldable pub clear_staged : Pager → Outcome (Unit {0})
 clear_staged p =
     record {
-      answer = answered clear.Refused clear.Cleared (busy_refusal p);
+      answer = answered Err (Ok tt) (busy_refusal p);
       pager = pick (accepts (busy_refusal p)) (with_staged p (none_staged p.staged)) p;
     }

@@ -1,6 +1,5 @@
 -- Starting a commit or checkpoint, the next step, and either in one call. g is the staging area.
-use Rattle.std.specs.Prelude.{Bool, true, not, List, [], ◌∷◌, ◌++◌, ℕ, zero, suc, ◌+◌, ◌*◌, leb, eqb, length}
-use Rattle.std.proofs.Math.Option.{Option, none}
+use Rattle.std.specs.Prelude.{Option, None, Err, Ok, Result, Bool, true, not, List, [], ◌∷◌, ◌++◌, ℕ, zero, suc, ◌+◌, ◌*◌, leb, eqb, length}
 use Rattle.le.specs.Choice.{pick, both}
 use Rattle.refusal.specs.Refusal.{number, unless, accepts, answered}
 use Rattle.refusal.specs.declared.Refusal.{Refusal}
@@ -18,18 +17,11 @@ use Rattle.pager_state.specs.Commit.{commit_todo, commit_advance}
 use Rattle.pager_state.specs.declared.Job.{Job}
 use Rattle.pager_state.specs.declared.Job.TheVariants as job
 use Rattle.pager_state.specs.declared.Pager.{Pager}
-use Rattle.pager_state.specs.declared.StepAnswer.{StepAnswer}
-use Rattle.pager_state.specs.declared.StepAnswer.TheVariants as step
-use Rattle.pager_state.specs.declared.CommitStart.{CommitStart}
-use Rattle.pager_state.specs.declared.CommitStart.TheVariants as commit
-use Rattle.pager_state.specs.declared.CommitStarted.{CommitStarted}
-use Rattle.pager_state.specs.declared.CheckpointStart.{CheckpointStart}
 use Rattle.pager_state.specs.declared.CheckpointStart.TheVariants as checkpoint
-use Rattle.pager_state.specs.declared.CheckpointStarted.{CheckpointStarted}
-use Rattle.pager_state.specs.declared.CommitAnswer.{CommitAnswer}
-use Rattle.pager_state.specs.declared.CommitAnswer.TheVariants as committed
-use Rattle.pager_state.specs.declared.CheckpointAnswer.{CheckpointAnswer}
-use Rattle.pager_state.specs.declared.CheckpointAnswer.TheVariants as written
+use Rattle.pager_state.specs.declared.CheckpointStart.{CheckpointStart}
+use Rattle.pager_state.specs.declared.Step.TheVariants as step
+use Rattle.pager_state.specs.declared.Outcome.{Outcome}
+use Rattle.pager_state.specs.declared.Step.{Step}
 
 -- ---- starting: "the starting call judges and stores nothing"
 
@@ -75,12 +67,12 @@ commit_refusal g w h =
     (unless (not (read_only w.pager)) refusal.ReadOnly
     (unless (header_good h) refusal.NewHeader
     (unless (leb page_limit (lacking w h)) (refusal.Joining (lacking w h))
-    (unless (room_for w (differing g w + 1)) refusal.LogFull none)))))
+    (unless (room_for w (differing g w + 1)) refusal.LogFull None)))))
 
-unfoldable pub commit_start : List ℕ → World → DbHeader → CommitStart
-commit_start g w h = answered commit.Refused commit.Begun (commit_refusal g w h)
+unfoldable pub commit_start : List ℕ → World → DbHeader → Result (Unit {0}) Refusal
+commit_start g w h = answered Err (Ok tt) (commit_refusal g w h)
 
-unfoldable pub begin_commit : List ℕ → World → DbHeader → ℕ → CommitStarted
+unfoldable pub begin_commit : List ℕ → World → DbHeader → ℕ → Outcome (Unit {0})
 begin_commit g w h salt =
     record {
       answer = commit_start g w h;
@@ -101,10 +93,10 @@ unfoldable pub checkpoint_refusal : List ℕ → World → Option Refusal
 checkpoint_refusal g w =
     unless (both (fine w) (staging_fine g)) refusal.Area
     (unless (not (busy w.pager)) refusal.Busy
-    (unless (not (read_only w.pager)) refusal.ReadOnly none))
+    (unless (not (read_only w.pager)) refusal.ReadOnly None))
 
-unfoldable pub checkpoint_start : List ℕ → World → CheckpointStart
-checkpoint_start g w = answered checkpoint.Refused (pick (nothing_to_checkpoint w) checkpoint.Nothing checkpoint.Begun) (checkpoint_refusal g w)
+unfoldable pub checkpoint_start : List ℕ → World → Result CheckpointStart Refusal
+checkpoint_start g w = answered Err (pick (nothing_to_checkpoint w) (Ok checkpoint.Nothing) (Ok checkpoint.Begun)) (checkpoint_refusal g w)
 
 -- stores are to be done
 abbrev pub checkpoint_begins : List ℕ → World → Bool
@@ -114,7 +106,7 @@ checkpoint_begins g w = both (accepts (checkpoint_refusal g w)) (not (nothing_to
 unfoldable pub checkpoint_count : World → ℕ
 checkpoint_count w = length (pages_from (in_checkpoint w) 0)
 
-unfoldable pub begin_checkpoint : List ℕ → World → ℕ → CheckpointStarted
+unfoldable pub begin_checkpoint : List ℕ → World → ℕ → Outcome CheckpointStart
 begin_checkpoint g w salt =
     record {
       answer = checkpoint_start g w;
@@ -141,15 +133,15 @@ answer_of (job.LogLength salt answer) = answer
 answer_of (job.LogHeader salt answer) = answer
 
 -- "the last also gives the answer"
-abbrev pub named_by : ℕ → Act → List Act → StepAnswer
-named_by answer a [] = step.Last (place_of a) answer
-named_by answer a (b ∷ rest) = step.Stored (place_of a)
+abbrev pub named_by : ℕ → Act → List Act → Result Step Refusal
+named_by answer a [] = Ok (step.Last (place_of a) answer)
+named_by answer a (b ∷ rest) = Ok (step.Stored (place_of a))
 
 -- "A next-step call with no commit or fold under way does nothing and says Idle"; a store that would pass its area is refused (1): only a
 -- made-up store has such a one
-unfoldable pub named : ℕ → List Act → StepAnswer
-named answer [] = step.Idle
-named answer (a ∷ rest) = pick (inside a) (named_by answer a rest) (step.Refused refusal.Area)
+unfoldable pub named : ℕ → List Act → Result Step Refusal
+named answer [] = (Ok step.Idle)
+named answer (a ∷ rest) = pick (inside a) (named_by answer a rest) (Err refusal.Area)
 
 -- v is the world w after the first store
 unfoldable pub done : List Act → World → World → World
@@ -159,18 +151,18 @@ done (a ∷ rest) v w = pick (inside a) v w
 abbrev pub step_fine : List ℕ → World → Bool
 step_fine g w = both (fine w) (staging_fine g)
 
-unfoldable pub step_answer : List ℕ → World → StepAnswer
-step_answer g w = pick (step_fine g w) (named (answer_of w.pager.job) (todo g w)) (step.Refused refusal.Area)
+unfoldable pub step_answer : List ℕ → World → Result Step Refusal
+step_answer g w = pick (step_fine g w) (named (answer_of w.pager.job) (todo g w)) (Err refusal.Area)
 
 unfoldable pub stepped : List ℕ → World → World
 stepped g w = pick (step_fine g w) (done (todo g w) (advance g w) w) w
 
 -- 0 is no refusal
-abbrev pub step_refusal : StepAnswer → ℕ
-step_refusal step.Idle = 0
-step_refusal (step.Stored p) = 0
-step_refusal (step.Last p n) = 0
-step_refusal (step.Refused r) = number r
+abbrev pub step_refusal : Result Step Refusal → ℕ
+step_refusal (Ok step.Idle) = 0
+step_refusal (Ok (step.Stored p)) = 0
+step_refusal (Ok (step.Last p n)) = 0
+step_refusal (Err r) = number r
 
 -- ---- in one call: "these steps run to the end"
 
@@ -185,14 +177,14 @@ most_steps = 2200
 abbrev pub on_store : World → Pager → World
 on_store w p = world p w.table w.log w.main
 
-unfoldable pub commit_answer : List ℕ → World → DbHeader → CommitAnswer
-commit_answer g w h = answered committed.Refused (committed.Committed (differing g w)) (commit_refusal g w h)
+unfoldable pub commit_answer : List ℕ → World → DbHeader → Result ℕ Refusal
+commit_answer g w h = answered Err (Ok (differing g w)) (commit_refusal g w h)
 
 unfoldable pub commit_world : List ℕ → World → DbHeader → ℕ → World
 commit_world g w h salt = pick (accepts (commit_refusal g w h)) (steps g most_steps (on_store w (begin_commit g w h salt).pager)) w
 
-unfoldable pub checkpoint_answer : List ℕ → World → CheckpointAnswer
-checkpoint_answer g w = answered written.Refused (written.Written (pick (nothing_to_checkpoint w) 0 (checkpoint_count w))) (checkpoint_refusal g w)
+unfoldable pub checkpoint_answer : List ℕ → World → Result ℕ Refusal
+checkpoint_answer g w = answered Err (Ok (pick (nothing_to_checkpoint w) 0 (checkpoint_count w))) (checkpoint_refusal g w)
 
 unfoldable pub checkpoint_world : List ℕ → World → ℕ → World
 checkpoint_world g w salt = pick (checkpoint_begins g w) (steps g most_steps (on_store w (begin_checkpoint g w salt).pager)) w

@@ -1,6 +1,5 @@
 -- The open store with the areas lent to it, and what refusals 1 and 9 judge. The staging area is handed beside it: only staging stores there.
-use Rattle.std.specs.Prelude.{Bool, true, false, not, List, ℕ, ◌*◌, leb, eqb, length}
-use Rattle.std.proofs.Math.Option.{Option, none}
+use Rattle.std.specs.Prelude.{Option, None, Bool, true, false, not, List, ℕ, ◌*◌, leb, eqb, length}
 use Rattle.le.specs.Choice.{both}
 use Rattle.refusal.specs.Refusal.{unless}
 use Rattle.refusal.specs.declared.Refusal.{Refusal}
@@ -93,7 +92,7 @@ busy p = busy_with p.job
 
 -- of calls that have no other refusal
 abbrev pub busy_refusal : Pager → Option Refusal
-busy_refusal p = unless (not (busy p)) refusal.Busy none
+busy_refusal p = unless (not (busy p)) refusal.Busy None
 
 -- ---- refusal 10: the kinds of opening that write nothing
 

@@ -103,113 +103,19 @@ pub struct Pager {
     pub opening: Opening,
 }
 
-// What finding a page answers: the area and the first byte of its bytes there.
+// Where a page is found: the area and the first byte of its bytes there.
 #[derive(Clone, Copy)]
 pub enum PageFound {
     Staged(usize),
     Log(usize),
     Main(usize),
     Nothing,
-    Refused(Refusal),
 }
 
+// What a call of the store answers, and the store after it.
 #[derive(Clone, Copy)]
-pub enum StageAnswer {
-    Staged,
-    Refused(Refusal),
-}
-
-#[derive(Clone, Copy)]
-pub struct PageStaged {
-    pub answer: StageAnswer,
-    pub pager: Pager,
-}
-
-#[derive(Clone, Copy)]
-pub enum ClearAnswer {
-    Cleared,
-    Refused(Refusal),
-}
-
-#[derive(Clone, Copy)]
-pub struct StagedCleared {
-    pub answer: ClearAnswer,
-    pub pager: Pager,
-}
-
-#[derive(Clone, Copy)]
-pub enum HeaderRead {
-    Header(DbHeader),
-    Refused(Refusal),
-}
-
-#[derive(Clone, Copy)]
-pub enum ModeRead {
-    Mode(AccessMode),
-    Refused(Refusal),
-}
-
-#[derive(Clone, Copy)]
-pub enum ClockRead {
-    Clock(u64),
-    Refused(Refusal),
-}
-
-#[derive(Clone, Copy)]
-pub enum ObserveAnswer {
-    Observed,
-    Refused(Refusal),
-}
-
-#[derive(Clone, Copy)]
-pub struct ClockObserved {
-    pub answer: ObserveAnswer,
-    pub pager: Pager,
-}
-
-#[derive(Clone, Copy)]
-pub enum BatchAnswer {
-    Appended,
-    Refused(Refusal),
-}
-
-#[derive(Clone, Copy)]
-pub struct PagerAppended {
-    pub answer: BatchAnswer,
-    pub pager: Pager,
-}
-
-// What walking the recovered batches answers: a batch's index among the frames and its frame's place.
-#[derive(Clone, Copy)]
-pub enum RecoveredFound {
-    Batch { index: usize, offset: usize },
-    Nothing,
-    Refused(Refusal),
-}
-
-#[derive(Clone, Copy)]
-pub enum CreateAnswer {
-    Created,
-    Refused(Refusal),
-}
-
-// Where the answer is a refusal, the store is one without pages that writes nothing.
-#[derive(Clone, Copy)]
-pub struct PagerCreated {
-    pub answer: CreateAnswer,
-    pub pager: Pager,
-}
-
-#[derive(Clone, Copy)]
-pub enum OpenAnswer {
-    Opened,
-    Refused(Refusal),
-}
-
-// Where the answer is a refusal, the store is one without pages that writes nothing.
-#[derive(Clone, Copy)]
-pub struct PagerOpened {
-    pub answer: OpenAnswer,
+pub struct Outcome<T> {
+    pub answer: Result<T, Refusal>,
     pub pager: Pager,
 }
 
@@ -228,103 +134,39 @@ pub struct Place {
     pub flush: bool,
 }
 
-// What a next step answers: Last has the answer of the commit or checkpoint besides.
+// A next step; the last one has the answer of the commit or checkpoint besides.
 #[derive(Clone, Copy)]
-pub enum StepAnswer {
+pub enum Step {
     Idle,
     Stored(Place),
     Last(Place, usize),
-    Refused(Refusal),
 }
 
-#[derive(Clone, Copy)]
-pub struct Stepped {
-    pub answer: StepAnswer,
-    pub pager: Pager,
-}
-
-// What starting a commit answers.
-#[derive(Clone, Copy)]
-pub enum CommitStart {
-    Begun,
-    Refused(Refusal),
-}
-
-#[derive(Clone, Copy)]
-pub struct CommitStarted {
-    pub answer: CommitStart,
-    pub pager: Pager,
-}
-
-// What starting a checkpoint answers; Nothing has no store to do.
+// How a checkpoint starts; Nothing has no store to do.
 #[derive(Clone, Copy)]
 pub enum CheckpointStart {
     Begun,
     Nothing,
-    Refused(Refusal),
-}
-
-#[derive(Clone, Copy)]
-pub struct CheckpointStarted {
-    pub answer: CheckpointStart,
-    pub pager: Pager,
-}
-
-// What a commit in one call answers: the number of differing pages.
-#[derive(Clone, Copy)]
-pub enum CommitAnswer {
-    Committed(usize),
-    Refused(Refusal),
-}
-
-#[derive(Clone, Copy)]
-pub struct Committed {
-    pub answer: CommitAnswer,
-    pub pager: Pager,
-}
-
-// What a checkpoint in one call answers: the number of pages written.
-#[derive(Clone, Copy)]
-pub enum CheckpointAnswer {
-    Written(usize),
-    Refused(Refusal),
-}
-
-#[derive(Clone, Copy)]
-pub struct Checkpointed {
-    pub answer: CheckpointAnswer,
-    pub pager: Pager,
 }
 
 // Whether a commit or checkpoint is part done.
 pub fn is_busy(job: Job) -> bool
     ensures { result ≡ busy_with job }
 {
-    match job {
-        Job::Idle => false,
-        _ => true,
-    }
+    !matches!(job, Job::Idle)
 }
 
 // Whether the store writes nothing.
 pub fn is_read_only(opening: Opening) -> bool
     ensures { result ≡ read_only_by opening }
 {
-    match opening {
-        Opening::Clean => false,
-        Opening::Plain => false,
-        Opening::ReadOnly => true,
-        Opening::NoLog => true,
-    }
+    matches!(opening, Opening::ReadOnly | Opening::NoLog)
 }
 
 fn in_area(area: usize, size: usize, len: usize) -> bool
     ensures { result ≡ in_area size area len }
 {
-    if area != size {
-        return false;
-    }
-    len <= size
+    area == size && len <= size
 }
 
 // Whether table and areas have the pager's lengths, and the files lie inside their areas.
@@ -337,13 +179,7 @@ pub fn are_files_inside(
 ) -> bool
     ensures { result ≡ files_fine table log_area log main_area main true }
 {
-    if table != PAGES {
-        return false;
-    }
-    if !in_area(log_area, WAL_AREA, log) {
-        return false;
-    }
-    in_area(main_area, MAIN_AREA, main)
+    table == PAGES && in_area(log_area, WAL_AREA, log) && in_area(main_area, MAIN_AREA, main)
 }
 
 // The same, and the page count is one that a store can have.
@@ -357,10 +193,7 @@ pub fn is_inside(
 ) -> bool
     ensures { result ≡ fine_in page_count log_len main_len table log main }
 {
-    if !are_files_inside(table, log, log_len, main, main_len) {
-        return false;
-    }
-    page_count <= PAGES as u32
+    are_files_inside(table, log, log_len, main, main_len) && page_count <= PAGES as u32
 }
 
 // The same of a store.
@@ -377,10 +210,7 @@ pub fn is_fine(pager: Pager, table: usize, log: usize, main: usize) -> bool
 pub fn are_fine(pager: Pager, table: usize, log: usize, main: usize, staging: usize) -> bool
     ensures { result ≡ both (fine_by pager table log main) (eqb staging staging_area) }
 {
-    if !is_fine(pager, table, log, main) {
-        return false;
-    }
-    staging == STAGING_AREA
+    is_fine(pager, table, log, main) && staging == STAGING_AREA
 }
 
 // So many numbers are searched at once: a vector of 16 bytes.
@@ -391,10 +221,8 @@ fn is_none_of(s: &[u16], p: u16) -> bool
     ensures { result ≡ leb (length s.now) (find_in s.now p) }
 {
     let mut none = true;
-    let mut i: usize = 0;
-    while i < s.len() {
-        none = le::both(none, s[i] != p);
-        i += 1;
+    for x in s {
+        none &= *x != p;
     }
     none
 }
@@ -403,34 +231,25 @@ fn is_none_of(s: &[u16], p: u16) -> bool
 fn find_each(s: &[u16], p: usize) -> usize
     ensures { result ≡ find_in s.now p }
 {
-    let mut i = 0;
-    while i < s.len() {
-        if le::widen_u16(s[i]) == p {
-            return i;
-        }
-        i += 1;
-    }
-    i
+    s.iter()
+        .position(|x| usize::from(*x) == p)
+        .unwrap_or(s.len())
 }
 
-fn front_after(clear: bool, front: usize, at: usize) -> usize
-    ensures { result ≡ pick clear at front }
-{
-    if clear { at } else { front }
-}
-
-// Where the blocks in front end that have no p. Every block is looked at.
+// Where the blocks in front end that have no p. Every block is looked at, and the end is told by the block's number, so that the compiler
+// knows that it is a block's.
 fn front_without(s: &[u16], p: u16) -> usize
     ensures upper_bound { (result ≤ length s.now) × (result ≤ find_in s.now p) }
     ensures p_bound { result + 8 ≤ length s.now → find_in s.now p < result + 8 }
 {
     let mut clear = true;
-    let mut front: usize = 0;
-    let mut at: usize = 0;
-    while BLOCK <= s.len() - at {
-        clear = le::both(clear, is_none_of(&s[at..at + BLOCK], p));
-        at += BLOCK;
-        front = front_after(clear, front, at);
+    let mut front = 0;
+    let (blocks, _) = s.as_chunks::<BLOCK>();
+    for (i, block) in blocks.iter().enumerate() {
+        clear &= is_none_of(block, p);
+        if clear {
+            front = BLOCK * (i + 1);
+        }
     }
     front
 }
@@ -440,7 +259,11 @@ fn past(s: &[u16], at: usize, k: usize, p: u16) -> usize
     requires { at + k ≤ length s.now }
     ensures { at ≤ find_in s.now p → result ≡ pick (leb (at + k) (find_in s.now p)) (at + k) at }
 {
-    front_after(is_none_of(&s[at..at + k], p), at, at + k)
+    if is_none_of(&s[at..at + k], p) {
+        at + k
+    } else {
+        at
+    }
 }
 
 // The index of the first p, or the length: block by block, then by halves.
@@ -465,15 +288,14 @@ pub fn find_among(s: &[u16; STAGED_PAGES], n: usize, p: usize) -> usize
     ensures value { result ≡ find_in (take n s.now) p }
     ensures s_len { length s.now ≡ staged_limit }
 {
-    le::min(n, find(s, p))
+    n.min(find(s, p))
 }
 
 // The same, one by one.
 fn find_few(s: &[u16], n: usize, p: usize) -> usize
     ensures { result ≡ find_in (take n s.now) p }
 {
-    let end = le::min(n, s.len());
-    find_each(&s[..end], p)
+    find_each(&s[..n.min(s.len())], p)
 }
 
 // The same for reading and staging: where nothing or one page is staged, as mostly, no block is searched.
@@ -491,8 +313,7 @@ pub fn find_in(s: &[u16; STAGED_PAGES], n: usize, p: usize) -> usize
 pub fn slot_of(staged: Staged, page: usize) -> usize
     ensures { result ≡ slot_of staged page }
 {
-    let n = staged.count;
-    find_in(&staged.pages, n, page)
+    find_in(&staged.pages, staged.count, page)
 }
 
 // A page's length from a place on, or what there is of it.
@@ -503,42 +324,24 @@ pub fn page_from(area: &[u8], at: usize) -> &[u8]
 }
 
 // Where the log has a page; 0 if it does not.
+#[tactic(auto, unfolding(crate::specs::Overlay::frame_of))]
 pub fn frame_of(table: &[u32], page: usize) -> usize
     ensures { result ≡ frame_of table.now page }
 {
-    if table.len() <= page {
-        return 0;
-    }
-    let entry = table[page];
-    le::widen_u32(entry) / 2
+    table.get(page).map_or(0, |entry| *entry as usize / 2)
 }
 
 // Whether the main file has a page.
+#[tactic(auto, unfolding(crate::specs::Overlay::on_main))]
 pub fn on_main(table: &[u32], page: usize) -> bool
     ensures { result ≡ on_main table.now page }
 {
-    if table.len() <= page {
-        return false;
-    }
-    let entry = table[page];
-    entry % 2 == 1
+    table.get(page).is_some_and(|entry| *entry % 2 == 1)
 }
 
 // The store with another log and the next job.
 pub fn with_wal(pager: Pager, wal: Wal, job: Job) -> Pager
     ensures { result ≡ with_job (with_wal pager wal) job }
 {
-    let current_header = pager.current_header;
-    let storage = pager.storage;
-    let staged = pager.staged;
-    let opening = pager.opening;
-    Pager {
-        current_header,
-        wal,
-        recovered: pager.recovered,
-        storage,
-        staged,
-        job,
-        opening,
-    }
+    Pager { wal, job, ..pager }
 }

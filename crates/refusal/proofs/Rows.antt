@@ -1,7 +1,7 @@
 -- What is known of a refusal by its row.
 use mathlib.Core.Path.{◌≡◌, refl}
-use mathlib.Core.Option.{Option, none, some}
 use native.Mathlib.Omega.{arith}
+use Rattle.std.specs.Prelude.{Option, None, Some}
 use Rattle.refusal.specs.Refusal.{number, number_of}
 use Rattle.refusal.specs.declared.Refusal.{Refusal}
 use Rattle.refusal.specs.declared.Refusal.TheVariants as refusal
@@ -31,6 +31,6 @@ numbered refusal.Fit e = omega arith
 numbered refusal.NoRecord e = omega arith
 
 -- a judgement whose number is 0 is no refusal
-pub accepted : (v : Option Refusal) → number_of v ≡ 0 → v ≡ none
-accepted none e = refl
-accepted (some r) e = absurd (numbered r e)
+pub accepted : (v : Option Refusal) → number_of v ≡ 0 → v ≡ None
+accepted None e = refl
+accepted (Some r) e = absurd (numbered r e)

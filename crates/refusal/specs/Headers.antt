@@ -1,6 +1,5 @@
 -- How a header is judged, the main file's and the log's alike.
-use Rattle.std.specs.Prelude.{Bool}
-use Rattle.std.proofs.Math.Option.{Option, none}
+use Rattle.std.specs.Prelude.{Option, None, Bool}
 use Rattle.refusal.specs.Refusal.{unless}
 use Rattle.refusal.specs.declared.Refusal.{Refusal}
 use Rattle.refusal.specs.declared.Refusal.TheVariants as refusal
@@ -17,4 +16,4 @@ header_refusal t =
     unless t.long refusal.Short
     (unless t.leading refusal.Magic
     (unless t.version refusal.Version
-    (unless t.paged refusal.PageSize none)))
+    (unless t.paged refusal.PageSize None)))

@@ -1,6 +1,5 @@
 -- Document 01's table of refusals, and how a call is judged by it.
-use Rattle.std.specs.Prelude.{Bool, true, false, ℕ}
-use Rattle.std.proofs.Math.Option.{Option, none, some}
+use Rattle.std.specs.Prelude.{Option, None, Some, Bool, true, false, ℕ}
 use Rattle.refusal.specs.declared.Row.{Row}
 use Rattle.refusal.specs.declared.Refusal.{Refusal}
 use Rattle.refusal.specs.declared.Refusal.TheVariants as refusal
@@ -45,23 +44,23 @@ lowest_page r = (row_of r).page
 -- the refusal unless a condition is met, before what is judged behind it: so "lowest number first" is the order of the lines
 abbrev pub unless : Bool → Refusal → Option Refusal → Option Refusal
 unless true r rest = rest
-unless false r rest = some r
+unless false r rest = Some r
 
 -- the first of two judgements
 abbrev pub first : Option Refusal → Option Refusal → Option Refusal
-first none rest = rest
-first (some r) rest = some r
+first None rest = rest
+first (Some r) rest = Some r
 
 abbrev pub accepts : Option Refusal → Bool
-accepts none = true
-accepts (some r) = false
+accepts None = true
+accepts (Some r) = false
 
 -- the number of a judgement; 0 is no refusal
 abbrev pub number_of : Option Refusal → ℕ
-number_of none = 0
-number_of (some r) = number r
+number_of None = 0
+number_of (Some r) = number r
 
 -- the answer that a judgement comes to: the result, or the refusal as the answer has it
 abbrev pub answered : {A : Type 0} → (Refusal → A) → A → Option Refusal → A
-answered refused result none = result
-answered refused result (some r) = refused r
+answered refused result None = result
+answered refused result (Some r) = refused r

@@ -95,13 +95,11 @@ fn row_of(refusal: Refusal) -> Row
 pub fn number(refusal: Refusal) -> u32
     ensures { result ≡ number refusal }
 {
-    let found = row_of(refusal);
-    found.number
+    row_of(refusal).number
 }
 
 pub fn lowest_page(refusal: Refusal) -> usize
     ensures { result ≡ lowest_page refusal }
 {
-    let found = row_of(refusal);
-    found.page
+    row_of(refusal).page
 }

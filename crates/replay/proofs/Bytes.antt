@@ -1,14 +1,14 @@
--- Laws of the bytes that a line stands for, of filling, and of drawing. Assumes nothing.
-use mathlib.Core.Path.{◌≡◌, refl, ap, ◌∙◌}
+-- Laws of the bytes that a line stands for, and of drawing. Assumes nothing.
+use mathlib.Core.Path.{◌≡◌, refl}
 use mathlib.Core.List.{List, [], ◌∷◌}
 use Prim.Native.Nat.{ℕ, zero, suc, ◌+◌, ◌*◌, ◌/◌, ◌^◌, ◌<◌}
 use native.Mathlib.Nat.{zero-add}
 use native.Mathlib.Numerals.{add-one}
 use native.Mathlib.Omega.{arith}
-use lib.ListN.{length, take, drop, take-append-drop, get_or, set, length-take, length-append, replicate, length-replicate, replicate-append-replicate}
-use lib.Seq.{take-suc, take-append_seam}
+use lib.ListN.{length, take, drop, take-append-drop, get_or, set, length-take}
+use lib.Seq.{take-suc, take-suc-set, take-append_seam}
 use Rattle.le.specs.Le.{put}
-use Rattle.le.proofs.Stores.{put-more, put_all}
+use Rattle.le.proofs.Stores.{put-more}
 use Rattle.replay.specs.Cases.{digit_of, hex_bytes, Copied}
 use Rattle.replay.specs.Drawn.{next_number, number_after, shape_of, drawn}
 
@@ -44,32 +44,13 @@ fit m xs = rw (take-append-drop m xs) at (take-append_seam (take m xs) (drop m x
 pub laid : (l xs : List ℕ) (n : ℕ) {after : List ℕ} → n ≡ length (take (length l) xs) → after ≡ put l 0 (take n xs) → Copied xs l after n
 laid l xs n e f = record { count = e; bytes = rw (e, fit (length l) xs) at f }
 
-pub fill_more : (l : List ℕ) (i b : ℕ) → i < length l → set (put l 0 (replicate i b)) i b ≡ put l 0 (replicate (i + 1) b)
-fill_more l i b h =
-    let j : 0 + i < length l = omega arith in
-    let e : set (put l 0 (replicate i b)) (0 + i) b ≡ put l 0 (replicate (i + 1) b) =
-    rw (put-more i l 0 (replicate i b) b (length-replicate {A = ℕ} i b) j, ← replicate-append-replicate {A = ℕ} i 1 b) in
-    rw zero-add at e
-
-pub fill-all : (l : List ℕ) (n b : ℕ) → n ≡ length l → put l 0 (replicate n b) ≡ replicate (length l) b
-fill-all l n b e = put_all l (replicate n b) (length-replicate {A = ℕ} n b ∙ e) ∙ ap (λ (k : ℕ). replicate k b) e
-
-length-drawn : (kind seed n : ℕ) → length (drawn kind seed n) ≡ n
-unfolding drawn
-length-drawn kind seed zero = refl
-length-drawn kind seed (suc n) = simp length-append (omega (arith, length-drawn kind seed n))
-
 pub draw-next : (seed i : ℕ) {x y : ℕ} → x ≡ number_after seed i → y ≡ next_number x → y ≡ number_after seed (i + 1)
 unfolding number_after
 draw-next seed i e f = rw (add-one, ← e) f
 
 pub draw-more : (l : List ℕ) (kind seed i : ℕ) {x b : ℕ} → i < length l → x ≡ number_after seed (i + 1) → b ≡ shape_of kind (x / 2 ^ 24)
-    → set (put l 0 (drawn kind seed i)) i b ≡ put l 0 (drawn kind seed (i + 1))
+    → take i l ≡ drawn kind seed i → take (i + 1) (set l i b) ≡ drawn kind seed (i + 1)
 unfolding drawn
-draw-more l kind seed i {x} {b} h e f =
-    let j : 0 + i < length l = omega arith in
+draw-more l kind seed i {x} {b} h e f d =
     let g : x ≡ number_after seed (suc i) = rw add-one at e in
-    rw (add-one, ← g, ← f) (rw zero-add at (put-more i l 0 (drawn kind seed i) b (length-drawn kind seed i) j))
-
-pub draw-all : (l : List ℕ) (kind seed n : ℕ) → n ≡ length l → put l 0 (drawn kind seed n) ≡ drawn kind seed (length l)
-draw-all l kind seed n e = put_all l (drawn kind seed n) (length-drawn kind seed n ∙ e) ∙ ap (λ (k : ℕ). drawn kind seed k) e
+    rw (add-one, ← g, ← f, ← d) (take-suc-set l i b h)

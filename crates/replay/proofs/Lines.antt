@@ -2,35 +2,33 @@
 use mathlib.Core.Path.{◌≡◌, refl, ap}
 use mathlib.Core.Bool.{Bool, true, false}
 use mathlib.Core.List.{List, [], ◌∷◌}
-use Prim.Native.Nat.{ℕ, suc, ◌+◌, ◌-◌, ◌≤◌, ◌<◌}
-use native.Mathlib.Numerals.{add-one}
+use Prim.Native.Nat.{ℕ, suc, ◌+◌, ◌-◌}
 use native.Mathlib.Omega.{arith}
-use borrow.Author.Tests.{eq-eqb, ne_eqb}
 use lib.Dec.{eqb}
-use lib.ListN.{length, take, drop, get_or, drop_of_length-le}
-use lib.Seq.{drop-cons, drop-drop}
+use lib.ListN.{length, take, drop}
+use lib.Seq.{drop-drop}
+use Rattle.std.specs.Prelude.{cond, not, ◌==◌}
+use Rattle.std.specs.List.{prefix_len}
+use Rattle.std.proofs.lemmas.List.Recursion.{is_position_or_len}
 use Rattle.io.specs.Digits.{last_digits, IsDigitCount}
 use Rattle.le.specs.Choice.{pick}
 use Rattle.le.specs.Le.{store}
 use Rattle.replay.specs.Cases.{line_of, rest_of}
 use Rattle.replay.specs.Line.{line_end, Spelt}
 
--- ---- how far a line that starts at i goes
+-- ---- how long the first line is
 
-pub line-more : (l : List ℕ) (i : ℕ) → i < length l → (get_or l i 0 ≡ 10 → ⊥)
-    → i + length (line_of (drop i l)) ≡ i + 1 + length (line_of (drop (i + 1) l))
-unfolding line_of
-line-more l i h k =
-    let d : drop i l ≡ get_or l i 0 ∷ drop (i + 1) l = rw (add-one, drop-cons l i 0) in
-    rw (d, ne_eqb (get_or l i 0) 10 k) (omega arith)
+length_on : (t : Bool) (b : ℕ) (m : List ℕ) → length (pick t [] (b ∷ m)) ≡ cond t 0 (1 + length m)
+length_on true b m = refl
+length_on false b m = omega arith
 
-pub line-stop : (l : List ℕ) (i : ℕ) → i < length l → get_or l i 0 ≡ 10 → length (line_of (drop i l)) ≡ 0
+length-step : (b : ℕ) (l : List ℕ) → length (line_of (b ∷ l)) ≡ cond (b == 10) 0 (1 + length (line_of l))
 unfolding line_of
-line-stop l i h k = rw (drop-cons l i 0 h, eq-eqb (get_or l i 0) 10 k)
+length-step b l = length_on (eqb b 10) b (line_of l)
 
-pub line-none : (l : List ℕ) (i : ℕ) → length l ≤ i → length (line_of (drop i l)) ≡ 0
+pub length-line : (l : List ℕ) → length (line_of l) ≡ prefix_len (λ b. not (b == 10)) l
 unfolding line_of
-line-none l i h = rw (drop_of_length-le l h)
+length-line = is_position_or_len (λ l. length (line_of l)) (λ b. b == 10) refl length-step
 
 -- ---- the line, and the rest, by its length
 
@@ -38,7 +36,7 @@ take_on : (t : Bool) (b : ℕ) (l m : List ℕ) → take (length m) l ≡ m → 
 take_on true b l m e = refl
 take_on false b l m e = ap (λ (x : List ℕ). b ∷ x) e
 
-take-line : (l : List ℕ) → take (length (line_of l)) l ≡ line_of l
+pub take-line : (l : List ℕ) → take (length (line_of l)) l ≡ line_of l
 unfolding line_of
 take-line [] = refl
 take-line (b ∷ l) = take_on (eqb b 10) b l (line_of l) (take-line l)

@@ -3,7 +3,8 @@
 // Every public function is total: a case or a text that finds no room is cut or left out.
 #![tactic(auto)]
 
-ghost use Rattle.std.specs.Prelude.{◌≡◌, [], ◌∷◌, ◌+◌, ◌<◌, min, max, length, drop, replicate};
+ghost use Rattle.std.specs.Prelude.{◌≡◌, ◌==◌, not, [], ◌∷◌, ◌+◌, ◌<◌, min, max, length, drop, replicate};
+ghost use Rattle.std.specs.List.{prefix_len};
 ghost use Rattle.le.specs.Le.{store};
 ghost use Rattle.replay.specs.Cases.{line_of, digit_of, hex_bytes, case_at, Copied, Next};
 ghost use Rattle.replay.specs.Line.{line_end, Spelt};
@@ -19,36 +20,30 @@ pub fn list_room() -> [u8; LIST_SIZE]
     [0; LIST_SIZE]
 }
 
-// The place of the end of the line that starts at `at`.
-fn line_end(list: &[u8], at: usize) -> usize
-    ensures { result ≡ at + length (line_of (drop at list.now)) }
+// How many bytes stand before the first line's end.
+fn line_len(list: &[u8]) -> usize
+    ensures { result ≡ prefix_len (λ b. not (b == 10)) list.now }
 {
-    let mut end = at;
-    while end < list.len() {
-        if list[end] == b'\n' {
-            return end;
-        }
-        end += 1;
-    }
-    end
+    list.iter().take_while(|b| **b != b'\n').count()
 }
 
 // The line that starts at `at`, without its end.
 fn line_at(list: &[u8], at: usize) -> &[u8]
     ensures { result.now ≡ line_of (drop at list.now) }
 {
-    le::part(list, at, line_end(list, at) - at)
+    let rest = le::part(list, at, list.len());
+    &rest[..line_len(rest)]
 }
 
 // The place of the case behind the one at `at`.
 pub fn next_case(list: &[u8], at: usize) -> usize
     ensures { Next list.now at result }
 {
-    let end = line_end(list, at);
-    if end < list.len() {
-        return end + 1;
+    if list.len() <= at {
+        return list.len();
     }
-    list.len()
+    let end = at + line_at(list, at).len();
+    (end + 1).min(list.len())
 }
 
 // The value of a hexadecimal digit.
@@ -56,30 +51,20 @@ pub fn next_case(list: &[u8], at: usize) -> usize
 fn digit_of(b: u8) -> u8
     ensures { (result ≡ digit_of b) × (result < 16) }
 {
-    if b < b'0' {
-        return 0;
+    match b {
+        b'0'..=b'9' => b - b'0',
+        b'a'..=b'f' => b - b'a' + 10,
+        _ => 0,
     }
-    if b <= b'9' {
-        return b - b'0';
-    }
-    if b < b'a' {
-        return 0;
-    }
-    if b <= b'f' {
-        return b - b'a' + 10;
-    }
-    0
 }
 
 // Lays the bytes that a line stands for at the front of `out`.
 fn decode(line: &[u8], out: &mut [u8]) -> usize
     ensures { Copied (hex_bytes line.now) out.old out.new result }
 {
-    let n = le::min(line.len() / 2, out.len());
-    let mut i = 0;
-    while i < n {
+    let n = (line.len() / 2).min(out.len());
+    for i in 0..n {
         out[i] = 16 * digit_of(line[2 * i]) + digit_of(line[2 * i + 1]);
-        i += 1;
     }
     n
 }
@@ -95,11 +80,7 @@ pub fn read_case(list: &[u8], at: usize, out: &mut [u8]) -> usize
 pub fn fill(out: &mut [u8], b: u8)
     ensures { out.new ≡ replicate (length out.old) b }
 {
-    let mut i = 0;
-    while i < out.len() {
-        out[i] = b;
-        i += 1;
-    }
+    out.fill(b);
 }
 
 // Makes the body of a kind and a seed out of a page's zeros (compare/README.md, checksum_replay).
@@ -111,12 +92,12 @@ pub fn draw_body(body: &mut [u8], kind: u8, seed: u32)
         0 => fill(body, (seed % 256) as u8),
         4 => {
             let byte = [(seed / 4096 % 256) as u8];
-            le::write_bytes(body, (seed % 4096) as usize, &byte);
+            let _ = le::write_bytes(body, (seed % 4096) as usize, &byte);
         }
         5 => {
             draw(body, kind, seed);
             let n = (seed % 4097) as usize;
-            le::write_zeros(body, n, 4096 - n);
+            let _ = le::write_zeros(body, n, 4096 - n);
         }
         _ => draw(body, kind, seed),
     }
@@ -127,11 +108,9 @@ fn draw(body: &mut [u8], kind: u8, seed: u32)
     ensures { body.new ≡ drawn kind seed (length body.old) }
 {
     let mut x = seed;
-    let mut i = 0;
-    while i < body.len() {
+    for byte in body.iter_mut() {
         x = next(x);
-        body[i] = shape(kind, (x / 16777216) as u8);
-        i += 1;
+        *byte = shape(kind, (x / 16777216) as u8);
     }
 }
 
@@ -139,7 +118,7 @@ fn draw(body: &mut [u8], kind: u8, seed: u32)
 fn next(x: u32) -> u32
     ensures { result ≡ next_number x }
 {
-    ((x as u64 * 1664525 + 1013904223) % 4294967296) as u32
+    x.wrapping_mul(1664525).wrapping_add(1013904223)
 }
 
 // The body's byte for a number's top byte.
@@ -156,13 +135,14 @@ fn shape(kind: u8, top: u8) -> u8
 }
 
 // Adds a text to a line at `at`, and answers where the next one goes.
+// (Line and place stay two parameters, here and below: docs/CONTRACTS.md names these functions and their clauses.)
 #[tactic(auto, unfolding(le::specs::Le::store))]
 pub fn add_text(line: &mut [u8], at: usize, text: &[u8]) -> usize
     ensures value { result ≡ line_end line.old at (length text.now) }
     ensures line_after { line.new ≡ store line.old at text.now }
 {
     if le::fits_in(line.len(), at, text.len()) {
-        le::write_bytes(line, at, text);
+        let _ = le::write_bytes(line, at, text);
         return at + text.len();
     }
     at

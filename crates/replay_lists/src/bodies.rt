@@ -1,44 +1,45 @@
 // The list of batch bodies (compare/README.md, items_replay): answers where decoding ends, or why, and how many items it read.
 // A case: its kind (1 byte), the body's length (2 bytes) and the bytes at its front; the rest of the body is zeros.
-use super::print;
-use mvcc::{BatchDecoded, MvccCommitBatch};
+use super::{List, print};
+use mvcc::MvccCommitBatch;
 
-// Makes the body of a case, and answers for it: 0 as it is, 1 cut at every length, 2 with each byte of its front damaged.
-pub fn answer(rt: &impl Print, case: &[u8]) {
-    if case.len() < 3 {
-        print::wrong(rt);
-        return;
-    }
-    let len = le::read_u16(case, 1) as usize;
-    let front = le::part(case, 3, len);
-    let mut space = [0u8; 65_536];
-    le::write_bytes(&mut space, 0, front);
-    match case[0] {
-        0 => report(rt, le::part(&space, 0, len)),
-        1 => report_cuts(rt, le::part(&space, 0, len)),
-        2 => report_damages(rt, &mut space, len, front.len()),
-        _ => print::wrong(rt),
+pub struct Bodies;
+
+impl List for Bodies {
+    const PROGRAM: &'static str = "items_replay";
+
+    // Makes the body of a case, and answers for it: 0 as it is, 1 cut at every length, 2 with each byte of its front damaged.
+    fn answer(rt: &impl Print, case: &[u8]) {
+        if case.len() < 3 {
+            print::wrong(rt);
+            return;
+        }
+        let len = usize::from(le::read_u16(case, 1));
+        let front = le::part(case, 3, len);
+        let mut space = [0u8; 65_536];
+        let _ = le::write_bytes(&mut space, 0, front);
+        match case[0] {
+            0 => report(rt, le::part(&space, 0, len)),
+            1 => report_cuts(rt, le::part(&space, 0, len)),
+            2 => report_damages(rt, &mut space, len, front.len()),
+            _ => print::wrong(rt),
+        }
     }
 }
 
 // Answers for every beginning of a body, the shortest first.
 fn report_cuts(rt: &impl Print, body: &[u8]) {
-    let mut n: usize = 0;
-    while n < body.len() {
-        report(rt, le::part(body, 0, n));
-        n += 1;
+    for n in 0..=body.len() {
+        report(rt, &body[..n]);
     }
-    report(rt, body);
 }
 
 // Answers for a body with one of its first n bytes damaged, each in three ways.
 fn report_damages(rt: &impl Print, space: &mut [u8], len: usize, n: usize) {
-    let mut i: usize = 0;
-    while i < n {
+    for i in 0..n {
         report_damaged(rt, space, len, i, 0x01);
         report_damaged(rt, space, len, i, 0x80);
         report_damaged(rt, space, len, i, 0xff);
-        i += 1;
     }
 }
 
@@ -58,21 +59,11 @@ fn report(rt: &impl Print, body: &[u8]) {
     let items = report.items;
     let answer = report.answer;
     match answer {
-        BatchDecoded::Batch(batch) => print_report(rt, b"end ", batch.end as u64, items),
-        BatchDecoded::Refused(row) => print_report(
-            rt,
-            b"refused ",
-            refusal::number(row) as u64,
-            items,
-        ),
+        Ok(batch) => print_report(rt, "end", batch.end as u64, items),
+        Err(row) => print_report(rt, "refused", refusal::number(row) as u64, items),
     }
 }
 
-fn print_report(rt: &impl Print, word: &[u8], n: u64, items: usize) {
-    let mut line = [0u8; 64];
-    let told = replay::add_text(&mut line, 0, word);
-    let counted = replay::add_decimal(&mut line, told, n);
-    let at = replay::add_text(&mut line, counted, b" items ");
-    let end = replay::add_decimal(&mut line, at, items as u64);
-    print::line(rt, &mut line, end);
+fn print_report(rt: &impl Print, word: &str, n: u64, items: usize) {
+    let _ = println!(rt; "{word} {n} items {items}");
 }

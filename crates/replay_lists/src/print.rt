@@ -12,9 +12,7 @@ pub fn line(rt: &impl Print, line: &mut [u8], at: usize) {
 
 // Prints a sum in 8 hexadecimal digits.
 pub fn sum(rt: &impl Print, sum: u32) {
-    let mut digits = [0u8; 16];
-    let at = replay::add_hex(&mut digits, 0, sum as u64, 8);
-    line(rt, &mut digits, at);
+    let _ = println!(rt; "{sum:08x}");
 }
 
 // Prints the answer that no list has.

@@ -1,24 +1,30 @@
 // The list of plain sums (compare/README.md, sum_replay): answers the sum carried from a start over a part of a drawn body.
 // A case: the start (4 bytes), the body's kind (1) and its seed (4), the part's place and its length (2 each).
-use super::print;
+use super::{List, print};
 use page::PAGE_SIZE;
 
-// Draws the body of a case, and answers the sum over its part.
-pub fn answer(rt: &impl Print, case: &[u8]) {
-    if case.len() != 13 {
-        print::wrong(rt);
-        return;
+pub struct Sums;
+
+impl List for Sums {
+    const PROGRAM: &'static str = "sum_replay";
+
+    // Draws the body of a case, and answers the sum over its part.
+    fn answer(rt: &impl Print, case: &[u8]) {
+        if case.len() != 13 {
+            print::wrong(rt);
+            return;
+        }
+        let kind = case[4];
+        if 5 < kind {
+            print::wrong(rt);
+            return;
+        }
+        let mut body = [0u8; PAGE_SIZE];
+        replay::draw_body(&mut body, kind, le::read_u32(case, 5));
+        let place = usize::from(le::read_u16(case, 9));
+        let length = usize::from(le::read_u16(case, 11));
+        check(rt, le::part(&body, place, length), le::read_u32(case, 0));
     }
-    let kind = case[4];
-    if 5 < kind {
-        print::wrong(rt);
-        return;
-    }
-    let mut body = [0u8; PAGE_SIZE];
-    replay::draw_body(&mut body, kind, le::read_u32(case, 5));
-    let place = le::read_u16(case, 9) as usize;
-    let length = le::read_u16(case, 11) as usize;
-    check(rt, le::part(&body, place, length), le::read_u32(case, 0));
 }
 
 // Answers the sum in blocks, where the serial one is the same.

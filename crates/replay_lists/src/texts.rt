@@ -2,32 +2,34 @@
 // scalar values it has by the Standard; and the same, without cases, for all bytes by themselves and all pairs.
 ghost use Rattle.std.specs.Prelude.{◌+◌, ◌≤◌, ◌<◌};
 
-use super::print;
-use text::Utf8;
+use super::{List, print};
 
-// Answers one case; 19 is document 01's number for bytes that are no text.
-pub fn answer(rt: &impl Print, case: &[u8]) {
-    match text::from_utf8(case) {
-        Utf8::WellFormed(chars) => print_chars(rt, chars),
-        Utf8::IllFormed => print::text(rt, b"refused 19\n"),
+pub struct Texts;
+
+impl List for Texts {
+    const PROGRAM: &'static str = "utf8_replay";
+
+    // A line for single bytes, and one for each first byte of two.
+    fn answer_preamble(rt: &impl Print) {
+        print_numbers(rt, b"");
+        for a in 0..=255 {
+            let first = [a];
+            print_numbers(rt, &first);
+        }
+    }
+
+    // Answers one case; 19 is document 01's number for bytes that are no text.
+    fn answer(rt: &impl Print, case: &[u8]) {
+        match text::from_utf8(case) {
+            Some(chars) => print_chars(rt, chars),
+            None => print::text(rt, b"refused 19\n"),
+        }
     }
 }
 
 // Answers with a text's number.
 fn print_chars(rt: &impl Print, chars: usize) {
-    let mut line = [0u8; 40];
-    let at = replay::add_text(&mut line, 0, b"chars ");
-    let end = replay::add_decimal(&mut line, at, chars as u64);
-    print::line(rt, &mut line, end);
-}
-
-// A line for single bytes, and one for each first byte of two.
-pub fn answer_short(rt: &impl Print) {
-    print_numbers(rt, b"");
-    for a in 0..=255 {
-        let first = [a];
-        print_numbers(rt, &first);
-    }
+    let _ = println!(rt; "chars {chars}");
 }
 
 // Answers with a number for each last byte behind `front`, two of them in each of 128 hexadecimal digits.
@@ -56,7 +58,7 @@ fn chars(front: &[u8], b: u8) -> u64
     let at = replay::add_text(&mut bytes, 0, front);
     let end = replay::add_text(&mut bytes, at, &last);
     match text::from_utf8(le::part(&bytes, 0, end)) {
-        Utf8::WellFormed(n) => le::min(n, 2) as u64,
-        Utf8::IllFormed => 0,
+        Some(n) => n.min(2) as u64,
+        None => 0,
     }
 }

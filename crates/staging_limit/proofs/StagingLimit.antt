@@ -3,13 +3,13 @@ use mathlib.Core.Path.{◌≡◌, refl, sym, ap, ◌∙◌}
 use mathlib.Core.Bool.{Bool, true, false, not}
 use mathlib.Core.List.{List}
 use mathlib.Core.Logic.{◌⊎◌, inl, inr}
-use mathlib.Core.Option.{none, some}
 use Prim.Native.Nat.{ℕ, zero, suc, ◌+◌, ◌-◌, max, ◌≤◌, ◌<◌, ◌^◌}
 use native.Mathlib.Omega.{arith}
 use borrow.Author.Tests.{eq-eqb, ne_eqb, lt-ltb, le-ltb, le-leb, lt-leb, leb-true, ltb-true}
 use lib.Dec.{leb, ltb, eqb}
 use lib.ListN.{length, get_or, length-take}
 use lib.Seq.{get_or-take}
+use Rattle.std.specs.Prelude.{Some, None, Err, Ok}
 use Rattle.le.specs.Choice.{pick, both}
 use Rattle.le.proofs.Compare.{no_test, both_true}
 use Rattle.le.proofs.Tests.{le-or-lt, eq-or-not}
@@ -25,7 +25,6 @@ use Rattle.pager_state.specs.Staging.{stage_refusal}
 use Rattle.pager_state.specs.Stores.{Disk}
 use Rattle.pager_state.specs.Opening.{How, create_fine, open_pager, open_refusal, create_refusal}
 use Rattle.pager_state.specs.Steps.{header_good, differing, lacking, room_for, commit_fine, commit_refusal, commit_start, checkpoint_refusal, step_answer}
-use Rattle.pager_state.specs.declared.CommitStart.TheVariants as commit
 use Rattle.pager_state.specs.declared.Staged.{Staged}
 use Rattle.pager_state.proofs.Counts.{without, one_out, few-among, many-among}
 use Rattle.pager_state.proofs.Searches.{pages-same}
@@ -36,7 +35,7 @@ use Rattle.history.specs.Run.{Run, Event, start}
 use Rattle.history.specs.Demand3.{AllTyped}
 use Rattle.history.specs.Guards.{Joined, BegunGuard, LogFullGuard, after}
 use Rattle.history.proofs.Slots.{Slots}
-use Rattle.history.proofs.Rest.{Held, Some, inv-held}
+use Rattle.history.proofs.Rest.{Held, ForSome, inv-held}
 use Rattle.history.proofs.Creation.{created-inv}
 use Rattle.history.proofs.FilesAfter.{inv-history}
 use Rattle.history.proofs.Guards as guards
@@ -130,7 +129,7 @@ module _ {s : Staged} {b : Model} (k : Agrees s b) where
 -- ---- in any history
 
 same_number : (a c d e : Bool)
-    → number_of (unless a refusal.Area (unless (not c) refusal.Busy (unless d refusal.Page (unless (not e) refusal.Staging none))))
+    → number_of (unless a refusal.Area (unless (not c) refusal.Busy (unless d refusal.Page (unless (not e) refusal.Staging None))))
     ≡ pick (not a) 1 (pick c 9 (pick (not d) 11 (pick e 12 0)))
 same_number false c d e = refl
 same_number true true d e = refl
@@ -138,7 +137,7 @@ same_number true false false e = refl
 same_number true false true true = refl
 same_number true false true false = refl
 
-there-by : (t : Bool) (x : List ℕ) → t ≡ there (pick t (some x) none)
+there-by : (t : Bool) (x : List ℕ) → t ≡ there (pick t (Some x) None)
 there-by true x = refl
 there-by false x = refl
 
@@ -146,7 +145,7 @@ module _ (t l m g : List ℕ) (salt : ℕ) (f : create_fine t l m g ≡ true) (s
   abbrev r : Run
   r = after es (start t l m g salt)
 
-  held : Some (Held r.world r.staging r.model) r.kept
+  held : ForSome (Held r.world r.staging r.model) r.kept
   held =
       inv-held r.world.pager.job r.world r.staging r.model r.kept
       (inv-history es (start t l m g salt) typed (created-inv t l m g salt f small))
@@ -169,7 +168,7 @@ module _ (t l m g : List ℕ) (salt : ℕ) (f : create_fine t l m g ≡ true) (s
           → number_of (unless (eqb (length bytes) page_size) refusal.Area
           (unless (not (busy r.world.pager)) refusal.Busy
           (unless (ltb n page_limit) refusal.Page
-          (unless (ltb (slot_of r.world.pager.staged n) staged_limit) refusal.Staging none))))
+          (unless (ltb (slot_of r.world.pager.staged n) staged_limit) refusal.Staging None))))
           ≡ pick (not (eqb (length bytes) page_size)) 1
           (pick (busy r.world.pager) 9 (pick (leb page_limit n) 11 (pick (eqb (others_staged r.model n) staged_limit) 12 0)))
       go (inl q) = rw (le-ltb n page_limit q, le-leb page_limit n q) (same_number (eqb (length bytes) page_size) (busy r.world.pager) false true)
@@ -214,7 +213,7 @@ module _ (g : List ℕ) (no : Wrong g) where
   unfolding open_pager
   area-open how t d = rw (lengths-wrong (length t) (length d.log.area) d.log.len (length d.main.area) d.main.len)
 
-  area-create : (t l m : List ℕ) → create_refusal t l m g ≡ some refusal.Area
+  area-create : (t l m : List ℕ) → create_refusal t l m g ≡ Some refusal.Area
   area-create t l m = rw (lengths-wrong (length t) (length l) 0 (length m) 0)
 
 -- ---- commits
@@ -246,22 +245,22 @@ module _ (w : World) (h : DbHeader) (slots : length w.pager.staged.pages ≡ sta
       ltb-true (find_in s n) (length s) (j n (omega (arith, a)) (omega (arith, a)) b) in
       omega (arith, all, few-among s joins k first in-slots, length-take w.pager.staged.count w.pager.staged.pages, slots)
 
-  grows-by : (g : List ℕ) → commit_start g w h ≡ commit.Begun → count_of h ≤ most_pages w
+  grows-by : (g : List ℕ) → commit_start g w h ≡ Ok tt → count_of h ≤ most_pages w
   unfolding BegunGuard
   grows-by g e = grown ((guards.begun g w h).0 e).0.joined
 
   joining-by : (g : List ℕ) → commit_fine g w ≡ true → busy w.pager ≡ false → read_only w.pager ≡ false → header_good h ≡ true → most_pages w < count_of h
-      → commit_start g w h ≡ commit.Refused (refusal.Joining (lacking w h))
+      → commit_start g w h ≡ Err (refusal.Joining (lacking w h))
   unfolding commit_start commit_refusal BegunGuard LogFullGuard
   joining-by g f b o k more = go (leb page_limit (lacking w h)) refl (room_for w (differing g w + 1)) refl
     where
-      begun-so : leb page_limit (lacking w h) ≡ true → room_for w (differing g w + 1) ≡ true → commit_start g w h ≡ commit.Begun
+      begun-so : leb page_limit (lacking w h) ≡ true → room_for w (differing g w + 1) ≡ true → commit_start g w h ≡ Ok tt
       begun-so c d = rw (f, b, o, k, c, d)
 
-      full-so : leb page_limit (lacking w h) ≡ true → room_for w (differing g w + 1) ≡ false → commit_start g w h ≡ commit.Refused refusal.LogFull
+      full-so : leb page_limit (lacking w h) ≡ true → room_for w (differing g w + 1) ≡ false → commit_start g w h ≡ Err refusal.LogFull
       full-so c d = rw (f, b, o, k, c, d)
 
-      go : (c : Bool) → leb page_limit (lacking w h) ≡ c → (d : Bool) → room_for w (differing g w + 1) ≡ d → commit_start g w h ≡ commit.Refused (refusal.Joining (lacking w h))
+      go : (c : Bool) → leb page_limit (lacking w h) ≡ c → (d : Bool) → room_for w (differing g w + 1) ≡ d → commit_start g w h ≡ Err (refusal.Joining (lacking w h))
       go true c true d = absurd (omega (arith, more, grown ((guards.begun g w h).0 (begun-so c d)).0.joined))
       go true c false d = absurd (omega (arith, more, grown ((guards.log-full g w h).0 (full-so c d)).0.joined))
       go false c d e = rw (f, b, o, k, c)

@@ -1,7 +1,6 @@
 -- Document 02, P9: "Make that the limit: staging area 98,304 bytes, refusal 12 when 24 other pages are staged, refusal 1 for the former size."
 -- `staging-limit` of proofs/StagingLimit.antt proves it. The two numbers are `staged_limit` and `staging_area` of pager_state/specs/World.antt.
-use Rattle.std.specs.Prelude.{◌≡◌, Bool, true, false, not, List, ℕ, ◌+◌, max, ◌≤◌, ◌<◌, leb, eqb, length}
-use Rattle.std.proofs.Math.Option.{Option, none, some}
+use Rattle.std.specs.Prelude.{Option, None, Some, Err, Ok, ◌≡◌, Bool, true, false, not, List, ℕ, ◌+◌, max, ◌≤◌, ◌<◌, leb, eqb, length}
 use Rattle.le.specs.Choice.{pick}
 use Rattle.refusal.specs.declared.Refusal.TheVariants as refusal
 use Rattle.page.specs.Page.{page_size}
@@ -11,7 +10,6 @@ use Rattle.pager_state.specs.Pages.{pages_from}
 use Rattle.pager_state.specs.Stores.{Disk}
 use Rattle.pager_state.specs.Opening.{How, open_pager, open_refusal, create_refusal}
 use Rattle.pager_state.specs.Steps.{header_good, lacking, commit_fine, commit_start}
-use Rattle.pager_state.specs.declared.CommitStart.TheVariants as commit
 use Rattle.history.specs.Model.{Model}
 use Rattle.history.specs.Calls.{Query, ReadHeader, ReadMode, ReadClock, ReadPage, ReadBatch, Call, Ask, Open, Stage, Clear, Append, Observe, Commit, Checkpoint, BeginCommit, BeginCheckpoint, Step, refused_by}
 use Rattle.history.specs.Run.{Run}
@@ -20,8 +18,8 @@ use Rattle.history.specs.Guards.{Always}
 -- ---- the pages that the model (document 01's plain book) has staged
 
 abbrev pub there : Option (List ℕ) → Bool
-there none = false
-there (some x) = true
+there None = false
+there (Some x) = true
 
 -- how many there are
 unfoldable pub pages_staged : Model → ℕ
@@ -78,10 +76,10 @@ pub record StagingLimit : Type 0 where
   -- "refusal 1 for the former size", and for every other: of any store and any call, creation and openings too
   pub area : (c : Call) → lent_staging c ≡ true → (w : World) (g : List ℕ) → Wrong g → refused_by c w g ≡ 1
   pub opened : (how : How) (t : List ℕ) (d : Disk) (g : List ℕ) → Wrong g → open_refusal (open_pager how t d g) ≡ 1
-  pub created : (t l m g : List ℕ) → Wrong g → create_refusal t l m g ≡ some refusal.Area
+  pub created : (t l m g : List ℕ) → Wrong g → create_refusal t l m g ≡ Some refusal.Area
   -- a commit that is begun, in any store, grows by no more ..
-  pub grows : (g : List ℕ) (w : World) (h : DbHeader) → length w.pager.staged.pages ≡ staged_limit → commit_start g w h ≡ commit.Begun → count_of h ≤ most_pages w
+  pub grows : (g : List ℕ) (w : World) (h : DbHeader) → length w.pager.staged.pages ≡ staged_limit → commit_start g w h ≡ Ok tt → count_of h ≤ most_pages w
   -- .. and one that would is refused with 14 and the lowest page that isn't staged, where 1, 9, 10 and 13 don't come first
   pub joining : (g : List ℕ) (w : World) (h : DbHeader) → length w.pager.staged.pages ≡ staged_limit → commit_fine g w ≡ true
       → busy w.pager ≡ false → read_only w.pager ≡ false → header_good h ≡ true → most_pages w < count_of h
-      → commit_start g w h ≡ commit.Refused (refusal.Joining (lacking w h))
+      → commit_start g w h ≡ Err (refusal.Joining (lacking w h))

@@ -10,11 +10,14 @@ use borrow.Author.Tests.{ltb-true, ltb-false, leb-true}
 use lib.Dec.{leb, ltb}
 use lib.ListN.{length, drop, get_or, length-drop, drop_of_length-le}
 use lib.Seq.{drop-cons}
-use Rattle.le.specs.Choice.{pick, both}
+use Rattle.std.specs.Prelude.{Option, Some, None, MatchOption}
+use Rattle.std.specs.Bool.{then_some}
+use Rattle.std.specs.Int.{from_bool}
+use Rattle.le.specs.Choice.{pick}
 use Rattle.le.proofs.Tests.{le-or-lt}
-use Rattle.text.specs.Utf8.{byte, continues, two, three, four, size, well_formed, chars}
+use Rattle.text.specs.Utf8.{byte, continues, two, three, four, size, well_formed, chars, utf8_of}
 use Rattle.text.specs.Agrees.{outside}
-use Rattle.text.specs.Walk.{Ascii, Passes, number_behind}
+use Rattle.text.specs.Walk.{Ascii, Passes}
 use Rattle.text.specs.Windows.{is_open, fits, all_fit, opens_at, fits_from, Fit, AllFit, Begun, Judges}
 use Rattle.text.proofs.Agrees.{agrees, begins}
 use Rattle.text.proofs.Laws.{size-one, size-two, size-three, size-four, size-le, found, told, over-ascii}
@@ -41,6 +44,18 @@ fits-nil a b c = refl
 pick-one : (t : Bool) → pick t 0 1 ≤ 1
 pick-one true = omega arith
 pick-one false = omega arith
+
+pub one-most : (t : Bool) {n : ℕ} → n ≡ pick t 0 1 → n ≤ 1
+one-most t e = omega (arith, pick-one t, e)
+
+pub unless : (t : Bool) → from_bool (not t) ≡ pick t 0 1
+unless true = refl
+unless false = refl
+
+-- what a judgement answers: n where all fit
+pub judgement : (t : Bool) {n : ℕ} {o : Option ℕ} {P : Type 0} (Q : ℕ → Type 0) → o ≡ then_some t n → (t ≡ false → P) → (t ≡ true → Q n) → MatchOption o P Q
+judgement true Q e f g = rw e (g refl)
+judgement false Q e f g = rw e (f refl)
 
 -- the numbers from a on, n of them
 unfoldable count_up : ℕ → ℕ → List ℕ
@@ -132,7 +147,7 @@ module _ (s : List ℕ) where
 
   -- a byte that does not fit
   pub fits-none : (i n : ℕ) (x : Bool) {f : Bool} → i + 3 + n < length s → (x ≡ true → AllFit s i n) → (x ≡ false → fits_from s i ≡ false)
-      → f ≡ fits (byte s (i + n)) (byte s (i + n + 1)) (byte s (i + n + 2)) (byte s (i + n + 3)) → both x f ≡ false → fits_from s i ≡ false
+      → f ≡ fits (byte s (i + n)) (byte s (i + n + 1)) (byte s (i + n + 2)) (byte s (i + n + 3)) → (x && f) ≡ false → fits_from s i ≡ false
   fits-none i n true h a z e g = fits-past i n (omega arith) (a refl) ∙ fits-at (i + n) (omega arith) ∙ rw (← e, g)
   fits-none i n false h a z e g = z refl
 
@@ -268,7 +283,7 @@ module _ (s : List ℕ) where
   judges-not j w l h e = sym (judges-past j w l h) ∙ e
 
   -- at the text's end
-  pub judges-end : {at n : ℕ} → Judges s at n → length s ≤ at → (o : Bool) → opens_at s (length s - 3) ≡ o → pick o 0 n ≡ number_behind 0 s
+  pub judges-end : {at n : ℕ} → Judges s at n → length s ≤ at → (o : Bool) → opens_at s (length s - 3) ≡ o → pick o None (Some n) ≡ utf8_of s
   judges-end {at} {n} j h o e =
       let f : well_formed s ≡ not o = sym (judges-past j at j.on (omega arith)) ∙ ended in
       by o f
@@ -279,13 +294,13 @@ module _ (s : List ℕ) where
       ended : fits_from s (at - 3) ≡ not o
       ended = rw same_end (at-end (length s - 3) (omega (arith, j.room)) ∙ ap not e)
 
-      by : (o : Bool) → well_formed s ≡ not o → pick o 0 n ≡ number_behind 0 s
+      by : (o : Bool) → well_formed s ≡ not o → pick o None (Some n) ≡ utf8_of s
       by true f = rw f
       by false f =
           let w : well_formed (drop (j.i + 3) s) ≡ true = j.passes.same ∙ f in
           let a = agrees (drop (j.i + 3) s) in
           let c : outside (drop (j.i + 3) s) ≡ chars (drop (j.i + 3) s) = a.begins (a.sound w) in
-          rw f (omega (arith, j.count, j.passes.count, c, none-outside at h))
+          rw f (ap Some (omega (arith, j.count, j.passes.count, c, none-outside at h)))
 
 -- ---- from a text's start on: three zeros stand before it
 

@@ -1,7 +1,7 @@
 -- What a walk over a text knows of the sequence at an index, and of a run of ASCII. Assumes nothing.
 use Prim.Native.Nat.{ℕ, zero, suc, ◌+◌, ◌-◌, ◌≤◌, ◌<◌}
 use mathlib.Core.Path.{◌≡◌, refl, sym, ap, ◌∙◌}
-use mathlib.Core.List.{List, [], ◌∷◌}
+use mathlib.Core.List.{List, [], ◌∷◌, ◌++◌}
 use mathlib.Core.Bool.{Bool, true, false, ◌&&◌}
 use mathlib.Core.Logic.{⊎_elim}
 use native.Mathlib.Nat.{add-zero, zero-add, eq-or-lt_of_le}
@@ -11,9 +11,15 @@ use borrow.Author.Tests.{lt-ltb, le-ltb, le-leb, lt-leb, leb-true}
 use lib.Dec.{leb, ltb}
 use lib.ListN.{length, drop, get_or, length-drop, drop_of_length-le}
 use lib.Seq.{drop-cons, drop-drop, get_or-drop}
+use Rattle.std.proofs.Common.{length-append}
+use Rattle.std.proofs.Math.Seq.{drop-append_seam}
+use Rattle.std.proofs.lemmas.List.{get_or_append_left}
+use Rattle.std.specs.Prelude.{Option, Some, None, MatchOption}
+use Rattle.std.specs.Bool.{then_some}
 use Rattle.le.specs.Choice.{pick}
-use Rattle.text.specs.Utf8.{two, three, four, size, sequence_size, formed_behind, well_formed, chars_behind, chars}
-use Rattle.text.specs.Walk.{Ascii, Passes, number_behind}
+use Rattle.le.proofs.Tests.{le-or-lt}
+use Rattle.text.specs.Utf8.{two, three, four, size, sequence_size, formed_behind, well_formed, chars_behind, chars, utf8_of}
+use Rattle.text.specs.Walk.{Ascii, Passes, utf8_behind}
 
 -- ---- the size of the sequence at an index
 
@@ -84,6 +90,11 @@ size_few s =
     (pick-le (ltb (get_or s 0 0) 0xe0) (whole-few s 2 _ (omega arith))
     (pick-le (ltb (get_or s 0 0) 0xf0) (whole-few s 3 _ (omega arith)) (whole-few s 4 _ (omega arith))))
 
+-- what a test of n bytes says of a size
+pub sized : (t : Bool) {n m : ℕ} {o : Option ℕ} → 0 < n → o ≡ then_some t n → pick t n 0 ≡ m → MatchOption o (0 ≡ m) (λ k. (0 < k) × (k ≡ m))
+sized true h e f = rw e (h, f)
+sized false h e f = rw e f
+
 -- ---- what is behind a sequence decides
 
 after-drop : (s : List ℕ) (k : ℕ) → formed_behind s k ≡ formed_behind (drop k s) zero
@@ -140,17 +151,17 @@ module _ {s : List ℕ} where
   told p e f = rw (← e, ← f) p
 
   -- the text's end, and a place where no sequence is, decide
-  pub well : (k : ℕ) {a b n m : ℕ} → Passes s a b n → length s ≤ b → m ≡ k + n → m ≡ number_behind k (drop a s)
+  pub well : (k : ℕ) {a b n m : ℕ} → Passes s a b n → length s ≤ b → m ≡ k + n → Some m ≡ utf8_behind k (drop a s)
   well k {a} {b} p h e =
       let f : well_formed (drop a s) ≡ true = sym p.same ∙ at-end s b h in
-      rw f (omega (arith, p.count, none_left s b h, e))
+      rw f (ap Some (omega (arith, p.count, none_left s b h, e)))
 
-  pub ill : (k : ℕ) {a b n : ℕ} → Passes s a b n → b < length s → 0 ≡ size (drop b s) → 0 ≡ number_behind k (drop a s)
+  pub ill : (k : ℕ) {a b n : ℕ} → Passes s a b n → b < length s → 0 ≡ size (drop b s) → None ≡ utf8_behind k (drop a s)
   ill k {b = b} p h e = rw (← p.same, no-sequence s b h e)
 
   -- what is left behind a walk from the start on
-  pub left : {b n : ℕ} → Passes s 0 b n → number_behind n (drop b s) ≡ number_behind 0 s
-  left p = rw (p.same, ← p.count, zero-add)
+  pub left : {b n : ℕ} → Passes s 0 b n → utf8_behind n (drop b s) ≡ utf8_of s
+  left p = rw (p.same, ← p.count)
 
 -- a text that is not empty has one
 pub some-chars : (s : List ℕ) → 0 < length s → 0 < chars s
@@ -159,7 +170,7 @@ some-chars [] h = absurd (omega arith)
 some-chars (a ∷ s) h = omega arith
 
 -- the number of a text from its start on
-pub from_start : (s : List ℕ) {n : ℕ} → n ≡ number_behind 0 s → n ≡ pick (well_formed s) (chars s) 0
+from_start : (s : List ℕ) {o : Option ℕ} → o ≡ utf8_behind 0 s → o ≡ utf8_of s
 from_start s e = e ∙ rw zero-add
 
 by_size : (s : List ℕ) (a n : ℕ) → suc n ≡ size (drop a s) → Behind (drop a s) (drop (a + suc n) s)
@@ -185,9 +196,30 @@ over-ascii s i j f l m n h =
     told (run s i (j - i) (omega arith) (λ k p q. f k (omega arith) (omega arith))) (omega arith) refl
 
 -- a text of ASCII alone
-pub ascii-number : (s : List ℕ) → Ascii s 0 (length s) → length s ≡ pick (well_formed s) (chars s) 0
+pub ascii-number : (s : List ℕ) → Ascii s 0 (length s) → Some (length s) ≡ utf8_of s
 ascii-number s f = from_start s (well 0 (over-ascii s 0 (length s) f (omega arith) (omega arith) (omega arith) (omega arith)) (omega arith) (omega arith))
 
 -- one byte more of a run
 pub ascii_more : (s : List ℕ) (a n : ℕ) → Ascii s a (a + n) → get_or s (a + n) 0 < 0x80 → Ascii s a (a + (n + 1))
 ascii_more s a n f h k l m = ⊎_elim (λ e. rw e h) (λ q. f k l q) (eq-or-lt_of_le {n = k} {m = a + n} (omega arith))
+
+-- a part t of a text, and what is behind it
+module _ (s t u : List ℕ) (a : ℕ) (e : drop a s ≡ t ++ u) where
+  -- ASCII, where the part is
+  pub ascii-part : (b : ℕ) → Ascii t 0 (length t) → b ≤ a + length t → Ascii s a b
+  ascii-part b f l k p q =
+      let i : k - a < length t = omega arith in
+      let n : a + (k - a) ≡ k = omega arith in
+      let g : get_or (drop a s) (k - a) 0 ≡ get_or t (k - a) 0 = rw e (get_or_append_left t u 0 (k - a) i) in
+      let h : get_or s k 0 ≡ get_or t (k - a) 0 = rw n at (simp get_or-drop at g) in
+      rw h (f (k - a) (omega arith) i)
+
+  pub part-inside : a ≤ length s → a + length t ≤ length s
+  part-inside h = omega (arith, length-append t u, length-drop a s, ap length e)
+
+  pub part-rest : u ≡ drop (a + length t) s
+  part-rest = rw (← drop-drop (length t) a s, e) (sym (drop-append_seam t u))
+
+-- ASCII behind ASCII
+pub ascii-joined : (s : List ℕ) (a b c : ℕ) → Ascii s a b → Ascii s b c → Ascii s a c
+ascii-joined s a b c f g k l m = ⊎_elim (λ h. g k h m) (λ h. f k l h) (le-or-lt b k)

@@ -1,8 +1,6 @@
 -- Well-formed UTF-8 and its number of scalar values, computed, sequence by sequence; the answer that from_utf8 gives; and its number in document 01.
-use Rattle.std.specs.Prelude.{ℕ, zero, suc, ◌+◌, ◌-◌, ◌*◌, List, [], ◌∷◌, Bool, true, false, ◌&&◌, ◌||◌, leb, ltb, length, get_or}
+use Rattle.std.specs.Prelude.{ℕ, zero, suc, ◌+◌, ◌-◌, ◌*◌, List, [], ◌∷◌, Bool, true, false, ◌&&◌, ◌||◌, leb, ltb, length, get_or, Option, Some, None}
 use Rattle.le.specs.Choice.{pick}
-use Rattle.text.specs.declared.Utf8.{Utf8}
-use Rattle.text.specs.declared.Utf8.TheVariants.{WellFormed, IllFormed}
 
 -- a byte that can stand after the first of a sequence
 abbrev pub continues : ℕ → Bool
@@ -65,10 +63,10 @@ unfoldable pub chars : List ℕ → ℕ
 chars s = chars_behind s 0
 
 -- a well-formed text's number; an ill-formed text has none
-abbrev pub utf8_of : List ℕ → Utf8
-utf8_of s = pick (well_formed s) (WellFormed (chars s)) IllFormed
+abbrev pub utf8_of : List ℕ → Option ℕ
+utf8_of s = pick (well_formed s) (Some (chars s)) None
 
 -- document 01's number: 0 for a result, 19 for a text that is not UTF-8
-abbrev pub utf8_refusal : Utf8 → ℕ
-utf8_refusal (WellFormed n) = 0
-utf8_refusal IllFormed = 19
+abbrev pub utf8_refusal : Option ℕ → ℕ
+utf8_refusal (Some n) = 0
+utf8_refusal None = 19

@@ -1,5 +1,5 @@
 -- What the walk over a text says of its steps.
-use Rattle.std.specs.Prelude.{ℕ, ◌+◌, ◌≤◌, ◌<◌, List, ◌≡◌, length, drop, get_or}
+use Rattle.std.specs.Prelude.{ℕ, ◌+◌, ◌≤◌, ◌<◌, List, ◌≡◌, length, drop, get_or, Option, Some, None}
 use Rattle.le.specs.Choice.{pick}
 use Rattle.text.specs.Utf8.{well_formed, chars}
 
@@ -14,6 +14,6 @@ pub record Passes (s : List ℕ) (a b n : ℕ) : Type 0 where
   pub same : well_formed (drop b s) ≡ well_formed (drop a s)
   pub count : chars (drop a s) ≡ n + chars (drop b s)
 
--- the number of a text of which n sequences are passed and s is left; 0 where it is ill-formed
-abbrev pub number_behind : ℕ → List ℕ → ℕ
-number_behind n s = pick (well_formed s) (n + chars s) 0
+-- the number of a text of which n sequences are passed and s is left; an ill-formed text has none
+abbrev pub utf8_behind : ℕ → List ℕ → Option ℕ
+utf8_behind n s = pick (well_formed s) (Some (n + chars s)) None

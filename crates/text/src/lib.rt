@@ -2,20 +2,14 @@
 // sequence or, where more is left, by windows in which each byte is judged by the three before it.
 #![tactic(auto)]
 
-ghost use Rattle.std.specs.Prelude.{◌≡◌, true, false, ◌+◌, ◌-◌, ◌≤◌, ◌<◌, length, drop};
+ghost use Rattle.std.specs.Prelude.{◌≡◌, true, false, ◌+◌, ◌-◌, ◌≤◌, ◌<◌, length, drop, MatchOption};
 ghost use Rattle.le.specs.Choice.{pick};
 ghost use Rattle.text.specs.Utf8.{continues, pair, two, three, four, size, well_formed, chars, utf8_of};
-ghost use Rattle.text.specs.Walk.{Ascii, number_behind};
+ghost use Rattle.text.specs.Walk.{Ascii, utf8_behind};
 ghost use Rattle.text.specs.Windows.{is_open, lowest, highest, fits, opens_at, fits_from, AllFit, Begun, Judges};
 
-// The answer for a text: its number of Unicode scalar values.
-#[derive(Clone, Copy)]
-pub enum Utf8 {
-    WellFormed(usize),
-    IllFormed,
-}
-
 // A way through a text: its bytes, and the scalar values that they are.
+// `Judges` stands in the contracts and not in a ghost field: it names the place that judging began at, and a ghost field holds no data.
 #[derive(Clone, Copy)]
 struct Way {
     len: usize,
@@ -33,7 +27,7 @@ fn continues(b: u8) -> bool
 fn pair(a: u8, b: u8) -> u32
     ensures { result ≡ pair a b }
 {
-    64 * (a as u32) + (b as u32)
+    64 * u32::from(a) + u32::from(b)
 }
 
 // Whether the bytes are a sequence of two, the first being from 0x80 to 0xdf.
@@ -63,38 +57,32 @@ fn four(a: u8, b: u8, c: u8, d: u8) -> bool
     continues(b) & continues(c) & continues(d) & shortest & scalar
 }
 
-fn if_ok(ok: bool, n: usize) -> usize
-    ensures { result ≡ pick ok n 0 }
-{
-    if ok { n } else { 0 }
-}
-
-// The length of the well-formed sequence at `at`; 0 where there is none.
-fn sequence(s: &[u8], at: usize) -> usize
+// The length of the well-formed sequence at `at`, if one is there.
+fn sequence(s: &[u8], at: usize) -> Option<usize>
     requires { at < length s.now }
-    ensures { result ≡ size (drop at s.now) }
+    ensures { MatchOption result (0 ≡ size (drop at s.now)) (λ n. (0 < n) × (n ≡ size (drop at s.now))) }
 {
     let a = s[at];
     let left = s.len() - at;
     if a < 0x80 {
-        return 1;
+        return Some(1);
     }
     if a < 0xe0 {
         if left < 2 {
-            return 0;
+            return None;
         }
-        return if_ok(two(a, s[at + 1]), 2);
+        return two(a, s[at + 1]).then_some(2);
     }
     if a < 0xf0 {
         if left < 3 {
-            return 0;
+            return None;
         }
-        return if_ok(three(a, s[at + 1], s[at + 2]), 3);
+        return three(a, s[at + 1], s[at + 2]).then_some(3);
     }
     if left < 4 {
-        return 0;
+        return None;
     }
-    if_ok(four(a, s[at + 1], s[at + 2], s[at + 3]), 4)
+    four(a, s[at + 1], s[at + 2], s[at + 3]).then_some(4)
 }
 
 // How many of the eight bytes at `at` stand before the first that is not ASCII.
@@ -106,19 +94,16 @@ fn ascii_front(s: &[u8], at: usize) -> usize
     (u64::trailing_zeros(tops) / 8) as usize
 }
 
-// Whether the n bytes at `at` are ASCII. The loop has no way out before its end, so that LLVM looks at sixteen bytes at a time.
-fn is_ascii(s: &[u8], at: usize, n: usize) -> bool
-    requires { at + n ≤ length s.now }
-    ensures { result ≡ true → Ascii s.now at (at + n) }
+// Whether all bytes are ASCII. The loop has no way out before its end, so that LLVM looks at sixteen bytes at a time.
+fn is_ascii(block: &[u8]) -> bool
+    ensures { result ≡ true → Ascii block.now 0 (length block.now) }
 {
-    if n == 8 {
-        return 8 <= ascii_front(s, at);
+    if block.len() == 8 {
+        return 8 <= ascii_front(block, 0);
     }
     let mut high: u8 = 0;
-    let mut j: usize = 0;
-    while j < n {
-        high |= s[at + j] / 128;
-        j += 1;
+    for b in block {
+        high |= *b / 128;
     }
     high == 0
 }
@@ -129,8 +114,8 @@ fn skip(s: &[u8], start: usize, n: usize) -> usize
     ensures { (start ≤ result) × ((result ≤ length s.now) × Ascii s.now start result) }
 {
     let mut at = start;
-    while n <= s.len() - at {
-        if !is_ascii(s, at, n) {
+    for block in s[start..].chunks_exact(n) {
+        if !is_ascii(block) {
             return at;
         }
         at += n;
@@ -148,22 +133,19 @@ fn front(s: &[u8]) -> usize
     skip(s, skip(s, skip(s, 0, 128), 32), 8)
 }
 
-// The number of a text of which `passed` sequences stand before `start`; 0 where it is ill-formed.
-fn tail(s: &[u8], start: usize, passed: usize) -> usize
+// The number of a text of which `passed` sequences stand before `start`.
+fn tail(s: &[u8], start: usize, passed: usize) -> Option<usize>
     requires { (passed ≤ start) × (start ≤ length s.now) }
-    ensures { result ≡ number_behind passed (drop start s.now) }
+    ensures { result ≡ utf8_behind passed (drop start s.now) }
 {
     let mut at = start;
     let mut chars = passed;
+    // a `while`: each step is as long as the sequence there
     while at < s.len() {
-        let n = sequence(s, at);
-        if n == 0 {
-            return 0;
-        }
-        at += n;
+        at += sequence(s, at)?;
         chars += 1;
     }
-    chars
+    Some(chars)
 }
 
 // ---- windows, in which each byte is judged by the three before it
@@ -206,63 +188,39 @@ fn fits(a: u8, b: u8, c: u8, d: u8) -> bool
         & (d <= highest(c))
 }
 
-// 1 unless b holds.
-fn one_unless(b: bool) -> u8
-    ensures { (result ≡ pick b 0 1) × (result ≤ 1) }
-{
-    if b { 0 } else { 1 }
-}
-
-// What was found of bytes: whether all can stand where they do, and how many begin a sequence.
-#[derive(Clone, Copy)]
-struct Judged {
-    fits: bool,
-    begun: u8,
-}
-
-// Judges the 128 bytes from `from` + 3 on. As in `is_ascii`, the loop has no way out before its end.
-fn judge_block(s: &[u8], from: usize) -> Judged
+// How many of the 128 bytes from `from` + 3 on begin a sequence, if all can stand where they do.
+// As in `is_ascii`, the loop has no way out before its end.
+fn judge_block(s: &[u8], from: usize) -> Option<u8>
     requires { from + 131 ≤ length s.now }
-    ensures all_fit { result.fits ≡ true → AllFit s.now from 128 }
-    ensures from_value { result.fits ≡ false → fits_from s.now from ≡ false }
-    ensures begun { Begun s.now (from + 3) (from + 131) result.begun }
+    ensures { MatchOption result (fits_from s.now from ≡ false) (λ n. AllFit s.now from 128 × Begun s.now (from + 3) (from + 131) n) }
 {
     let mut all = true;
     let mut begun: u8 = 0;
-    let mut j: usize = 0;
-    while j < 128 {
+    for j in 0..128 {
         let i = from + j;
         let d = s[i + 3];
-        all = le::both(all, fits(s[i], s[i + 1], s[i + 2], d));
-        begun += one_unless(continues(d));
-        j += 1;
+        all &= fits(s[i], s[i + 1], s[i + 2], d);
+        begun += u8::from(!continues(d));
     }
-    Judged { fits: all, begun }
+    all.then_some(begun)
 }
 
-// Judges the 16 bytes from `from` + 3 on; the first `skip` of them are not counted. A place is looked up, and counted by twos, because of what LLVM
-// makes of it: BENCHMARKS, "Why it is built so".
-fn judge_window(s: &[u8], from: usize, skip: u8) -> Judged
+// The same of the 16 bytes from `from` + 3 on, the first `skip` of which are not counted. A place is looked up, and counted by twos, because of what
+// LLVM makes of it: BENCHMARKS, "Why it is built so".
+fn judge_window(s: &[u8], from: usize, skip: u8) -> Option<u8>
     requires { (from + 19 ≤ length s.now) × (skip ≤ 16) }
-    ensures all_fit { result.fits ≡ true → AllFit s.now from 16 }
-    ensures from_value { result.fits ≡ false → fits_from s.now from ≡ false }
-    ensures begun { Begun s.now (from + 3 + skip) (from + 19) result.begun }
+    ensures { MatchOption result (fits_from s.now from ≡ false) (λ n. AllFit s.now from 16 × Begun s.now (from + 3 + skip) (from + 19) n) }
 {
     let place: [u8; 16] = [0, 1, 2, 3, 4, 5, 6, 7, 8, 9, 10, 11, 12, 13, 14, 15];
     let mut all = true;
     let mut twice: u8 = 0;
-    let mut j: usize = 0;
-    while j < 16 {
+    for j in 0..16 {
         let i = from + j;
         let d = s[i + 3];
-        all = le::both(all, fits(s[i], s[i + 1], s[i + 2], d));
-        twice += 2 * one_unless(continues(d) | (place[j] < skip));
-        j += 1;
+        all &= fits(s[i], s[i + 1], s[i + 2], d);
+        twice += 2 * u8::from(!(continues(d) | (place[j] < skip)));
     }
-    Judged {
-        fits: all,
-        begun: twice / 2,
-    }
+    all.then_some(twice / 2)
 }
 
 // Whether the 128 bytes from `at` on are ASCII, and no sequence is open before them.
@@ -273,79 +231,66 @@ fn is_plain(s: &[u8], at: usize) -> bool
     if is_open(s[at - 3], s[at - 2], s[at - 1]) {
         return false;
     }
-    is_ascii(s, at, 128)
+    is_ascii(&s[at..at + 128])
 }
 
-// Judges the 128 bytes from `at` on; where they are plain, they all fit.
-fn judge(s: &[u8], at: usize) -> Judged
+// The same of the 128 bytes from `at` on; where they are plain, they all fit.
+fn judge(s: &[u8], at: usize) -> Option<u8>
     requires { (3 ≤ at) × (at + 128 ≤ length s.now) }
-    ensures all_fit { result.fits ≡ true → AllFit s.now (at - 3) 128 }
-    ensures at_value { result.fits ≡ false → fits_from s.now (at - 3) ≡ false }
-    ensures begun { Begun s.now at (at + 128) result.begun }
+    ensures { MatchOption result (fits_from s.now (at - 3) ≡ false) (λ n. AllFit s.now (at - 3) 128 × Begun s.now at (at + 128) n) }
 {
     if is_plain(s, at) {
-        return Judged {
-            fits: true,
-            begun: 128,
-        };
+        return Some(128);
     }
     judge_block(s, at - 3)
 }
 
-// Past the first three bytes, sequence by sequence; of no bytes where there is no sequence.
-fn first(s: &[u8]) -> Way
+// Past the first three bytes, sequence by sequence.
+fn first(s: &[u8]) -> Option<Way>
     requires { 22 ≤ length s.now }
-    ensures judges { 0 < result.len → Judges s.now result.len result.chars }
-    ensures s_value { result.len ≡ 0 → well_formed s.now ≡ false }
+    ensures { MatchOption result (well_formed s.now ≡ false) (λ way. Judges s.now way.len way.chars) }
 {
     let mut at: usize = 0;
     let mut passed: usize = 0;
+    // a `while`: each step is as long as the sequence there
     while at < 3 {
-        let n = sequence(s, at);
-        if n == 0 {
-            return Way { len: 0, chars: 0 };
-        }
-        at += n;
+        at += sequence(s, at)?;
         passed += 1;
     }
-    Way {
+    Some(Way {
         len: at,
         chars: passed,
-    }
+    })
 }
 
-// Where windows can begin: behind the ASCII at the front or, where there is none, the first three bytes; at 0 where the text is ill-formed.
-fn start(s: &[u8], front: usize) -> Way
+// Where windows can begin: behind the ASCII at the front or, where there is none, the first three bytes.
+fn start(s: &[u8], front: usize) -> Option<Way>
     requires { (front + 22 ≤ length s.now) × Ascii s.now 0 front }
-    ensures judges { 0 < result.len → Judges s.now result.len result.chars }
-    ensures s_value { result.len ≡ 0 → well_formed s.now ≡ false }
+    ensures { MatchOption result (well_formed s.now ≡ false) (λ way. Judges s.now way.len way.chars) }
 {
     if 3 <= front {
-        return Way {
+        return Some(Way {
             len: front,
             chars: front,
-        };
+        });
     }
     first(s)
 }
 
-// From there on by blocks of 128 bytes; to 0 where the text is ill-formed.
-fn blocks(s: &[u8], way: Way) -> Way
+// From there on by blocks of 128 bytes.
+fn blocks(s: &[u8], way: Way) -> Option<Way>
     requires { Judges s.now way.len way.chars }
-    ensures judges { 0 < result.len → Judges s.now result.len result.chars }
-    ensures s_value { result.len ≡ 0 → well_formed s.now ≡ false }
+    ensures { MatchOption result (well_formed s.now ≡ false) (λ way. Judges s.now way.len way.chars) }
 {
     let mut at = way.len;
     let mut chars = way.chars;
+    // a `while`: a block is judged with the three bytes before it, which a chunk does not have
     while 128 <= s.len() - at {
-        let judged = judge(s, at);
-        if !judged.fits {
-            return Way { len: 0, chars: 0 };
-        }
+        let begun = judge(s, at)?;
         at += 128;
-        chars += judged.begun as usize;
+        chars += usize::from(begun);
     }
-    Way { len: at, chars }
+    Some(Way { len: at, chars })
 }
 
 // Whether s ends inside a sequence.
@@ -357,38 +302,30 @@ fn ends_open(s: &[u8]) -> bool
     is_open(s[n - 3], s[n - 2], s[n - 1])
 }
 
-// The number of a text by windows of 16 bytes, from `way` on; the last one reaches back. 0 where the text is ill-formed.
-fn windows(s: &[u8], way: Way) -> usize
+// The number of a text by windows of 16 bytes, from `way` on; the last one reaches back.
+fn windows(s: &[u8], way: Way) -> Option<usize>
     requires { Judges s.now way.len way.chars }
-    ensures { result ≡ number_behind 0 s.now }
+    ensures { result ≡ utf8_of s.now }
 {
     let mut at = way.len;
     let mut chars = way.chars;
+    // a `while`: the last window does not begin where the one before it ends
     while at < s.len() {
-        let w = le::min(at, s.len() - 16);
-        let judged = judge_window(s, w - 3, (at - w) as u8);
-        if !judged.fits {
-            return 0;
-        }
+        let w = at.min(s.len() - 16);
+        let begun = judge_window(s, w - 3, (at - w) as u8)?;
         at = w + 16;
-        chars += judged.begun as usize;
+        chars += usize::from(begun);
     }
-    if ends_open(s) { 0 } else { chars }
+    if ends_open(s) { None } else { Some(chars) }
 }
 
-// The number of a text that has more than ASCII and 22 bytes behind `front`; 0 where it is ill-formed.
-fn by_windows(s: &[u8], front: usize) -> usize
+// The number of a text that has more than ASCII and 22 bytes behind `front`.
+fn by_windows(s: &[u8], front: usize) -> Option<usize>
     requires { (front + 22 ≤ length s.now) × Ascii s.now 0 front }
-    ensures { result ≡ number_behind 0 s.now }
+    ensures { result ≡ utf8_of s.now }
 {
-    let begin = start(s, front);
-    if begin.len == 0 {
-        return 0;
-    }
-    let far = blocks(s, begin);
-    if far.len == 0 {
-        return 0;
-    }
+    let begin = start(s, front)?;
+    let far = blocks(s, begin)?;
     windows(s, far)
 }
 
@@ -396,17 +333,7 @@ fn by_windows(s: &[u8], front: usize) -> usize
 fn is_short_ascii(s: &[u8]) -> bool
     ensures { result ≡ true → Ascii s.now 0 (length s.now) }
 {
-    if 8 <= s.len() {
-        return false;
-    }
-    let mut i: usize = 0;
-    while i < s.len() {
-        if 0x80 <= s[i] {
-            return false;
-        }
-        i += 1;
-    }
-    true
+    s.len() < 8 && s.iter().all(|b| *b < 0x80)
 }
 
 // Whether all from `at` on is ASCII, where that is less than eight bytes: the last eight are looked at.
@@ -421,46 +348,36 @@ fn ends_ascii(s: &[u8], at: usize) -> bool
     if 8 <= n - at {
         return false;
     }
-    is_ascii(s, n - 8, 8)
+    is_ascii(&s[n - 8..])
 }
 
-// The number of scalar values of s; 0 where it is ill-formed, and of the empty text.
-pub fn count(s: &[u8]) -> usize
-    ensures { result ≡ pick (well_formed s.now) (chars s.now) 0 }
+// The number of scalar values of s, if it is well-formed UTF-8.
+pub fn from_utf8(s: &[u8]) -> Option<usize>
+    ensures { result ≡ utf8_of s.now }
 {
     if is_short_ascii(s) {
-        return s.len();
+        return Some(s.len());
     }
     let at = front(s);
     if 22 <= s.len() - at {
         return by_windows(s, at);
     }
     if ends_ascii(s, at) {
-        return s.len();
+        return Some(s.len());
     }
     tail(s, at, at)
 }
 
-// Whether s is well-formed UTF-8, and its number of scalar values.
-pub fn from_utf8(s: &[u8]) -> Utf8
-    ensures { result ≡ utf8_of s.now }
+// The number of scalar values of s; 0 where it is ill-formed, and of the empty text.
+pub fn count(s: &[u8]) -> usize
+    ensures { result ≡ pick (well_formed s.now) (chars s.now) 0 }
 {
-    if s.len() == 0 {
-        return Utf8::WellFormed(0);
-    }
-    let n = count(s);
-    if n == 0 {
-        return Utf8::IllFormed;
-    }
-    Utf8::WellFormed(n)
+    from_utf8(s).unwrap_or(0)
 }
 
 // Whether s is well-formed UTF-8.
 pub fn is_utf8(s: &[u8]) -> bool
     ensures { result ≡ well_formed s.now }
 {
-    if s.len() == 0 {
-        return true;
-    }
-    0 < count(s)
+    from_utf8(s).is_some()
 }

@@ -1,5 +1,6 @@
 -- Laws on lists of frames: the good front, the committed front, pages and batches. Assumes nothing.
 use Rattle.std.proofs.Common.{◌≡◌, ℕ, zero, suc, ◌+◌, ◌^◌, ◌<◌, ◌≤◌, Bool, true, false, eqb, List, [], ◌∷◌, ◌++◌, length, get_or, take, sym, refl, ap, ◌∙◌, arith, ne_eqb}
+use Rattle.std.specs.Prelude.{None, Some}
 use mathlib.Core.List.{foldl-append}
 use lib.Seq.{take-length, take-append-le}
 use Rattle.le.specs.Choice.{pick, both}
@@ -8,7 +9,6 @@ use Rattle.frame.specs.Frame.{encode_frame, frame_header, intact}
 use Rattle.frame.proofs.RoundTrip.{whole_back, page-back, count-back, body_back, intact-back}
 use Rattle.mvcc.specs.Seen.{decodes}
 use Rattle.wal.specs.Recovery.{page_of, commit_count, is_commit_frame, is_batch, readable, good, good_front, undecodable, committed_from, committed, last_count, page_in, batches_in}
-use Rattle.wal.specs.declared.LastCommit.TheVariants as commit
 
 -- ---- the good front
 
@@ -227,9 +227,9 @@ committed-more fs gs = committed-through fs gs (committed gs) refl
 
 -- ---- what is looked up in them
 
-pub last_count-snoc : (fs : List (List ℕ)) (f : List ℕ) → last_count (fs ++ (f ∷ [])) ≡ commit.Count (commit_count f)
+pub last_count-snoc : (fs : List (List ℕ)) (f : List ℕ) → last_count (fs ++ (f ∷ [])) ≡ Some (commit_count f)
 unfolding last_count
-last_count-snoc fs f = foldl-append _ commit.Nothing fs (f ∷ [])
+last_count-snoc fs f = foldl-append _ None fs (f ∷ [])
 
 pub page_in-snoc : (p : ℕ) (fs : List (List ℕ)) (f : List ℕ) → page_in p (fs ++ (f ∷ [])) ≡ pick (eqb (page_of f) p) f (page_in p fs)
 unfolding page_in

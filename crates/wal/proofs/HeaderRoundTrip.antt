@@ -1,5 +1,6 @@
 -- A header that was encoded decodes to itself; a header that decodes, and what its answer depends on. Assumes nothing.
 use Rattle.std.proofs.Common.{◌≡◌, ℕ, zero, suc, ◌+◌, ◌^◌, ◌<◌, ◌≤◌, true, leb, List, ◌++◌, length, get_or, take, sym, ap, ◌∙◌, ⊎_elim, append_assoc, zero-add, arith, length-append, length-take, take-take, take_at, eq-eqb, eqb-true, le-leb, leb-true}
+use Rattle.std.specs.Prelude.{Err, Ok}
 use native.Mathlib.Nat.{pow-succ', one-le-pow}
 use lib.Seq.{take-append-le}
 use Rattle.le.specs.Le.{Bytes, le_of, le_bytes, field, same_bytes}
@@ -9,7 +10,6 @@ use Rattle.le.proofs.Compare.{both_true, same_refl, same-equal}
 use Rattle.refusal.proofs.Headers.{read, passed}
 use Rattle.wal.specs.Header.{wal_magic, encode_wal_header, wal_header_in, wal_header_tests, decode_wal_header}
 use Rattle.wal.specs.declared.WalHeader.{WalHeader}
-use Rattle.wal.specs.declared.WalHeaderDecoded.TheVariants as decoded
 use Rattle.wal.proofs.Encoding.{length-wal_magic, length-encode_wal_header}
 
 -- ---- what was encoded decodes to itself
@@ -74,15 +74,15 @@ module _ (h : WalHeader) (rest : List ℕ) where
   unfolding wal_header_in
   header-back p = rw (version-back, salt-back p.salt, seq-back p.seq, clock-back p.clock, ← p.version)
 
-  pub decode-encode : Written h → decode_wal_header (encode_wal_header h ++ rest) ≡ decoded.Header h
+  pub decode-encode : Written h → decode_wal_header (encode_wal_header h ++ rest) ≡ Ok h
   unfolding decode_wal_header
   decode-encode p =
       let n : 32 ≤ length (encode_wal_header h ++ rest) = simp (length-append, length-encode_wal_header) (omega arith) in
       let m : same_bytes (take 8 (encode_wal_header h ++ rest)) wal_magic ≡ true = rw (row, take_at wal_magic behind 8 length-wal_magic) (same_refl wal_magic) in
       let low : 1 ≤ field 4 8 (encode_wal_header h ++ rest) = rw version-back (omega arith) in
       let high : field 4 8 (encode_wal_header h ++ rest) ≤ 3 = rw version-back (omega arith) in
-      sym (read decoded.Refused (decoded.Header (wal_header_in (encode_wal_header h ++ rest))) (wal_header_tests (encode_wal_header h ++ rest)) (le-leb _ _ n) m
-      (rw (le-leb _ _ low, le-leb _ _ high)) (eq-eqb _ _ size_back)) ∙ ap decoded.Header (header-back p)
+      sym (read Err (Ok (wal_header_in (encode_wal_header h ++ rest))) (wal_header_tests (encode_wal_header h ++ rest)) (le-leb _ _ n) m
+      (rw (le-leb _ _ low, le-leb _ _ high)) (eq-eqb _ _ size_back)) ∙ ap Ok (header-back p)
 
 -- ---- what a header that was decoded says of the bytes
 
@@ -94,12 +94,12 @@ pub record Read (l : List ℕ) (h : WalHeader) : Type 0 where
   pub paged : field 4 12 l ≡ 4096
   pub fields : wal_header_in l ≡ h
 
-pub decoded-as : (l : List ℕ) (h : WalHeader) → decode_wal_header l ≡ decoded.Header h → Read l h
+pub decoded-as : (l : List ℕ) (h : WalHeader) → decode_wal_header l ≡ Ok h → Read l h
 unfolding decode_wal_header
 decoded-as l h e =
-    let p = passed decoded.Refused (decoded.Header (wal_header_in l)) (decoded.Header h) (λ r f. let z : ◌≡◌ {A = ℕ} 0 1 = cc in absurd (omega arith)) (wal_header_tests l) e in
+    let p = passed Err (Ok (wal_header_in l)) (Ok h) (λ r f. let z : ◌≡◌ {A = ℕ} 0 1 = cc in absurd (omega arith)) (wal_header_tests l) e in
     let w = both_true (leb 1 (field 4 8 l)) (leb (field 4 8 l) 3) p.version in
-    let d : decoded.Header (wal_header_in l) ≡ decoded.Header h = p.same in
+    let d : Ok (wal_header_in l) ≡ Ok h = p.same in
     record {
       long = leb-true _ _ p.long;
       leading = same-equal (take 8 l) wal_magic p.leading;

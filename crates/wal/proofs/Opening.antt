@@ -1,16 +1,14 @@
 -- What an open log knows: the laws of its numbers. Assumes nothing.
 use Rattle.std.proofs.Common.{◌≡◌, ℕ, ◌+◌, ◌-◌, ◌*◌, ◌/◌, ◌%◌, ◌^◌, ◌<◌, ◌≤◌, Bool, true, false, eqb, leb, List, [], ◌∷◌, ◌++◌, length, take, sym, refl, ap, ◌∙◌, arith, length-append, length-take-le, eq-eqb, le-leb, leb-true}
+use Rattle.std.specs.Prelude.{Err, Ok, Result}
 use Rattle.le.specs.Choice.{pick}
 use Rattle.refusal.specs.declared.Refusal.TheVariants as refusal
+use Rattle.refusal.specs.declared.Refusal.{Refusal}
 use Rattle.wal.specs.Header.{wal_header_in, decode_wal_header}
 use Rattle.wal.specs.Recovery.{chunks, commit_count, committed, last_count, Recovered, recovered, committed_frames, good_end_of, commit_point, last_commit_of, frame_count_of, wal_of, wal_area, opened_by, open_log}
 use Rattle.wal.specs.Write.{empty_wal, longer, with_frame}
 use Rattle.wal.specs.declared.WalHeader.{WalHeader}
-use Rattle.wal.specs.declared.WalHeaderDecoded.{WalHeaderDecoded}
-use Rattle.wal.specs.declared.WalHeaderDecoded.TheVariants as decoded
 use Rattle.wal.specs.declared.Wal.{Wal}
-use Rattle.wal.specs.declared.WalOpened.{WalOpened}
-use Rattle.wal.specs.declared.WalOpened.TheVariants as opened
 use Rattle.wal.proofs.HeaderRoundTrip.{decoded-as}
 use Rattle.wal.proofs.Places.{length-chunks}
 use Rattle.wal.proofs.Frames.{count_most, committed-snoc, committed-again, last_count-snoc}
@@ -56,24 +54,24 @@ module _ (n : ℕ) (r : Recovered) (f : List ℕ) where
 pub record OpenLog (l : List ℕ) (w : Wal) : Type 0 where
   pub area : length l ≤ wal_area
   pub long : 32 ≤ length l
-  pub header : decode_wal_header l ≡ decoded.Header w.header
+  pub header : decode_wal_header l ≡ Ok w.header
   pub known : w ≡ wal_of (length l) (recovered l)
 
-area-of : (t : Bool) (x : WalOpened) (w : Wal) → pick t x (opened.Refused refusal.Area) ≡ opened.Opened w → (t ≡ true) × (x ≡ opened.Opened w)
+area-of : (t : Bool) (x : Result Wal Refusal) (w : Wal) → pick t x (Err refusal.Area) ≡ Ok w → (t ≡ true) × (x ≡ Ok w)
 area-of true x w e = (refl, e)
 area-of false x w e = let z : ◌≡◌ {A = ℕ} 0 1 = cc in absurd (omega arith)
 
 -- the header that was decoded, and the log that was opened
-record By (d : WalHeaderDecoded) (v w : Wal) : Type 0 where
+record By (d : Result WalHeader Refusal) (v w : Wal) : Type 0 where
   found : WalHeader
-  header : d ≡ decoded.Header found
+  header : d ≡ Ok found
   same : v ≡ w
 
-opened-by : (d : WalHeaderDecoded) (v w : Wal) → opened_by d v ≡ opened.Opened w → By d v w
-opened-by (decoded.Header h) v w e = let k : v ≡ w = cc in record { found = h; header = refl; same = k }
-opened-by (decoded.Refused r) v w e = let z : ◌≡◌ {A = ℕ} 0 1 = cc in absurd (omega arith)
+opened-by : (d : Result WalHeader Refusal) (v w : Wal) → opened_by d v ≡ Ok w → By d v w
+opened-by (Ok h) v w e = let k : v ≡ w = cc in record { found = h; header = refl; same = k }
+opened-by (Err r) v w e = let z : ◌≡◌ {A = ℕ} 0 1 = cc in absurd (omega arith)
 
-pub open-known : (l : List ℕ) (w : Wal) → open_log l ≡ opened.Opened w → OpenLog l w
+pub open-known : (l : List ℕ) (w : Wal) → open_log l ≡ Ok w → OpenLog l w
 unfolding open_log wal_of recovered
 open-known l w e =
     let a = area-of (leb (length l) wal_area) _ w e in
@@ -83,19 +81,19 @@ open-known l w e =
     record {
       area = leb-true _ _ a.0;
       long = r.long;
-      header = b.header ∙ ap decoded.Header (sym r.fields ∙ h);
+      header = b.header ∙ ap Ok (sym r.fields ∙ h);
       known = sym b.same;
     }
 
 -- what opening answers is what decoding the header says, in a log that is not too long
-pub opened-as : (l : List ℕ) {d : WalHeaderDecoded} → length l ≤ wal_area → decode_wal_header l ≡ d
+pub opened-as : (l : List ℕ) {d : (Result WalHeader Refusal)} → length l ≤ wal_area → decode_wal_header l ≡ d
     → opened_by d (wal_of (length l) (recovered l)) ≡ open_log l
 unfolding open_log
 opened-as l a e = rw (le-leb (length l) 4210720 a, e)
 
 -- .. so it opens where the header decodes
-pub opens : (l : List ℕ) (h : WalHeader) → length l ≤ wal_area → decode_wal_header l ≡ decoded.Header h
-    → open_log l ≡ opened.Opened (wal_of (length l) (recovered l))
+pub opens : (l : List ℕ) (h : WalHeader) → length l ≤ wal_area → decode_wal_header l ≡ Ok h
+    → open_log l ≡ Ok (wal_of (length l) (recovered l))
 opens l h a d = sym (opened-as l a d)
 
 -- ---- its numbers

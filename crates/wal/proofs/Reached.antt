@@ -1,5 +1,6 @@
 -- However a log was opened or made and then appended to: its reads go through good, committed frames. Assumes nothing.
 use Rattle.std.proofs.Common.{◌≡◌, ℕ, ◌+◌, ◌^◌, ◌<◌, ◌≤◌, Bool, true, false, eqb, leb, List, [], ◌++◌, length, get_or, take, drop, sym, refl, ap, ◌∙◌, ⊎_elim, arith, length-drop, take-append-drop, length-take, length-take-le, take_all, take-take, eq-eqb, ne_eqb, eqb-true, le-leb, leb-true}
+use Rattle.std.specs.Prelude.{Err, Ok}
 use Rattle.le.specs.Choice.{pick}
 use Rattle.le.specs.Le.{Bytes, put}
 use Rattle.le.proofs.Compare.{both_true}
@@ -15,11 +16,6 @@ use Rattle.wal.specs.Write.{empty_wal, with_header, created_header, create_answe
 use Rattle.wal.specs.Reached.{log_file, Reached, by-open, by-create, by-truncate, by_append, by-clock, by-empty}
 use Rattle.wal.specs.declared.WalHeader.{WalHeader}
 use Rattle.wal.specs.declared.Wal.{Wal}
-use Rattle.wal.specs.declared.WalOpened.TheVariants as opened
-use Rattle.wal.specs.declared.WalCreated.TheVariants as created
-use Rattle.wal.specs.declared.WalTruncated.TheVariants as truncated
-use Rattle.wal.specs.declared.FrameAppended.TheVariants as appended
-use Rattle.wal.specs.declared.ClockSet.TheVariants as clock
 use Rattle.wal.proofs.Encoding.{length-encode_wal_header}
 use Rattle.wal.proofs.HeaderRoundTrip.{Written, Fits, header-fits, header-append}
 use Rattle.wal.proofs.Places.{runs-short}
@@ -30,19 +26,19 @@ use Rattle.wal.proofs.Kept.{Kept, kept_frames, kept-known, kept-long, kept_frame
 
 -- ---- what an answer says
 
-created-as : (t : Bool) (x w : Wal) → pick t (created.Created x) (created.Refused refusal.Area) ≡ created.Created w → (t ≡ true) × (x ≡ w)
+created-as : (t : Bool) (x w : Wal) → pick t (Ok x) (Err refusal.Area) ≡ Ok w → (t ≡ true) × (x ≡ w)
 created-as true x w e = let h : x ≡ w = cc in (refl, h)
 created-as false x w e = let z : ◌≡◌ {A = ℕ} 0 1 = cc in absurd (omega arith)
 
-truncated-as : (t : Bool) (x w : Wal) → pick t (truncated.Truncated x) (truncated.Refused refusal.Area) ≡ truncated.Truncated w → (t ≡ true) × (x ≡ w)
+truncated-as : (t : Bool) (x w : Wal) → pick t (Ok x) (Err refusal.Area) ≡ Ok w → (t ≡ true) × (x ≡ w)
 truncated-as true x w e = let h : x ≡ w = cc in (refl, h)
 truncated-as false x w e = let z : ◌≡◌ {A = ℕ} 0 1 = cc in absurd (omega arith)
 
-clock-as : (t : Bool) (x w : Wal) → pick t (clock.Set x) (clock.Refused refusal.Clock) ≡ clock.Set w → x ≡ w
+clock-as : (t : Bool) (x w : Wal) → pick t (Ok x) (Err refusal.Clock) ≡ Ok w → x ≡ w
 clock-as true x w e = cc
 clock-as false x w e = let z : ◌≡◌ {A = ℕ} 0 1 = cc in absurd (omega arith)
 
-appended-by : (s t : Bool) (x w : Wal) → pick s (pick t (appended.Appended x) (appended.Refused refusal.LogFull)) (appended.Refused refusal.Area) ≡ appended.Appended w
+appended-by : (s t : Bool) (x w : Wal) → pick s (pick t (Ok x) (Err refusal.LogFull)) (Err refusal.Area) ≡ Ok w
     → (s ≡ true) × (t ≡ true) × (x ≡ w)
 appended-by true true x w e = let h : x ≡ w = cc in (refl, refl, h)
 appended-by true false x w e = let z : ◌≡◌ {A = ℕ} 0 1 = cc in absurd (omega arith)
@@ -56,7 +52,7 @@ pub record Appended (l : List ℕ) (w : Wal) (page : ℕ) (body : List ℕ) (cou
   pub is : v ≡ longer (joins w (readable_as page body)) w count
   pub bytes : append_frame_after l w page body count ≡ put l w.len (encode_frame page count w.header.salt body)
 
-pub appended-as : (l : List ℕ) (w : Wal) (page : ℕ) (body : List ℕ) (count : ℕ) (v : Wal) → append_frame_answer l w page body count ≡ appended.Appended v
+pub appended-as : (l : List ℕ) (w : Wal) (page : ℕ) (body : List ℕ) (count : ℕ) (v : Wal) → append_frame_answer l w page body count ≡ Ok v
     → Appended l w page body count v
 unfolding append_frame_answer append_frame_after
 appended-as l w page body count v e =
@@ -81,7 +77,7 @@ take_again n l =
     (λ h. let e : take n l ≡ l = take_all n l (omega arith) in rw e (take_all (length l) l (omega arith)))
     (le-or-lt n (length l))
 
-opened-kept : (area : List ℕ) (w : Wal) (n : ℕ) → Bytes area → open_log (take n area) ≡ opened.Opened w → Kept (log_file area w) w
+opened-kept : (area : List ℕ) (w : Wal) (n : ℕ) → Bytes area → open_log (take n area) ≡ Ok w → Kept (log_file area w) w
 opened-kept area w n b e =
     let o = open-known (take n area) w e in
     let f : Fits w.header = rw (known-header (take n area) w o.known) (header-fits (take n area) (bytes_take n area b)) in
@@ -120,7 +116,7 @@ emptied-kept area w k =
     })
 
 module _ (area : List ℕ) (w v : Wal) (k : Kept (log_file area w) w) where
-  appended-kept : (page : ℕ) (body : List ℕ) (count : ℕ) → page < 2 ^ 32 → count < 2 ^ 32 → append_frame_answer area w page body count ≡ appended.Appended v
+  appended-kept : (page : ℕ) (body : List ℕ) (count : ℕ) → page < 2 ^ 32 → count < 2 ^ 32 → append_frame_answer area w page body count ≡ Ok v
       → Kept (log_file (append_frame_after area w page body count) v) v
   unfolding longer
   appended-kept page body count hp hc e =
@@ -130,20 +126,20 @@ module _ (area : List ℕ) (w v : Wal) (k : Kept (log_file area w) w) where
       file-longer 4112 area w.len f (length-encode_frame page count w.header.salt body a.paged) (omega (arith, a.area, a.room)) in
       rw (a.is, a.bytes, t) (kept_frame (log_file area w) w k page count body a.paged hp hc)
 
-  truncated-kept : (salt : ℕ) → salt < 2 ^ 32 → truncate_answer area w salt ≡ truncated.Truncated v → Kept (log_file (truncate_after area w salt) v) v
+  truncated-kept : (salt : ℕ) → salt < 2 ^ 32 → truncate_answer area w salt ≡ Ok v → Kept (log_file (truncate_after area w salt) v) v
   unfolding truncate_answer truncate_after
   truncated-kept salt h e =
       let p = truncated-as (area_fine area w) (empty_wal (truncated_header w.header salt)) v e in
       let n : length area ≡ 4210720 = eqb-true _ _ (both_true (eqb (length area) 4210720) (leb w.len 4210720) p.0).0 in
       rw (← p.1, p.0) (headed-kept area (truncated_header w.header salt) n (truncated-written w.header salt h k.header.clock))
 
-  clock-kept : (value : ℕ) → value < 2 ^ 64 → clock_answer w value ≡ clock.Set v → Kept (log_file area v) v
+  clock-kept : (value : ℕ) → value < 2 ^ 64 → clock_answer w value ≡ Ok v → Kept (log_file area v) v
   unfolding clock_answer with_clock
   clock-kept value h e =
       let p = clock-as (leb w.header.clock_high_water value) (with_clock w value) v e in
       rw (← p) (kept-clock (log_file area w) w k value h)
 
-created-kept : (area : List ℕ) (w : Wal) (salt : ℕ) → salt < 2 ^ 32 → create_answer area salt ≡ created.Created w → Kept (log_file (with_header area (created_header salt)) w) w
+created-kept : (area : List ℕ) (w : Wal) (salt : ℕ) → salt < 2 ^ 32 → create_answer area salt ≡ Ok w → Kept (log_file (with_header area (created_header salt)) w) w
 unfolding create_answer
 created-kept area w salt h e =
     let p = created-as (eqb (length area) 4210720) (empty_wal (created_header salt)) w e in
@@ -165,7 +161,7 @@ unfolding append_frame_answer append_frame_after
 reached-longer {area} {w} page body hp nb na o g r =
     let k : w.len + 4112 ≤ 4210720 = leb-true _ _ o in
     let h : w.len ≤ 4210720 = omega arith in
-    let e : append_frame_answer area w page body 0 ≡ appended.Appended (with_frame w 0) = rw (eq-eqb _ _ nb, eq-eqb _ _ na, le-leb _ _ h, o, g) in
+    let e : append_frame_answer area w page body 0 ≡ Ok (with_frame w 0) = rw (eq-eqb _ _ nb, eq-eqb _ _ na, le-leb _ _ h, o, g) in
     let a : append_frame_after area w page body 0 ≡ put area w.len (encode_frame page 0 w.header.salt body) =
     rw (eq-eqb _ _ nb, eq-eqb _ _ na, le-leb _ _ h, o) in
     rw (← a) (by_append page body 0 hp (omega arith) r e)

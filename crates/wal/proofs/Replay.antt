@@ -1,16 +1,17 @@
 -- The reading of a log, frame by frame: what is known before each, and each way to go on or to end. Assumes nothing.
-use Rattle.std.proofs.Common.{◌≡◌, ℕ, suc, ◌+◌, ◌*◌, ◌^◌, ◌<◌, ◌≤◌, Bool, true, false, leb, List, [], ◌∷◌, ◌++◌, length, take, drop, sym, refl, ap, ◌∙◌, ⊎_elim, append_assoc, append-nil, arith, length-take, le-leb, leb-true}
+use Rattle.std.proofs.Common.{◌≡◌, ℕ, suc, ◌+◌, ◌*◌, ◌^◌, ◌<◌, ◌≤◌, Bool, true, false, leb, List, [], ◌∷◌, ◌++◌, length, take, drop, sym, refl, ap, subst, ◌∙◌, ⊎_elim, append_assoc, append-nil, arith, length-take, le-leb, leb-true}
 use Rattle.le.proofs.Tests.{le-or-lt}
 use Rattle.le.proofs.Compare.{both_true}
 use Rattle.frame.specs.Frame.{frame_at, intact, intact_at}
 use Rattle.wal.specs.Header.{wal_header_in}
 use Rattle.wal.specs.Recovery.{chunks, chunk_at, commit_count, readable, good, good_front, undecodable, Recovered, recovered, wal_of}
-use Rattle.wal.specs.Write.{empty_wal, with_frame}
+use Rattle.wal.specs.Write.{empty_wal, longer, with_frame}
 use Rattle.wal.specs.declared.Wal.{Wal}
 use Rattle.wal.proofs.Places.{length-chunks, chunk-gone, chunk-there, take_chunk}
 use Rattle.wal.proofs.Frames.{good-cons, good_none, undecodable-cons, undecodable-here}
 use Rattle.wal.proofs.Recovered.{extended}
 use Rattle.wal.proofs.Opening.{wal-empty, wal-append}
+use Rattle.wal.specs.declared.WalHeader.{WalHeader}
 
 -- what the first i chunks are, all read
 abbrev read_to : List ℕ → ℕ → Recovered
@@ -25,20 +26,25 @@ pub record Reading (l : List ℕ) (w : Wal) (at : ℕ) : Type 0 where
   pub frames : (recovered l).frames ≡ take index (chunks l) ++ good_front (wal_header_in l).salt (drop index (chunks l))
   pub stopped : (recovered l).stopped ≡ undecodable (wal_header_in l).salt (drop index (chunks l))
 
+-- a frame more
+pub frame_longer : {v : Wal} (w : Wal) (count : ℕ) → v ≡ with_frame w count → v.len ≡ w.len + 4112
+unfolding longer
+frame_longer w count e = ap (λ (x : Wal). x.len) e
+
+-- what the test of a frame says, by the header that was read
+pub tested : (l : List ℕ) (at : ℕ) (h : WalHeader) {b t : Bool} → h ≡ wal_header_in l → b ≡ intact_at l at h.salt → b ≡ t → intact_at l at (wal_header_in l).salt ≡ t
+tested l at h e p q = rw (ap (λ (x : WalHeader). x.salt) e) at (sym p ∙ q)
+
 -- as many frames as chunks were read
 length-read : (l : List ℕ) (i : ℕ) → i ≤ length (chunks l) → length (take i (chunks l)) ≡ i
 length-read l i h = simp length-take (omega arith)
 
-pub reading-starts : (l : List ℕ) {w : Wal} → w ≡ empty_wal (wal_header_in l) → Reading l w 32
-unfolding recovered
+pub reading-starts : (l : List ℕ) {w : Wal} → w ≡ empty_wal (wal_header_in l) → Reading l w w.len
+unfolding recovered empty_wal
 reading-starts l e =
-    record { index = 0; within = omega arith; place = refl; state = e ∙ sym (wal-empty (wal_header_in l)); frames = refl; stopped = refl }
+    subst (λ (x : Wal). Reading l x x.len) (sym e) (record { index = 0; within = omega arith; place = refl; state = sym (wal-empty (wal_header_in l)); frames = refl; stopped = refl })
 
 module _ (l : List ℕ) (w : Wal) (at : ℕ) (r : Reading l w at) where
-  pub reading-len : w.len ≡ at
-  unfolding wal_of
-  reading-len = ap (λ (x : Wal). x.len) r.state
-
   pub reading-count : w.frame_count ≡ r.index
   unfolding wal_of
   reading-count =

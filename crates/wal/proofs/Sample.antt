@@ -1,13 +1,12 @@
 -- Document 01's sample log: "version 3, salt, sequence and clock 0, and the two page-1 frames above". Assumes nothing.
 use Rattle.std.proofs.Common.{◌≡◌, ℕ, true, false, List, [], ◌∷◌, ◌++◌, length, replicate, refl, ap, ◌∙◌, append-nil, arith, length-append}
+use Rattle.std.specs.Prelude.{Ok, Some}
 use lib.ListN.{length-replicate}
 use Rattle.frame.specs.Frame.{encode_frame, intact_at}
 use Rattle.frame.proofs.Stores.{length-encode_frame}
 use Rattle.wal.specs.Header.{encode_wal_header, wal_header_in}
 use Rattle.wal.specs.Recovery.{commit_count, good, good_at, good_front, committed, last_count, recovered, wal_of, open_log}
 use Rattle.wal.specs.Write.{created_header}
-use Rattle.wal.specs.declared.LastCommit.TheVariants as commit
-use Rattle.wal.specs.declared.WalOpened.TheVariants as opened
 use Rattle.wal.proofs.Encoding.{length-encode_wal_header}
 use Rattle.wal.proofs.HeaderRoundTrip.{header-back, decode-encode}
 use Rattle.wal.proofs.Frames.{good-page, count-encoded, committed-snoc, last_count-snoc}
@@ -60,9 +59,9 @@ committed-both : committed frames ≡ frames
 unfolding frames
 committed-both = committed-snoc (page-frame 0 ∷ []) (page-frame 2) ∙ rw count-two
 
-last-two : last_count frames ≡ commit.Count 2
+last-two : last_count frames ≡ Some 2
 unfolding frames
-last-two = last_count-snoc (page-frame 0 ∷ []) (page-frame 2) ∙ ap commit.Count count-two
+last-two = last_count-snoc (page-frame 0 ∷ []) (page-frame 2) ∙ ap Some count-two
 
 length-sample : length sample ≡ 8256
 unfolding sample frames
@@ -70,12 +69,12 @@ length-sample = simp (length-append, length-encode_wal_header, length-joined fra
 
 -- "end 2 8256 2"
 pub sample-opens : open_log sample
-    ≡ opened.Opened (record {
+    ≡ Ok (record {
       header = created_header 0;
       len = 8256;
       good_end = 8256;
       last_commit_offset = 8256;
-      last_commit_page_count = commit.Count 2;
+      last_commit_page_count = Some 2;
       frame_count = 2;
     })
 unfolding sample wal_of frames

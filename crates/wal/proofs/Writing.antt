@@ -1,5 +1,6 @@
 -- What the stores into a log leave, and what the log is afterwards. Assumes nothing.
 use Rattle.std.proofs.Common.{◌≡◌, ℕ, ◌+◌, ◌*◌, ◌^◌, ◌<◌, ◌≤◌, true, false, List, [], ◌++◌, length, take, drop, sym, refl, ap, ◌∙◌, append_assoc, append-nil, arith, length-append, length-drop, length-take, take_at, eq-eqb, ne_eqb, le-leb}
+use Rattle.std.specs.Prelude.{Err, Ok}
 use borrow.Author.Tests.{lt-leb}
 use Rattle.le.specs.Le.{put, store}
 use Rattle.le.proofs.Stores.{store-put}
@@ -10,9 +11,7 @@ use Rattle.wal.specs.Header.{encode_wal_header, wal_header_in, decode_wal_header
 use Rattle.wal.specs.Recovery.{chunks, readable_as, good, good_front, undecodable, commit_count, Recovered, recovered, wal_of}
 use Rattle.wal.specs.Write.{empty_wal, with_header, created_header, truncated_header, longer, joins, with_frame, append_frame_answer, append_frame_after}
 use Rattle.wal.specs.declared.WalHeader.{WalHeader}
-use Rattle.wal.specs.declared.WalHeaderDecoded.TheVariants as decoded
 use Rattle.wal.specs.declared.Wal.{Wal}
-use Rattle.wal.specs.declared.FrameAppended.TheVariants as appended
 use Rattle.wal.proofs.Encoding.{length-encode_wal_header}
 use Rattle.wal.proofs.HeaderRoundTrip.{Written, header-back, decode-encode}
 use Rattle.wal.proofs.Places.{length-chunks, chunks-append, runs-short, runs-one}
@@ -36,29 +35,29 @@ module _ (l : List ℕ) (h : WalHeader) where
 -- ---- a frame
 
 module _ (l : List ℕ) (w : Wal) (page : ℕ) (body : List ℕ) (count : ℕ) where
-  pub body_refused : (length body ≡ 4096 → ⊥) → (appended.Refused refusal.Area ≡ append_frame_answer l w page body count) × (l ≡ append_frame_after l w page body count)
+  pub body_refused : (length body ≡ 4096 → ⊥) → (Err refusal.Area ≡ append_frame_answer l w page body count) × (l ≡ append_frame_after l w page body count)
   unfolding append_frame_answer append_frame_after
   body_refused n = (rw (ne_eqb _ _ n), rw (ne_eqb _ _ n))
 
   module _ (nb : length body ≡ 4096) where
-    pub area-refused : (length l ≡ 4210720 → ⊥) → (appended.Refused refusal.Area ≡ append_frame_answer l w page body count) × (l ≡ append_frame_after l w page body count)
+    pub area-refused : (length l ≡ 4210720 → ⊥) → (Err refusal.Area ≡ append_frame_answer l w page body count) × (l ≡ append_frame_after l w page body count)
     unfolding append_frame_answer append_frame_after
     area-refused n = (rw (eq-eqb _ _ nb, ne_eqb _ _ n), rw (eq-eqb _ _ nb, ne_eqb _ _ n))
 
     pub length-refused : length l ≡ 4210720 → 4210720 < w.len
-        → (appended.Refused refusal.Area ≡ append_frame_answer l w page body count) × (l ≡ append_frame_after l w page body count)
+        → (Err refusal.Area ≡ append_frame_answer l w page body count) × (l ≡ append_frame_after l w page body count)
     unfolding append_frame_answer append_frame_after
     length-refused n h = (rw (eq-eqb _ _ nb, eq-eqb _ _ n, lt-leb _ _ h), rw (eq-eqb _ _ nb, eq-eqb _ _ n, lt-leb _ _ h))
 
     pub log-full : length l ≡ 4210720 → w.len ≤ 4210720 → 4210720 < w.len + 4112
-        → (appended.Refused refusal.LogFull ≡ append_frame_answer l w page body count) × (l ≡ append_frame_after l w page body count)
+        → (Err refusal.LogFull ≡ append_frame_answer l w page body count) × (l ≡ append_frame_after l w page body count)
     unfolding append_frame_answer append_frame_after
     log-full n h k =
         (rw (eq-eqb _ _ nb, eq-eqb _ _ n, le-leb _ _ h, lt-leb _ _ k), rw (eq-eqb _ _ nb, eq-eqb _ _ n, le-leb _ _ h, lt-leb _ _ k))
 
     pub frame-appended : {m : List ℕ} {v : Wal} → length l ≡ 4210720 → w.len + 4112 ≤ 4210720
         → m ≡ frame_after l w.len page count w.header.salt body → v ≡ longer (joins w (readable_as page body)) w count
-        → (appended.Appended v ≡ append_frame_answer l w page body count) × (m ≡ append_frame_after l w page body count)
+        → (Ok v ≡ append_frame_answer l w page body count) × (m ≡ append_frame_after l w page body count)
     unfolding append_frame_answer append_frame_after frame_after
     frame-appended n k e f =
         let h : w.len ≤ 4210720 = omega arith in
@@ -95,7 +94,7 @@ module _ (h : WalHeader) (p : Written h) where
   header-alone : wal_header_in (encode_wal_header h) ≡ h
   header-alone = rw append-nil at (header-back h [] p)
 
-  pub alone-decodes : decode_wal_header (encode_wal_header h) ≡ decoded.Header h
+  pub alone-decodes : decode_wal_header (encode_wal_header h) ≡ Ok h
   alone-decodes = rw append-nil at (decode-encode h [] p)
 
   alone-chunks : chunks (encode_wal_header h) ≡ []

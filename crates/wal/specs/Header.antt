@@ -1,13 +1,12 @@
 -- The log's header: document 01's line on `wal.rs`, "Header, 32 bytes".
-use Rattle.std.specs.Prelude.{ℕ, Bool, List, [], ◌∷◌, ◌++◌, length, take, ◌==◌, nat_le}
+use Rattle.std.specs.Prelude.{Err, Ok, Result, ℕ, Bool, List, [], ◌∷◌, ◌++◌, length, take, ◌==◌, nat_le}
 use Rattle.le.specs.Choice.{both}
 use Rattle.le.specs.Le.{le_bytes, field, same_bytes}
 use Rattle.page.specs.Page.{page_size}
 use Rattle.refusal.specs.Refusal.{answered}
 use Rattle.refusal.specs.Headers.{Tests, header_refusal}
+use Rattle.refusal.specs.declared.Refusal.{Refusal}
 use Rattle.wal.specs.declared.WalHeader.{WalHeader}
-use Rattle.wal.specs.declared.WalHeaderDecoded.{WalHeaderDecoded}
-use Rattle.wal.specs.declared.WalHeaderDecoded.TheVariants as decoded
 
 -- "Header, 32 bytes"
 abbrev pub header_size : ℕ
@@ -51,5 +50,5 @@ wal_header_tests l =
       paged = (field 4 12 l == page_size);
     }
 
-unfoldable pub decode_wal_header : List ℕ → WalHeaderDecoded
-decode_wal_header l = answered decoded.Refused (decoded.Header (wal_header_in l)) (header_refusal (wal_header_tests l))
+unfoldable pub decode_wal_header : List ℕ → Result WalHeader Refusal
+decode_wal_header l = answered Err (Ok (wal_header_in l)) (header_refusal (wal_header_tests l))

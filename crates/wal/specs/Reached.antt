@@ -2,16 +2,11 @@
 -- The bounds are what the machine's types say of the arguments. A log made up of numbers is none of these: of `Wal::empty` with
 -- another header than the log's own, and of `Wal::longer` where no readable frame was stored at the log's length with count 0
 -- (where one was, `longer` is an append: `reached-longer` of proofs/Reached.antt), nothing is said.
-use Rattle.std.specs.Prelude.{◌≡◌, ℕ, ◌^◌, ◌<◌, List, take}
+use Rattle.std.specs.Prelude.{Ok, ◌≡◌, ℕ, ◌^◌, ◌<◌, List, take}
 use Rattle.le.specs.Le.{Bytes}
 use Rattle.wal.specs.Recovery.{open_log}
 use Rattle.wal.specs.Write.{empty_wal, create_answer, create_after, truncate_answer, truncate_after, append_frame_answer, append_frame_after, clock_answer}
 use Rattle.wal.specs.declared.Wal.{Wal}
-use Rattle.wal.specs.declared.WalOpened.TheVariants as opened
-use Rattle.wal.specs.declared.WalCreated.TheVariants as created
-use Rattle.wal.specs.declared.WalTruncated.TheVariants as truncated
-use Rattle.wal.specs.declared.FrameAppended.TheVariants as appended
-use Rattle.wal.specs.declared.ClockSet.TheVariants as clock
 
 -- the log's bytes
 abbrev pub log_file : List ℕ → Wal → List ℕ
@@ -19,12 +14,12 @@ log_file area w = take w.len area
 
 pub data Reached : List ℕ → Wal → Type 0 where
   -- the area's first n bytes, whatever they are
-  by-open : (area : List ℕ) {w : Wal} (n : ℕ) → Bytes area → open_log (take n area) ≡ opened.Opened w → Reached area w
-  by-create : (area : List ℕ) {w : Wal} (salt : ℕ) → salt < 2 ^ 32 → create_answer area salt ≡ created.Created w → Reached (create_after area salt) w
-  by-truncate : {area : List ℕ} {w v : Wal} (salt : ℕ) → salt < 2 ^ 32 → Reached area w → truncate_answer area w salt ≡ truncated.Truncated v
+  by-open : (area : List ℕ) {w : Wal} (n : ℕ) → Bytes area → open_log (take n area) ≡ Ok w → Reached area w
+  by-create : (area : List ℕ) {w : Wal} (salt : ℕ) → salt < 2 ^ 32 → create_answer area salt ≡ Ok w → Reached (create_after area salt) w
+  by-truncate : {area : List ℕ} {w v : Wal} (salt : ℕ) → salt < 2 ^ 32 → Reached area w → truncate_answer area w salt ≡ Ok v
       → Reached (truncate_after area w salt) v
   by_append : {area : List ℕ} {w v : Wal} (page : ℕ) (body : List ℕ) (count : ℕ) → page < 2 ^ 32 → count < 2 ^ 32 → Reached area w
-      → append_frame_answer area w page body count ≡ appended.Appended v → Reached (append_frame_after area w page body count) v
-  by-clock : {area : List ℕ} {w v : Wal} (value : ℕ) → value < 2 ^ 64 → Reached area w → clock_answer w value ≡ clock.Set v → Reached area v
+      → append_frame_answer area w page body count ≡ Ok v → Reached (append_frame_after area w page body count) v
+  by-clock : {area : List ℕ} {w v : Wal} (value : ℕ) → value < 2 ^ 64 → Reached area w → clock_answer w value ≡ Ok v → Reached area v
   -- the log cut to its header, as a checkpoint's "log length 32" leaves it
   by-empty : {area : List ℕ} {w : Wal} → Reached area w → Reached area (empty_wal w.header)

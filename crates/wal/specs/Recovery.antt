@@ -1,20 +1,15 @@
 -- What reading a log finds: document 01's line on `wal.rs`, from "Frames stand at" to "a final undecodable batch frame".
 -- A frame is the list of its 4,112 bytes.
-use Rattle.std.specs.Prelude.{ℕ, zero, suc, ◌+◌, ◌*◌, ◌/◌, Bool, true, false, List, [], ◌∷◌, length, take, drop, ◌==◌, nat_le}
+use Rattle.std.specs.Prelude.{Err, None, Ok, Option, Result, Some, ℕ, zero, suc, ◌+◌, ◌*◌, ◌/◌, Bool, true, false, List, [], ◌∷◌, length, take, drop, ◌==◌, nat_le}
 use mathlib.Core.List.{foldl}
 use Rattle.le.specs.Choice.{pick, both}
 use Rattle.frame.specs.Frame.{frame_size, frame_at, frame_header, body_of, is_commit, intact, intact_at}
 use Rattle.mvcc.specs.Seen.{decodes}
 use Rattle.refusal.specs.declared.Refusal.TheVariants as refusal
+use Rattle.refusal.specs.declared.Refusal.{Refusal}
 use Rattle.wal.specs.Header.{header_size, wal_header_in, decode_wal_header}
 use Rattle.wal.specs.declared.WalHeader.{WalHeader}
-use Rattle.wal.specs.declared.WalHeaderDecoded.{WalHeaderDecoded}
-use Rattle.wal.specs.declared.WalHeaderDecoded.TheVariants as decoded
-use Rattle.wal.specs.declared.LastCommit.{LastCommit}
-use Rattle.wal.specs.declared.LastCommit.TheVariants as commit
 use Rattle.wal.specs.declared.Wal.{Wal}
-use Rattle.wal.specs.declared.WalOpened.{WalOpened}
-use Rattle.wal.specs.declared.WalOpened.TheVariants as opened
 
 -- ---- frames by their places
 
@@ -96,8 +91,8 @@ committed [] = []
 committed (f ∷ fs) = committed_from f (committed fs)
 
 -- the commit count of the last frame
-unfoldable pub last_count : List (List ℕ) → LastCommit
-last_count fs = foldl (λ (found : LastCommit) (f : List ℕ). commit.Count (commit_count f)) commit.Nothing fs
+unfoldable pub last_count : List (List ℕ) → Option ℕ
+last_count fs = foldl (λ (found : Option ℕ) (f : List ℕ). Some (commit_count f)) None fs
 
 -- "Per page the last sealed frame counts": the last frame of the page, or no byte
 unfoldable pub page_in : ℕ → List (List ℕ) → List ℕ
@@ -135,7 +130,7 @@ abbrev pub commit_point : Recovered → ℕ
 commit_point r = chunk_at (length (committed_frames r))
 
 -- the last commit frame's count, or none
-abbrev pub last_commit_of : Recovered → LastCommit
+abbrev pub last_commit_of : Recovered → Option ℕ
 last_commit_of r = last_count (committed_frames r)
 
 -- "The frame count includes an unsealed good frame and a final undecodable batch frame"
@@ -161,10 +156,10 @@ abbrev pub wal_area : ℕ
 wal_area = 4210720
 
 -- the header's refusals, else the log
-abbrev pub opened_by : WalHeaderDecoded → Wal → WalOpened
-opened_by (decoded.Header h) w = opened.Opened w
-opened_by (decoded.Refused r) w = opened.Refused r
+abbrev pub opened_by : Result WalHeader Refusal → Wal → Result Wal Refusal
+opened_by (Ok h) w = Ok w
+opened_by (Err r) w = Err r
 
 -- "a log read without the pager may be any bytes up to the log area's length": longer is refusal 1, then come the header's
-unfoldable pub open_log : List ℕ → WalOpened
-open_log l = pick (nat_le (length l) wal_area) (opened_by (decode_wal_header l) (wal_of (length l) (recovered l))) (opened.Refused refusal.Area)
+unfoldable pub open_log : List ℕ → Result Wal Refusal
+open_log l = pick (nat_le (length l) wal_area) (opened_by (decode_wal_header l) (wal_of (length l) (recovered l))) (Err refusal.Area)

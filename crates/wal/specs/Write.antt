@@ -1,23 +1,15 @@
 -- What creating, truncating, appending and setting the clock answer and leave.
-use Rattle.std.specs.Prelude.{ℕ, ◌+◌, ◌%◌, ◌^◌, Bool, true, not, List, length, ◌==◌, nat_eq, nat_le}
+use Rattle.std.specs.Prelude.{Err, None, Ok, Result, Some, ℕ, ◌+◌, ◌%◌, ◌^◌, Bool, true, not, List, length, ◌==◌, nat_eq, nat_le}
 use Rattle.le.specs.Choice.{pick, both}
 use Rattle.le.specs.Le.{put}
 use Rattle.page.specs.Page.{page_size}
 use Rattle.frame.specs.Frame.{frame_size, encode_frame}
 use Rattle.refusal.specs.declared.Refusal.TheVariants as refusal
+use Rattle.refusal.specs.declared.Refusal.{Refusal}
 use Rattle.wal.specs.Header.{header_size, wal_version, encode_wal_header}
 use Rattle.wal.specs.Recovery.{readable_as, wal_area}
 use Rattle.wal.specs.declared.WalHeader.{WalHeader}
-use Rattle.wal.specs.declared.LastCommit.TheVariants as commit
 use Rattle.wal.specs.declared.Wal.{Wal}
-use Rattle.wal.specs.declared.WalCreated.{WalCreated}
-use Rattle.wal.specs.declared.WalCreated.TheVariants as created
-use Rattle.wal.specs.declared.WalTruncated.{WalTruncated}
-use Rattle.wal.specs.declared.WalTruncated.TheVariants as truncated
-use Rattle.wal.specs.declared.FrameAppended.{FrameAppended}
-use Rattle.wal.specs.declared.FrameAppended.TheVariants as appended
-use Rattle.wal.specs.declared.ClockSet.{ClockSet}
-use Rattle.wal.specs.declared.ClockSet.TheVariants as clock
 
 -- ---- a log of its header alone
 
@@ -29,7 +21,7 @@ empty_wal h =
       len = header_size;
       good_end = header_size;
       last_commit_offset = header_size;
-      last_commit_page_count = commit.Nothing;
+      last_commit_page_count = None;
       frame_count = 0;
     }
 
@@ -42,8 +34,8 @@ unfoldable pub created_header : ℕ → WalHeader
 created_header salt = record { version = wal_version; salt = salt; checkpoint_seq = 0; clock_high_water = 0 }
 
 -- refusal 1: "a wrong area length"
-unfoldable pub create_answer : List ℕ → ℕ → WalCreated
-create_answer l salt = pick (length l == wal_area) (created.Created (empty_wal (created_header salt))) (created.Refused refusal.Area)
+unfoldable pub create_answer : List ℕ → ℕ → Result Wal Refusal
+create_answer l salt = pick (length l == wal_area) (Ok (empty_wal (created_header salt))) (Err refusal.Area)
 
 abbrev pub create_after : List ℕ → ℕ → List ℕ
 create_after l salt = with_header l (created_header salt)
@@ -62,9 +54,9 @@ truncated_header h salt =
       clock_high_water = h.clock_high_water;
     }
 
-unfoldable pub truncate_answer : List ℕ → Wal → ℕ → WalTruncated
+unfoldable pub truncate_answer : List ℕ → Wal → ℕ → Result Wal Refusal
 truncate_answer l w salt =
-    pick (area_fine l w) (truncated.Truncated (empty_wal (truncated_header w.header salt))) (truncated.Refused refusal.Area)
+    pick (area_fine l w) (Ok (empty_wal (truncated_header w.header salt))) (Err refusal.Area)
 
 unfoldable pub truncate_after : List ℕ → Wal → ℕ → List ℕ
 truncate_after l w salt = pick (area_fine l w) (with_header l (truncated_header w.header salt)) l
@@ -82,7 +74,7 @@ longer joins w count =
       len = end;
       good_end = pick joins end w.good_end;
       last_commit_offset = pick (both joins (not plain)) end w.last_commit_offset;
-      last_commit_page_count = pick plain w.last_commit_page_count (commit.Count count);
+      last_commit_page_count = pick plain w.last_commit_page_count (Some count);
       frame_count = (w.frame_count + 1) % 2 ^ 64;
     }
 
@@ -103,13 +95,13 @@ abbrev pub has_room : Wal → Bool
 has_room w = nat_le (w.len + frame_size) wal_area
 
 -- refusals in the order of their numbers; a frame that is written is good unless it is "a batch" whose body does not decode
-unfoldable pub append_frame_answer : List ℕ → Wal → ℕ → List ℕ → ℕ → FrameAppended
+unfoldable pub append_frame_answer : List ℕ → Wal → ℕ → List ℕ → ℕ → Result Wal Refusal
 append_frame_answer l w page body count =
     pick (appendable l w body)
     (pick (has_room w)
-    (appended.Appended (longer (joins w (readable_as page body)) w count))
-    (appended.Refused refusal.LogFull))
-    (appended.Refused refusal.Area)
+    (Ok (longer (joins w (readable_as page body)) w count))
+    (Err refusal.LogFull))
+    (Err refusal.Area)
 
 -- "An added frame lands at the log's length, even where a torn tail leaves that off the frame places"
 unfoldable pub append_frame_after : List ℕ → Wal → ℕ → List ℕ → ℕ → List ℕ
@@ -133,5 +125,5 @@ with_clock w value =
     }
 
 -- 16: "set below the present clock"
-unfoldable pub clock_answer : Wal → ℕ → ClockSet
-clock_answer w value = pick (nat_le w.header.clock_high_water value) (clock.Set (with_clock w value)) (clock.Refused refusal.Clock)
+unfoldable pub clock_answer : Wal → ℕ → Result Wal Refusal
+clock_answer w value = pick (nat_le w.header.clock_high_water value) (Ok (with_clock w value)) (Err refusal.Clock)

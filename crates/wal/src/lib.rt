@@ -2,7 +2,7 @@
 // A log's bytes are lent; an open log is a few numbers by value. Every public function is total.
 #![tactic(auto)]
 
-ghost use Rattle.std.specs.Prelude.{◌≡◌, ◌+◌, ◌-◌, ◌/◌, ◌^◌, ◌<◌, length, drop, nat_eq};
+ghost use Rattle.std.specs.Prelude.{Some, ◌≡◌, ◌+◌, ◌-◌, ◌/◌, ◌^◌, ◌<◌, length, drop, nat_eq};
 ghost use Rattle.le.specs.Choice.{pick};
 ghost use Rattle.le.specs.Answers.{stored_of};
 ghost use Rattle.le.specs.Le.{store};
@@ -13,8 +13,7 @@ ghost use Rattle.wal.specs.Recovery.{readable_as, readable, chunks, recovered, w
 ghost use Rattle.wal.specs.Read.{frame_in, read_log_page, page_place_from, find_log_page, batch_from, next_batch};
 ghost use Rattle.wal.specs.Write.{empty_wal, create_answer, create_after, truncate_answer, truncate_after, longer, joins, with_frame, has_room, append_frame_answer, append_frame_after, clock_answer};
 
-use frame::{FRAME_HEADER_SIZE, FRAME_SIZE, FrameHeader};
-use le::Stored;
+use frame::{FRAME_HEADER_SIZE, FRAME_SIZE, FrameHeader, FrameStart};
 use mvcc::MVCC_FRAME_MARKER;
 use page::PAGE_SIZE;
 use refusal::Refusal;
@@ -40,63 +39,49 @@ pub struct WalHeader {
     pub clock_high_water: u64,
 }
 
-// Stores the header at the log's start.
-pub fn encode_wal_header(h: WalHeader, log: &mut [u8]) -> Stored
+// Stores the header at the log's start, if there is room for it.
+pub fn encode_wal_header(h: WalHeader, log: &mut [u8]) -> Result<(), Refusal>
     ensures { (result ≡ stored_of log.old 0 32) × (log.new ≡ store log.old 0 (encode_wal_header h)) }
 {
     if log.len() < WAL_HEADER_SIZE {
-        return Stored::Area;
+        return Err(Refusal::Area);
     }
-    le::write_bytes(log, 0, &WAL_MAGIC);
-    le::write_u32(log, 8, WAL_FORMAT_VERSION);
-    le::write_u32(log, 12, PAGE_SIZE as u32);
-    le::write_u32(log, 16, h.salt);
-    le::write_u32(log, 20, h.checkpoint_seq);
-    le::write_u64(log, 24, h.clock_high_water);
-    Stored::Done
+    let _ = le::write_bytes(log, 0, &WAL_MAGIC);
+    let _ = le::write_u32(log, 8, WAL_FORMAT_VERSION);
+    let _ = le::write_u32(log, 12, PAGE_SIZE as u32);
+    let _ = le::write_u32(log, 16, h.salt);
+    let _ = le::write_u32(log, 20, h.checkpoint_seq);
+    let _ = le::write_u64(log, 24, h.clock_high_water);
+    Ok(())
 }
 
-// What decoding answers: the header, or the first of its refusals.
-#[derive(Clone, Copy)]
-pub enum WalHeaderDecoded {
-    Header(WalHeader),
-    Refused(Refusal),
-}
-
-// Reads the header from the log's start.
-pub fn decode_wal_header(log: &[u8]) -> WalHeaderDecoded
+// Reads the header from the log's start, or answers the first of its refusals.
+pub fn decode_wal_header(log: &[u8]) -> Result<WalHeader, Refusal>
     ensures { result ≡ decode_wal_header log.now }
 {
     if log.len() < WAL_HEADER_SIZE {
-        return WalHeaderDecoded::Refused(Refusal::Short);
+        return Err(Refusal::Short);
     }
     if !le::same(le::part(log, 0, 8), &WAL_MAGIC) {
-        return WalHeaderDecoded::Refused(Refusal::Magic);
+        return Err(Refusal::Magic);
     }
     let version = le::read_u32(log, 8);
     if version < WAL_FORMAT_VERSION_MIN_SUPPORTED {
-        return WalHeaderDecoded::Refused(Refusal::Version);
+        return Err(Refusal::Version);
     }
     if WAL_FORMAT_VERSION < version {
-        return WalHeaderDecoded::Refused(Refusal::Version);
+        return Err(Refusal::Version);
     }
     let page_size = le::read_u32(log, 12) as usize;
     if page_size != PAGE_SIZE {
-        return WalHeaderDecoded::Refused(Refusal::PageSize);
+        return Err(Refusal::PageSize);
     }
-    WalHeaderDecoded::Header(WalHeader {
+    Ok(WalHeader {
         version,
         salt: le::read_u32(log, 16),
         checkpoint_seq: le::read_u32(log, 20),
         clock_high_water: le::read_u64(log, 24),
     })
-}
-
-// The last commit frame's page count.
-#[derive(Clone, Copy)]
-pub enum LastCommit {
-    Nothing,
-    Count(u32),
 }
 
 // An open log.
@@ -109,32 +94,20 @@ pub struct Wal {
     pub good_end: usize,
     // The commit point: the end of the last commit frame among the good frames.
     pub last_commit_offset: usize,
-    pub last_commit_page_count: LastCommit,
+    // The page count of the last commit frame, if there is one.
+    pub last_commit_page_count: Option<u32>,
     // Good frames, committed or not, a last batch frame that did not decode, and every frame added since.
     pub frame_count: usize,
 }
 
-// What opening answers: the open log, or the first of its refusals.
-#[derive(Clone, Copy)]
-pub enum WalOpened {
-    Opened(Wal),
-    Refused(Refusal),
-}
-
-fn choose(first: bool, a: usize, b: usize) -> usize
-    ensures { result ≡ pick first a b }
-{
-    if first { a } else { b }
-}
-
 // The last commit frame's count, after a frame's.
-fn counted(last: LastCommit, commit_page_count: u32) -> LastCommit
-    ensures { result ≡ pick (nat_eq commit_page_count 0) last (LastCommit.Count commit_page_count) }
+fn counted(last: Option<u32>, commit_page_count: u32) -> Option<u32>
+    ensures { result ≡ pick (nat_eq commit_page_count 0) last (Some commit_page_count) }
 {
     if commit_page_count == 0 {
         return last;
     }
-    LastCommit::Count(commit_page_count)
+    Some(commit_page_count)
 }
 
 impl Wal {
@@ -147,7 +120,7 @@ impl Wal {
             len: WAL_HEADER_SIZE,
             good_end: WAL_HEADER_SIZE,
             last_commit_offset: WAL_HEADER_SIZE,
-            last_commit_page_count: LastCommit::Nothing,
+            last_commit_page_count: None,
             frame_count: 0,
         }
     }
@@ -158,19 +131,21 @@ impl Wal {
         requires { self.len + 4112 < 2 ^ 64 }
         ensures { result ≡ longer (joins self good) self commit_page_count }
     {
-        let header = self.header;
-        let last_commit_page_count = self.last_commit_page_count;
         let end = self.len + FRAME_SIZE;
-        let joins = le::both(good, self.len == self.good_end);
-        let commits = le::both(joins, commit_page_count != 0);
-        Wal {
-            header,
+        let mut wal = Wal {
             len: end,
-            good_end: choose(joins, end, self.good_end),
-            last_commit_offset: choose(commits, end, self.last_commit_offset),
-            last_commit_page_count: counted(last_commit_page_count, commit_page_count),
-            frame_count: std::num::wrapping_add_usize(self.frame_count, 1),
+            last_commit_page_count: counted(self.last_commit_page_count, commit_page_count),
+            frame_count: self.frame_count.wrapping_add(1),
+            ..self
+        };
+        let commits = commit_page_count != 0;
+        if good && self.len == self.good_end {
+            wal.good_end = end;
+            if commits {
+                wal.last_commit_offset = end;
+            }
         }
+        wal
     }
 
     // The log one good frame longer, which does not commit; as it was where there is no room for one.
@@ -184,17 +159,15 @@ impl Wal {
         self.with_frame(true, 0)
     }
 
-    // Opens a log: judges its header and reads its frames once, where they lie.
-    pub fn open(file: &[u8]) -> WalOpened
+    // Opens a log: judges its header and reads its frames once, where they lie; or answers the first of its refusals.
+    pub fn open(file: &[u8]) -> Result<Wal, Refusal>
         ensures { result ≡ open_log file.now }
     {
         if WAL_AREA < file.len() {
-            return WalOpened::Refused(Refusal::Area);
+            return Err(Refusal::Area);
         }
-        match decode_wal_header(file) {
-            WalHeaderDecoded::Header(header) => WalOpened::Opened(replay_frames(file, header)),
-            WalHeaderDecoded::Refused(row) => WalOpened::Refused(row),
-        }
+        let header = decode_wal_header(file)?;
+        Ok(replay_frames(file, header))
     }
 }
 
@@ -221,21 +194,22 @@ fn replay_frames(file: &[u8], header: WalHeader) -> Wal
     requires { header ≡ wal_header_in file.now }
     ensures { result ≡ wal_of (length file.now) (recovered file.now) }
 {
-    let salt = header.salt;
     let mut wal = Wal::empty(header);
-    let mut at = WAL_HEADER_SIZE;
-    while frame::is_intact(file, at, salt) {
-        if !is_readable(file, at) {
-            wal.len = file.len();
-            wal.frame_count += 1;
-            return wal;
+    while frame::is_intact(file, wal.len, header.salt) {
+        if !is_readable(file, wal.len) {
+            return Wal {
+                len: file.len(),
+                frame_count: wal.frame_count + 1,
+                ..wal
+            };
         }
-        let found = frame::read_frame_header(file, at);
+        let found = frame::read_frame_header(file, wal.len);
         wal = wal.with_frame(true, found.commit_page_count);
-        at += FRAME_SIZE;
     }
-    wal.len = file.len();
-    wal
+    Wal {
+        len: file.len(),
+        ..wal
+    }
 }
 
 // How many frames can stand in a log of a length.
@@ -248,55 +222,46 @@ fn chunk_count(len: usize) -> usize
     (len - WAL_HEADER_SIZE) / FRAME_SIZE
 }
 
-// What stands at an index.
+// Where a frame stands, and its heading.
 #[derive(Clone, Copy)]
-pub enum FrameFound {
-    Frame { offset: usize, header: FrameHeader },
-    Nothing,
+pub struct FrameAt {
+    pub offset: usize,
+    pub header: FrameHeader,
 }
 
 // The frame at an index, good or not, if one stands wholly inside the log there.
-pub fn frame_at(file: &[u8], index: usize) -> FrameFound
+pub fn frame_at(file: &[u8], index: usize) -> Option<FrameAt>
     ensures { result ≡ frame_in file.now index }
 {
     if chunk_count(file.len()) <= index {
-        return FrameFound::Nothing;
+        return None;
     }
     let offset = WAL_HEADER_SIZE + FRAME_SIZE * index;
     let header = frame::read_frame_header(file, offset);
-    FrameFound::Frame { offset, header }
-}
-
-// Where a page's own bytes stand in the log.
-#[derive(Clone, Copy)]
-pub enum PagePlace {
-    At(usize),
-    Nothing,
+    Some(FrameAt { offset, header })
 }
 
 // The place of the bytes of a page's last frame.
-fn last_place(file: &[u8], page_num: u32) -> PagePlace
+fn last_place(file: &[u8], page_num: u32) -> Option<usize>
     ensures { result ≡ page_place_from page_num 0 (chunks file.now) }
 {
-    let mut i = chunk_count(file.len());
-    while 0 < i {
-        i -= 1;
+    for i in (0..chunk_count(file.len())).rev() {
         let at = WAL_HEADER_SIZE + FRAME_SIZE * i;
         let header = frame::read_frame_header(file, at);
         if header.page_num == page_num {
-            return PagePlace::At(at + FRAME_HEADER_SIZE);
+            return Some(at + FRAME_HEADER_SIZE);
         }
     }
-    PagePlace::Nothing
+    None
 }
 
 // The place of a page's bytes in its last frame up to the commit point.
 // The frames up to there are committed good ones, also in a log that was appended to behind a torn tail.
-pub fn find_page(file: &[u8], wal: Wal, page_num: u32) -> PagePlace
+pub fn find_page(file: &[u8], wal: Wal, page_num: u32) -> Option<usize>
     ensures { result ≡ find_log_page file.now wal.last_commit_offset page_num }
 {
     if page_num == MVCC_FRAME_MARKER {
-        return PagePlace::Nothing;
+        return None;
     }
     last_place(le::part(file, 0, wal.last_commit_offset), page_num)
 }
@@ -306,55 +271,45 @@ pub fn read_page(file: &[u8], wal: Wal, page_num: u32) -> &[u8]
     ensures { result.now ≡ read_log_page file.now wal.last_commit_offset page_num }
 {
     match find_page(file, wal, page_num) {
-        PagePlace::At(at) => le::part(file, at, PAGE_SIZE),
-        PagePlace::Nothing => &file[..0],
+        Some(at) => le::part(file, at, PAGE_SIZE),
+        None => &file[..0],
     }
 }
 
-// A batch's place.
+// A batch's index among the frames, and its frame's place.
 #[derive(Clone, Copy)]
-pub enum BatchFound {
-    Batch { index: usize, offset: usize },
-    Nothing,
+pub struct BatchAt {
+    pub index: usize,
+    pub offset: usize,
 }
 
 // The first batch at an index or behind it.
-pub fn first_batch(file: &[u8], index: usize) -> BatchFound
+pub fn first_batch(file: &[u8], index: usize) -> Option<BatchAt>
     ensures { result ≡ batch_from index (drop index (chunks file.now)) }
 {
-    let count = chunk_count(file.len());
-    let mut i = index;
-    while i < count {
+    for i in index..chunk_count(file.len()) {
         let offset = WAL_HEADER_SIZE + FRAME_SIZE * i;
         let header = frame::read_frame_header(file, offset);
         if header.page_num == MVCC_FRAME_MARKER {
-            return BatchFound::Batch { index: i, offset };
+            return Some(BatchAt { index: i, offset });
         }
-        i += 1;
     }
-    BatchFound::Nothing
+    None
 }
 
 // The first batch at an index or behind it, up to the commit point.
-pub fn next_batch(file: &[u8], wal: Wal, index: usize) -> BatchFound
+pub fn next_batch(file: &[u8], wal: Wal, index: usize) -> Option<BatchAt>
     ensures { result ≡ next_batch file.now wal.last_commit_offset index }
 {
     first_batch(le::part(file, 0, wal.last_commit_offset), index)
 }
 
-// What creating answers.
-#[derive(Clone, Copy)]
-pub enum WalCreated {
-    Created(Wal),
-    Refused(Refusal),
-}
-
-// Makes the area a log without frames.
-pub fn create(log: &mut [u8], salt: u32) -> WalCreated
+// Makes the area a log without frames; one of another length is refused (Area).
+pub fn create(log: &mut [u8], salt: u32) -> Result<Wal, Refusal>
     ensures { (result ≡ create_answer log.old salt) × (log.new ≡ create_after log.old salt) }
 {
     if log.len() != WAL_AREA {
-        return WalCreated::Refused(Refusal::Area);
+        return Err(Refusal::Area);
     }
     let header = WalHeader {
         version: WAL_FORMAT_VERSION,
@@ -362,79 +317,61 @@ pub fn create(log: &mut [u8], salt: u32) -> WalCreated
         checkpoint_seq: 0,
         clock_high_water: 0,
     };
-    encode_wal_header(header, log);
-    WalCreated::Created(Wal::empty(header))
-}
-
-// What truncating answers.
-#[derive(Clone, Copy)]
-pub enum WalTruncated {
-    Truncated(Wal),
-    Refused(Refusal),
+    let _ = encode_wal_header(header, log);
+    Ok(Wal::empty(header))
 }
 
 // Takes the log back to its header, with the next sequence and a new salt. The bytes behind stay in the area.
-pub fn truncate(log: &mut [u8], wal: Wal, salt: u32) -> WalTruncated
+pub fn truncate(log: &mut [u8], wal: Wal, salt: u32) -> Result<Wal, Refusal>
     ensures { (result ≡ truncate_answer log.old wal salt) × (log.new ≡ truncate_after log.old wal salt) }
 {
     if log.len() != WAL_AREA {
-        return WalTruncated::Refused(Refusal::Area);
+        return Err(Refusal::Area);
     }
     if WAL_AREA < wal.len {
-        return WalTruncated::Refused(Refusal::Area);
+        return Err(Refusal::Area);
     }
-    let old = wal.header;
     let header = WalHeader {
         version: WAL_FORMAT_VERSION,
         salt,
-        checkpoint_seq: std::num::wrapping_add_u32(old.checkpoint_seq, 1),
-        clock_high_water: old.clock_high_water,
+        checkpoint_seq: wal.header.checkpoint_seq.wrapping_add(1),
+        ..wal.header
     };
-    encode_wal_header(header, log);
-    WalTruncated::Truncated(Wal::empty(header))
+    let _ = encode_wal_header(header, log);
+    Ok(Wal::empty(header))
 }
 
-// What appending answers.
-#[derive(Clone, Copy)]
-pub enum FrameAppended {
-    Appended(Wal),
-    Refused(Refusal),
-}
-
-// Stores a frame at the log's length; a nonzero count commits.
+// Stores a frame at the log's length, and answers the log with it; a nonzero count commits.
 pub fn append_frame(
     log: &mut [u8],
     wal: Wal,
     page_num: u32,
     content: &[u8],
     commit_page_count: u32,
-) -> FrameAppended
+) -> Result<Wal, Refusal>
     ensures value { result ≡ append_frame_answer log.old wal page_num content.now commit_page_count }
     ensures log_after { log.new ≡ append_frame_after log.old wal page_num content.now commit_page_count }
 {
     if content.len() != PAGE_SIZE {
-        return FrameAppended::Refused(Refusal::Area);
+        return Err(Refusal::Area);
     }
     if log.len() != WAL_AREA {
-        return FrameAppended::Refused(Refusal::Area);
+        return Err(Refusal::Area);
     }
     if WAL_AREA < wal.len {
-        return FrameAppended::Refused(Refusal::Area);
+        return Err(Refusal::Area);
     }
     if WAL_AREA - wal.len < FRAME_SIZE {
-        return FrameAppended::Refused(Refusal::LogFull);
+        return Err(Refusal::LogFull);
     }
-    let header = wal.header;
-    frame::write_frame(
-        log,
-        wal.len,
+    let start = FrameStart {
         page_num,
         commit_page_count,
-        header.salt,
-        content,
-    );
+        salt: wal.header.salt,
+    };
+    let _ = frame::write_frame(log, wal.len, start, content);
     let good = is_readable_as(page_num, content);
-    FrameAppended::Appended(wal.with_frame(good, commit_page_count))
+    Ok(wal.with_frame(good, commit_page_count))
 }
 
 // Stores page 0's frame: a header's 32 bytes, and zeros behind. A nonzero count commits.
@@ -443,50 +380,41 @@ pub fn append_page_zero(
     wal: Wal,
     front: &[u8],
     commit_page_count: u32,
-) -> FrameAppended
+) -> Result<Wal, Refusal>
     ensures value { result ≡ append_frame_answer log.old wal 0 (front_page front.now) commit_page_count }
     ensures log_after { log.new ≡ append_frame_after log.old wal 0 (front_page front.now) commit_page_count }
 {
     if front.len() != 32 {
-        return FrameAppended::Refused(Refusal::Area);
+        return Err(Refusal::Area);
     }
     if log.len() != WAL_AREA {
-        return FrameAppended::Refused(Refusal::Area);
+        return Err(Refusal::Area);
     }
     if WAL_AREA < wal.len {
-        return FrameAppended::Refused(Refusal::Area);
+        return Err(Refusal::Area);
     }
     if WAL_AREA - wal.len < FRAME_SIZE {
-        return FrameAppended::Refused(Refusal::LogFull);
+        return Err(Refusal::LogFull);
     }
-    let header = wal.header;
-    frame::write_padded_frame(log, wal.len, 0, commit_page_count, header.salt, front);
-    FrameAppended::Appended(wal.with_frame(true, commit_page_count))
-}
-
-// What setting the clock answers.
-#[derive(Clone, Copy)]
-pub enum ClockSet {
-    Set(Wal),
-    Refused(Refusal),
+    let start = FrameStart {
+        page_num: 0,
+        commit_page_count,
+        salt: wal.header.salt,
+    };
+    let _ = frame::write_padded_frame(log, wal.len, start, front);
+    Ok(wal.with_frame(true, commit_page_count))
 }
 
 // The log with a clock that is not below its own.
-pub fn set_clock_high_water(wal: Wal, value: u64) -> ClockSet
+pub fn set_clock_high_water(wal: Wal, value: u64) -> Result<Wal, Refusal>
     ensures { result ≡ clock_answer wal value }
 {
-    let mut header = wal.header;
-    if value < header.clock_high_water {
-        return ClockSet::Refused(Refusal::Clock);
+    if value < wal.header.clock_high_water {
+        return Err(Refusal::Clock);
     }
-    header.clock_high_water = value;
-    let last_commit_page_count = wal.last_commit_page_count;
-    ClockSet::Set(Wal {
-        header,
-        len: wal.len,
-        good_end: wal.good_end,
-        last_commit_offset: wal.last_commit_offset,
-        last_commit_page_count,
-        frame_count: wal.frame_count,
-    })
+    let header = WalHeader {
+        clock_high_water: value,
+        ..wal.header
+    };
+    Ok(Wal { header, ..wal })
 }

@@ -7,6 +7,7 @@ use native.Mathlib.Omega.{arith}
 use borrow.Author.Tests.{eq-eqb, eqb-true, le-leb, leb-true}
 use lib.Dec.{eqb, leb}
 use lib.ListN.{length}
+use Rattle.std.specs.Prelude.{Err, Ok}
 use Rattle.le.specs.Choice.{both}
 use Rattle.le.specs.Le.{Bytes, put}
 use Rattle.le.proofs.Compare.{both_true}
@@ -18,9 +19,7 @@ use Rattle.mvcc.proofs.Heading.{decodes-heading}
 use Rattle.wal.specs.Write.{with_frame, has_room, append_frame_answer, append_frame_after}
 use Rattle.wal.specs.Reached.{Reached, by_append}
 use Rattle.wal.specs.declared.Wal.{Wal}
-use Rattle.wal.specs.declared.FrameAppended.TheVariants as appended
 use Rattle.wal_batch.specs.Batch.{lent, batch_refusal, batch_answer, batch_after}
-use Rattle.wal_batch.specs.declared.BatchAppended.TheVariants.{Appended, Refused}
 use Rattle.wal_batch.proofs.Frame.{batch_frame, canonical-page}
 
 -- ---- where no refusal comes
@@ -34,16 +33,16 @@ pub record Done (l : List ℕ) (w : Wal) (s : List ℕ) (v : Wal) : Type 0 where
   pub bytes : batch_after l w s ≡ put l w.len (batch_frame w.header.salt s)
 
 module _ (l : List ℕ) (w : Wal) (s : List ℕ) where
-  pub batch-done : (v : Wal) → batch_answer l w s ≡ Appended v → Done l w s v
+  pub batch-done : (v : Wal) → batch_answer l w s ≡ Ok v → Done l w s v
   unfolding batch_answer batch_after batch_refusal
   batch-done v e =
-      let p = resulted Refused (Appended (with_frame w 0)) (Appended v) (λ r f. let z : ◌≡◌ {A = ℕ} 0 1 = cc in absurd (omega arith)) (batch_refusal l w s) e in
+      let p = resulted Err (Ok (with_frame w 0)) (Ok v) (λ r f. let z : ◌≡◌ {A = ℕ} 0 1 = cc in absurd (omega arith)) (batch_refusal l w s) e in
       let t = met (lent l w s) refusal.Area _ p.0 in
       let h = first-none (heading_refusal s) _ t.1 in
       let m = met (has_room w) refusal.LogFull _ h.1 in
       let a = both_true (eqb (length l) 4210720) (both (leb w.len 4210720) (leb (length s) 4096)) t.0 in
       let b = both_true (leb w.len 4210720) (leb (length s) 4096) a.1 in
-      let k : Appended (with_frame w 0) ≡ Appended v = p.1 in
+      let k : Ok (with_frame w 0) ≡ Ok v = p.1 in
       record {
         area = eqb-true _ _ a.0;
         small = leb-true _ _ b.1;
@@ -53,7 +52,7 @@ module _ (l : List ℕ) (w : Wal) (s : List ℕ) where
         bytes = rw (t.0, h.0, m.0, m.1);
       }
 
-  module _ (v : Wal) (sb : Bytes s) (e : batch_answer l w s ≡ Appended v) where
+  module _ (v : Wal) (sb : Bytes s) (e : batch_answer l w s ≡ Ok v) where
     abbrev done : Done l w s v
     done = batch-done v e
 
@@ -61,7 +60,7 @@ module _ (l : List ℕ) (w : Wal) (s : List ℕ) where
     paged = canonical-page s (record { bytes = sb; small = done.small; decoded = done.decoded })
 
     -- it is an append of a frame: of page 4294967295, the canonical form, uncommitted
-    pub batch-append : append_frame_answer l w 4294967295 (canonical s) 0 ≡ appended.Appended v
+    pub batch-append : append_frame_answer l w 4294967295 (canonical s) 0 ≡ Ok v
     unfolding append_frame_answer
     batch-append =
         let n : w.len ≤ 4210720 = omega (arith, done.room) in
@@ -79,7 +78,7 @@ module _ (l : List ℕ) (w : Wal) (s : List ℕ) where
 
 -- a body that decodes is appended where there is room
 pub batch-taken : (l : List ℕ) (w : Wal) (s : List ℕ) → length l ≡ 4210720 → length s ≤ 4096 → w.len + 4112 ≤ 4210720 → decodes s ≡ true
-    → batch_answer l w s ≡ Appended (with_frame w 0)
+    → batch_answer l w s ≡ Ok (with_frame w 0)
 unfolding batch_answer batch_refusal
 batch-taken l w s nl ns room d =
     let n : w.len ≤ 4210720 = omega arith in

@@ -2,12 +2,12 @@
 use mathlib.Core.Path.{◌≡◌, refl, sym, ap, ◌∙◌}
 use mathlib.Core.Bool.{false}
 use mathlib.Core.List.{List, ◌++◌}
-use mathlib.Core.Option.{Option, none, some}
 use Prim.Native.Nat.{ℕ, ◌+◌, ◌-◌, ◌≤◌, ◌<◌}
 use native.Mathlib.Omega.{arith}
 use borrow.Author.Tests.{eq-eqb, ne_eqb, le-leb, lt-leb}
 use lib.ListN.{length, take, drop, length-take, length-drop, take-append-drop}
 use lib.Seq.{drop-drop}
+use Rattle.std.specs.Prelude.{Option, None, Some, Result, Ok, Err}
 use Rattle.le.specs.Le.{Bytes, put}
 use Rattle.le.proofs.Stores.{length-put, store-put}
 use Rattle.refusal.specs.Refusal.{first, accepts, answered}
@@ -20,50 +20,46 @@ use Rattle.mvcc.specs.Seen.{heading_refusal, decode_refusal, canonical}
 use Rattle.mvcc.proofs.Canonical.{none-decodes, canonical-length}
 use Rattle.mvcc.proofs.Heading.{decode-first}
 use Rattle.mvcc_canonical.specs.Canonical.{canonical_refusal, canonicalized, canonical_bytes}
-use Rattle.mvcc_canonical.specs.declared.Canonical.{Canonical}
-use Rattle.mvcc_canonical.specs.declared.Canonical.TheVariants as told
 use Rattle.wal.specs.Write.{with_frame}
 use Rattle.wal.specs.declared.Wal.{Wal}
 use Rattle.wal_batch.specs.Batch.{batch_refusal, batch_answer, batch_after}
-use Rattle.wal_batch.specs.declared.BatchAppended.{BatchAppended}
-use Rattle.wal_batch.specs.declared.BatchAppended.TheVariants.{Appended, Refused}
 
 -- no room: the heading's refusal, else 15
-full-answer : (a : BatchAppended) (v : Option Refusal) → answered Refused (Refused refusal.LogFull) v ≡ answered Refused a (first v (some refusal.LogFull))
-full-answer a none = refl
-full-answer a (some r) = refl
+full-answer : (a : Result Wal Refusal) (v : Option Refusal) → answered Err (Err refusal.LogFull) v ≡ answered Err a (first v (Some refusal.LogFull))
+full-answer a None = refl
+full-answer a (Some r) = refl
 
-full-refused : (v : Option Refusal) (r : Refusal) → accepts (first v (some r)) ≡ false
-full-refused none r = refl
-full-refused (some q) r = refl
+full-refused : (v : Option Refusal) (r : Refusal) → accepts (first v (Some r)) ≡ false
+full-refused None r = refl
+full-refused (Some q) r = refl
 
 -- the judgement that an answer of writing the canonical form tells
-abbrev told_row : Canonical → Option Refusal
-told_row told.Done = none
-told_row (told.Refused r) = some r
+abbrev told_row : Result Unit Refusal → Option Refusal
+told_row (Ok u) = None
+told_row (Err r) = Some r
 
 module _ (l : List ℕ) (w : Wal) (s : List ℕ) where
-  abbrev pub Says : BatchAppended → List ℕ → Type 0
+  abbrev pub Says : Result Wal Refusal → List ℕ → Type 0
   Says r m = (r ≡ batch_answer l w s) × (m ≡ batch_after l w s)
 
-  pub way-area : (length l ≡ 4210720 → ⊥) → Says (Refused refusal.Area) l
+  pub way-area : (length l ≡ 4210720 → ⊥) → Says (Err refusal.Area) l
   unfolding batch_answer batch_after batch_refusal
   way-area n = (rw (ne_eqb _ _ n), rw (ne_eqb _ _ n))
 
   module _ (nl : length l ≡ 4210720) where
-    pub way-length : 4210720 < w.len → Says (Refused refusal.Area) l
+    pub way-length : 4210720 < w.len → Says (Err refusal.Area) l
     unfolding batch_answer batch_after batch_refusal
     way-length n = (rw (eq-eqb _ _ nl, lt-leb _ _ n), rw (eq-eqb _ _ nl, lt-leb _ _ n))
 
     module _ (nw : w.len ≤ 4210720) where
-      pub way_long : 4096 < length s → Says (Refused refusal.Area) l
+      pub way_long : 4096 < length s → Says (Err refusal.Area) l
       unfolding batch_answer batch_after batch_refusal
       way_long n = (rw (eq-eqb _ _ nl, le-leb _ _ nw, lt-leb _ _ n), rw (eq-eqb _ _ nl, le-leb _ _ nw, lt-leb _ _ n))
 
-      pub way-full : {r : BatchAppended} → length s ≤ 4096 → 4210720 < w.len + 4112 → r ≡ answered Refused (Refused refusal.LogFull) (heading_refusal s) → Says r l
+      pub way-full : {r : (Result Wal Refusal)} → length s ≤ 4096 → 4210720 < w.len + 4112 → r ≡ answered Err (Err refusal.LogFull) (heading_refusal s) → Says r l
       unfolding batch_answer batch_after batch_refusal
       way-full ns n e = (
-        e ∙ full-answer (Appended (with_frame w 0)) (heading_refusal s) ∙ rw (eq-eqb _ _ nl, le-leb _ _ nw, le-leb _ _ ns, lt-leb _ _ n),
+        e ∙ full-answer (Ok (with_frame w 0)) (heading_refusal s) ∙ rw (eq-eqb _ _ nl, le-leb _ _ nw, le-leb _ _ ns, lt-leb _ _ n),
         rw (eq-eqb _ _ nl, le-leb _ _ nw, le-leb _ _ ns, lt-leb _ _ n, full-refused (heading_refusal s) refusal.LogFull),
       )
 
@@ -100,25 +96,25 @@ module _ (l : List ℕ) (w : Wal) (s : List ℕ) (nl : length l ≡ 4210720) (ns
   unfolding canonical_refusal
   written = rw (eq-eqb _ _ page-length, le-leb _ _ ns)
 
-  told_is : {y : Canonical} (x : Canonical) → y ≡ x → y ≡ canonicalized s page → decode_refusal s ≡ told_row x
-  told_is x g e = sym (ap told_row (sym g ∙ e) ∙ row_back told.Refused told.Done told_row refl (λ r. refl) (canonical_refusal s page) ∙ written)
+  told_is : {x : Result Unit Refusal} → x ≡ canonicalized s page → decode_refusal s ≡ told_row x
+  told_is e = sym (ap told_row e ∙ row_back Err (Ok tt) told_row refl (λ r. refl) (canonical_refusal s page) ∙ written)
 
   -- the body did not decode: the page is as it was
-  pub way-refused : {r : Refusal} {y : Canonical} {p : List ℕ} → y ≡ told.Refused r → y ≡ canonicalized s page → p ≡ canonical_bytes s page
-      → Says l w s (Refused r) (back p)
+  pub way-refused : {r : Refusal} {p : List ℕ} → Err r ≡ canonicalized s page → p ≡ canonical_bytes s page
+      → Says l w s (Err r) (back p)
   unfolding batch_answer batch_after
-  way-refused {r} {y} {p} g e f =
-      let d : decode_refusal s ≡ some r = told_is (told.Refused r) g e in
+  way-refused {r} {p} e f =
+      let d : decode_refusal s ≡ Some r = told_is e in
       let q : p ≡ page = f ∙ rw (written, d) in
       let b : back p ≡ l = rw (q, take-append-drop (w.len + 4112 - from) (drop from l)) (take-append-drop from l) in
       (rw (judged, d), b ∙ rw (judged, d))
 
   -- it did: its canonical form lies there, and becomes a frame
-  pub way-done : {y : Canonical} {p m : List ℕ} {v : Wal} → Bytes s → y ≡ told.Done → y ≡ canonicalized s page → p ≡ canonical_bytes s page
-      → m ≡ heading_after (back p) w.len 4294967295 0 w.header.salt → v ≡ with_frame w 0 → Says l w s (Appended v) m
+  pub way-done : {p m : List ℕ} {v : Wal} → Bytes s → Ok tt ≡ canonicalized s page → p ≡ canonical_bytes s page
+      → m ≡ heading_after (back p) w.len 4294967295 0 w.header.salt → v ≡ with_frame w 0 → Says l w s (Ok v) m
   unfolding batch_answer batch_after heading_after
-  way-done {y} {p} {m} {v} sb g e f h i =
-      let d : decode_refusal s ≡ none = told_is told.Done g e in
+  way-done {p} {m} {v} sb e f h i =
+      let d : decode_refusal s ≡ None = told_is e in
       let c : length (canonical s) ≡ 4096 = canonical-length s sb (none-decodes s d) ns in
       let q : p ≡ canonical s = f ∙ rw (written, d) in
       let b : back p ≡ put l from (canonical s) = rw q (canonical-back c) in

@@ -1,7 +1,6 @@
 -- What appending a batch answers and leaves: "A batch is appended as `encode` writes it, unsealed and with no flush; a body
 -- lent for it is decoded first, with decoding's refusals".
-use Rattle.std.specs.Prelude.{Bool, List, ℕ, leb, eqb, length}
-use Rattle.std.proofs.Math.Option.{Option}
+use Rattle.std.specs.Prelude.{Option, Err, Ok, Result, Bool, List, ℕ, leb, eqb, length}
 use Rattle.le.specs.Choice.{pick, both}
 use Rattle.le.specs.Le.{put}
 use Rattle.page.specs.Page.{page_size}
@@ -13,8 +12,6 @@ use Rattle.mvcc.specs.Seen.{heading_refusal, decode_refusal, canonical}
 use Rattle.wal.specs.Recovery.{batch_page, wal_area}
 use Rattle.wal.specs.Write.{with_frame, has_room}
 use Rattle.wal.specs.declared.Wal.{Wal}
-use Rattle.wal_batch.specs.declared.BatchAppended.{BatchAppended}
-use Rattle.wal_batch.specs.declared.BatchAppended.TheVariants.{Appended, Refused}
 
 -- the log's area, a length within it, and a body no longer than a page
 abbrev pub lent : List ℕ → Wal → List ℕ → Bool
@@ -27,8 +24,8 @@ batch_refusal l w s =
     (first (heading_refusal s)
     (unless (has_room w) refusal.LogFull (decode_refusal s)))
 
-unfoldable pub batch_answer : List ℕ → Wal → List ℕ → BatchAppended
-batch_answer l w s = answered Refused (Appended (with_frame w 0)) (batch_refusal l w s)
+unfoldable pub batch_answer : List ℕ → Wal → List ℕ → Result Wal Refusal
+batch_answer l w s = answered Err (Ok (with_frame w 0)) (batch_refusal l w s)
 
 -- "as `encode` writes it, unsealed", at the log's length; a refusal leaves the log as it was
 unfoldable pub batch_after : List ℕ → Wal → List ℕ → List ℕ

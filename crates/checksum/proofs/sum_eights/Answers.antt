@@ -1,21 +1,14 @@
-use Rattle.std.proofs.Common.{◌≡◌, ◌+◌, ◌-◌, refl, arith}
+use Rattle.std.proofs.Common.{◌≡◌, ◌*◌, ◌/◌, length, take, ◌∙◌, rules}
+use Rattle.std.specs.List.{fold}
 use Rattle.checksum.specs.Checksum.{sum_from}
-use Rattle.checksum.proofs.Sums.{sum_from-part, sum_from-rest}
+use Rattle.checksum.proofs.Sums.{fold-first_chunks, sum_from-cut}
 use Rattle.checksum.proofs.sum_eights.Goals as goal
-
-pub loop-i-init : goal.loop-i-init
-unfolding sum_from
-loop-i-init c = (omega arith, refl)
-
-pub loop-i-preserved : goal.loop-i-preserved
-loop-i-preserved c =
-    let a = c.args in
-    let at = c.loop-i in
-    let n : at.i + 8 - at.i ≡ 8 = omega arith in
-    (omega arith, sum_from-part a.start 8 at.i a.bytes.now n at.invariant.1 c.sum_8-sum.ensures)
 
 pub returns : goal.returns
 returns c =
     let a = c.args in
-    let at = c.loop-i in
-    sum_from-rest a.start at.i a.bytes.now at.invariant.0 refl at.invariant.1 c.sum_serial.ensures
+    let l = a.bytes.now in
+    let e : c.fold-sum.result ≡ fold sum_from a.start c.as_chunks.result.0.now = search rules in
+    let f : c.fold-sum.result ≡ sum_from a.start (take (length l / 8 * 8) l) =
+    e ∙ rw c.as_chunks.ensures.front (fold-first_chunks 8 (length l / 8) a.start l) in
+    c.sum_serial.ensures ∙ rw (f, c.as_chunks.ensures.back) (sum_from-cut (length l / 8 * 8) a.start l)

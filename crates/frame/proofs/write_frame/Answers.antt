@@ -14,7 +14,7 @@ returns-then-body-ne-PAGE_SIZE c = record { value = simp (ne_eqb _ _ c.if-body-n
 pub returns-then-not-fits_in : goal.returns-then-not-fits_in
 returns-then-not-fits_in c =
     let a = c.args in
-    let both = frame_refused a.log.now a.at a.page_num a.commit_page_count a.salt a.body.now c.if-body-ne-PAGE_SIZE.false
+    let both = frame_refused a.log.now a.at a.start.page_num a.start.commit_page_count a.start.salt a.body.now c.if-body-ne-PAGE_SIZE.false
     (sym c.fits_in.ensures ∙ c.if-not-fits_in.true) in
     record { value = both.0; log_after = both.1 }
 
@@ -27,7 +27,7 @@ overflow_add-at c =
 pub returns : goal.returns
 returns c =
     let a = c.args in
-    let both = frame-stored a.log.now a.at a.page_num a.commit_page_count a.salt a.body.now c.if-body-ne-PAGE_SIZE.false
+    let both = frame-stored a.log.now a.at a.start.page_num a.start.commit_page_count a.start.salt a.body.now c.if-body-ne-PAGE_SIZE.false
     (sym c.fits_in.ensures ∙ c.if-not-fits_in.false) c.write_bytes.ensures.1
     c.write_frame_header.ensures.value c.write_frame_header.ensures.log_after in
     record { value = both.0; log_after = both.1 }

@@ -32,6 +32,6 @@ returns c =
     leb-true _ _ (sym c.fits_in.ensures ∙ c.if-not-fits_in.false) in
     let a = c.args in
     let t = sym c.fits_in.ensures ∙ c.if-not-fits_in.false in
-    let e = frame-headed a.log.now a.at a.page_num a.commit_page_count a.salt (inside) c.put_heading.ensures
+    let e = frame-headed a.log.now a.at a.start.page_num a.start.commit_page_count a.start.salt (inside) c.put_heading.ensures
     c.compute_checksum-sum.ensures c.write_u32.ensures.1 in
     record { value = rw t; log_after = rw t e }

@@ -9,13 +9,13 @@ use Rattle.frame.proofs.write_padded_frame.Goals as goal
 pub returns-then-front-ne32 : goal.returns-then-front-ne32
 returns-then-front-ne32 c =
     let a = c.args in
-    let both = padded-refused a.log.now a.at a.page_num a.commit_page_count a.salt a.front.now c.if-front-ne32.true in
+    let both = padded-refused a.log.now a.at a.start.page_num a.start.commit_page_count a.start.salt a.front.now c.if-front-ne32.true in
     record { value = both.0; log_after = both.1 }
 
 pub returns-then-not-fits_in : goal.returns-then-not-fits_in
 returns-then-not-fits_in c =
     let a = c.args in
-    let both = frame_refused a.log.now a.at a.page_num a.commit_page_count a.salt _ (length-padded a.front.now c.if-front-ne32.false)
+    let both = frame_refused a.log.now a.at a.start.page_num a.start.commit_page_count a.start.salt _ (length-padded a.front.now c.if-front-ne32.false)
     (sym c.fits_in.ensures ∙ c.if-not-fits_in.true) in
     record { value = both.0; log_after = both.1 }
 
@@ -52,7 +52,7 @@ overflow_add-at-4 c =
 pub returns : goal.returns
 returns c =
     let a = c.args in
-    let both = padded-stored a.log.now a.at a.page_num a.commit_page_count a.salt a.front.now c.if-front-ne32.false
+    let both = padded-stored a.log.now a.at a.start.page_num a.start.commit_page_count a.start.salt a.front.now c.if-front-ne32.false
     (sym c.fits_in.ensures ∙ c.if-not-fits_in.false) c.write_bytes.ensures.1 c.write_zeros.ensures.1
     c.put_heading.ensures (rw c.part.ensures at c.sum_over-heading_sum.ensures) c.sum_over.ensures c.write_u32.ensures.1 in
     record { value = both.0; log_after = both.1 }

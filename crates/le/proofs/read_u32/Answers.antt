@@ -1,17 +1,6 @@
-use mathlib.Core.Path.{sym, ◌∙◌}
-use borrow.Author.Tests.{leb-true, leb-false}
-use Rattle.le.proofs.Fields.{field-whole, field_cut}
+use Rattle.std.proofs.Common.{rules}
+use Rattle.le.proofs.Fields.{from_bytes}
 use Rattle.le.proofs.read_u32.Goals as goal
 
-pub get_u32-requires : goal.get_u32-requires
-get_u32-requires c = leb-true _ _ (sym c.fits_in.ensures ∙ c.if-fits_in.true)
-
-pub returns-then-fits_in : goal.returns-then-fits_in
-returns-then-fits_in c =
-    let a = c.args in
-    c.get_u32.ensures ∙ sym (field-whole 4 a.at a.buf.now (leb-true _ _ (sym c.fits_in.ensures ∙ c.if-fits_in.true)))
-
 pub returns : goal.returns
-returns c =
-    let a = c.args in
-    sym (field_cut 4 a.at a.buf.now (leb-false _ _ (sym c.fits_in.ensures ∙ c.if-fits_in.false)))
+returns c = let h = c.bytes_at.type_inv in from_bytes 3 c.bytes_at.result (search rules) c.from_le_bytes.ensures c.bytes_at.ensures

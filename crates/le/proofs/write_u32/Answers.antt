@@ -1,19 +1,7 @@
-use mathlib.Core.Path.{sym, ◌∙◌}
-use borrow.Author.Tests.{leb-true}
-use Rattle.le.specs.Le.{le_bytes}
-use Rattle.le.proofs.Fields.{length-le_bytes}
-use Rattle.le.proofs.Stores.{stored, refused}
+use Rattle.le.proofs.Stores.{stored-bytes}
 use Rattle.le.proofs.write_u32.Goals as goal
-
-pub put_u32-requires : goal.put_u32-requires
-put_u32-requires c = leb-true _ _ (sym c.fits_in.ensures ∙ c.if-fits_in.true)
-
-pub returns-then-fits_in : goal.returns-then-fits_in
-returns-then-fits_in c =
-    let a = c.args in
-    stored a.buf.now a.at 4 (le_bytes 4 a.v) (length-le_bytes 4 a.v) (sym c.fits_in.ensures ∙ c.if-fits_in.true) c.put_u32.ensures
 
 pub returns : goal.returns
 returns c =
     let a = c.args in
-    refused a.buf.now a.at 4 (le_bytes 4 a.v) (length-le_bytes 4 a.v) (sym c.fits_in.ensures ∙ c.if-fits_in.false)
+    stored-bytes a.buf.now a.at 4 a.v c.to_le_bytes.ensures c.write_bytes.ensures.0 c.write_bytes.ensures.1

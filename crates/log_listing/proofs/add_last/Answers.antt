@@ -3,8 +3,8 @@ use Rattle.log_listing.proofs.Lines.{count-added, none-added}
 use native.Mathlib.Omega.{arith}
 use Rattle.log_listing.proofs.add_last.Goals as goal
 
-pub returns-in-Count : goal.returns-in-Count
-returns-in-Count c = count-added _ _ c.in-Count.is c.add_number.ensures
+pub returns-in-Some : goal.returns-in-Some
+returns-in-Some c = count-added _ _ c.in-Some.is c.add_number.ensures
 
-pub returns-in-Nothing : goal.returns-in-Nothing
-returns-in-Nothing c = none-added _ c.in-Nothing.is (added-most (omega arith) c.add_text.ensures)
+pub returns-in-None : goal.returns-in-None
+returns-in-None c = none-added _ c.in-None.is (added-most (omega arith) c.add_text.ensures)

@@ -8,11 +8,11 @@ returns-then-file-gt-LISTED_SIZE c = long-added _ c.if-file-gt-LISTED_SIZE.true 
 
 pub add_opened-requires : goal.add_opened-requires
 add_opened-requires c =
-    let k = open-known c.args.file.now _ (sym c.open.ensures ∙ c.in-Opened.is) in
+    let k = open-known c.args.file.now _ (sym c.open.ensures ∙ c.in-Ok.is) in
     (c.if-file-gt-LISTED_SIZE.false, k.known, c.requires)
 
-pub returns-in-Opened : goal.returns-in-Opened
-returns-in-Opened c = listing-added _ _ c.if-file-gt-LISTED_SIZE.false (sym c.open.ensures ∙ c.in-Opened.is) c.add_opened.ensures
+pub returns-in-Ok : goal.returns-in-Ok
+returns-in-Ok c = listing-added _ _ c.if-file-gt-LISTED_SIZE.false (sym c.open.ensures ∙ c.in-Ok.is) c.add_opened.ensures
 
-pub returns-in-Refused : goal.returns-in-Refused
-returns-in-Refused c = listing-added _ _ c.if-file-gt-LISTED_SIZE.false (sym c.open.ensures ∙ c.in-Refused.is) c.add_refused-in-Refused.ensures
+pub returns-in-Err : goal.returns-in-Err
+returns-in-Err c = listing-added _ _ c.if-file-gt-LISTED_SIZE.false (sym c.open.ensures ∙ c.in-Err.is) c.add_refused-in-Err.ensures

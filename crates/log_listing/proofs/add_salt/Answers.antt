@@ -14,4 +14,4 @@ unfolding salt_text
 returns c =
     let h = c.requires in
     let e = c.hex-k.ensures in
-    added_next c.add_text-end.ensures (salt-added _ _ (omega arith) e.len e.digits c.add_text.ensures) (omega arith)
+    added_next c.add_text-end.ensures (rw c.from.ensures at (salt-added _ _ (omega arith) e.len e.digits c.add_text.ensures)) (omega arith)

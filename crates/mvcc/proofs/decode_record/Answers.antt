@@ -1,18 +1,17 @@
-use mathlib.Core.Path.{refl, sym}
-use Rattle.mvcc.specs.Fields.{row_answer, payload_answer}
-use Rattle.mvcc.proofs.Laws.{told, passed}
+use mathlib.Core.Path.{sym}
+use Rattle.std.proofs.lemmas.Result.{err_from_is_err_and}
 use Rattle.mvcc.proofs.Parts.{row-bad, payload-bad, payload-good}
 use Rattle.mvcc.proofs.decode_record.Goals as goal
 
-pub returns-in_default : goal.returns-in_default
-returns-in_default c = sym (row-bad _ _ (passed row_answer c.row_at-r.ensures c.in_default.is c.why_row.ensures refl))
+pub returns-in_err-op : goal.returns-in_err-op
+returns-in_err-op c =
+    let p = err_from_is_err_and c.from_residual.result c.from_residual.ensures.1 in
+    rw (p.1, p.2) (sym (row-bad _ _ (sym c.in_err-op.ensures)))
 
-pub returns-in_default-p : goal.returns-in_default-p
-returns-in_default-p c =
-    sym (payload-bad _ _ (told row_answer c.row_at-r.ensures c.in-Taken.is)
-    (passed payload_answer c.payload_at-p.ensures.result_value c.in_default-p.is c.why_payload.ensures refl))
+pub returns-in-Ok : goal.returns-in-Ok
+returns-in-Ok c =
+    sym (payload-good _ _ (sym c.in_ok-op.ensures) (sym c.in-Ok.ensures.result_value))
 
-pub returns : goal.returns
-returns c =
-    sym (payload-good _ _ (told row_answer c.row_at-r.ensures c.in-Taken.is)
-    (told payload_answer c.payload_at-p.ensures.result_value c.in-Taken-p.is))
+pub returns-in-Err : goal.returns-in-Err
+returns-in-Err c =
+    sym (payload-bad _ _ (sym c.in_ok-op.ensures) (sym c.in-Err.ensures.result_value))

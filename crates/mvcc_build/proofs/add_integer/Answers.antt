@@ -9,5 +9,5 @@ use Rattle.mvcc_build.proofs.add_integer.Goals as goal
 pub returns : goal.returns
 returns c =
     let a = c.args in
-    let both = column-way a.b a.body.now a.name.now 1 8 c.unsigned_of.result [] (integer a.value) (integer-bytes a.value (rw (to_z-of_z w64 a.value c.ranges.value) at c.unsigned_of.ensures)) c.is_text.ensures c.add_column.ensures.value c.add_column.ensures.body_after in
+    let both = column-way a.b a.body.now a.name.now 1 8 c.cast_unsigned.result [] (integer a.value) (integer-bytes a.value (rw (to_z-of_z w64 a.value c.ranges.value) at c.cast_unsigned.ensures)) c.is_text.ensures c.add_column.ensures.value c.add_column.ensures.body_after in
     record { value = both.0; body_after = both.1 }

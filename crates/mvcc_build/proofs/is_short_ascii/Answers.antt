@@ -7,15 +7,6 @@ use Rattle.le.proofs.Compare.{no_test}
 use Rattle.mvcc_build.proofs.Words.{and-true, wide-le, word-ascii, ends-ascii}
 use Rattle.mvcc_build.proofs.is_short_ascii.Goals as goal
 
-pub returns-then-n-gt16 : goal.returns-then-n-gt16
-returns-then-n-gt16 c = no_test
-
-pub word-requires : goal.word-requires
-word-requires c = (omega arith, c.width-w.ensures.2)
-
-pub word-requires-2 : goal.word-requires-2
-word-requires-2 c = (omega arith, c.width-w.ensures.2)
-
 pub returns : goal.returns
 returns c =
     let s = c.args.s.now in

@@ -15,12 +15,6 @@ returns-then-n-gt16 c =
     let a = c.args in
     one-stored a.body.now a.at c.requires.0 a.s.now c.requires.1 c.write_bytes.ensures.1
 
-pub word-requires : goal.word-requires
-word-requires c = (omega arith, c.width-w.ensures.2)
-
-pub word-requires-2 : goal.word-requires-2
-word-requires-2 c = (omega arith, c.width-w.ensures.2)
-
 pub returns : goal.returns
 returns c =
     let a = c.args in

@@ -25,13 +25,6 @@ returns-then-k-eq2 c =
     let a = c.args in
     number-stored a.body.now a.at a.k 2 (a.v % 65536) a.v c.if-k-eq2.true (omega arith) (le_bytes-mod 2 a.v) c.write_u16.ensures.1
 
-pub loop-i-init : goal.loop-i-init
-loop-i-init c =
-    let a = c.args in
-    let e : a.at + 0 ≡ a.at = omega arith in
-    let f : a.k - 0 ≡ a.k = omega arith in
-    (omega arith, refl, rw (e, f))
-
 pub loop-i-preserved : goal.loop-i-preserved
 loop-i-preserved c =
     let a = c.args in

@@ -8,9 +8,4 @@ use Rattle.mvcc_build.proofs.put_record.Goals as goal
 pub returns : goal.returns
 returns c =
     let a = c.args in
-    head-stored a.body.now a.at c.requires.0 a.op a.table.now a.rowid a.zeros c.requires.1 c.put_text.ensures (rw (c.unsigned_of.ensures, to_z-of_z w64 a.rowid c.ranges.rowid) at c.write_u64.ensures.1) c.write_zeros.ensures.1
-
-pub shape_of-body : goal.shape_of-body
-shape_of-body c =
-    let a = c.args in
-    kept a.body.now a.at c.requires.0 (head_bytes a.op a.table.now a.rowid a.zeros) (rw length-head c.requires.1) (returns c)
+    head-stored a.body.now a.at c.requires.0 a.op a.table.now a.rowid a.zeros c.requires.1 c.put_text.ensures (rw (c.cast_unsigned.ensures, to_z-of_z w64 a.rowid c.ranges.rowid) at c.write_u64.ensures.1) c.write_zeros.ensures.1

@@ -4,39 +4,45 @@ use mathlib.Core.Path.{◌≡◌, sym, ◌∙◌}
 use mathlib.Core.List.{List}
 use Prim.Native.Nat.{ℕ, ◌-◌, ◌≤◌}
 use lib.ListN.{length, take, replicate}
+use Rattle.std.specs.Prelude.{Result, Ok, Err}
+use Rattle.std.proofs.lemmas.Result.{err_from_is_err_and}
+use Rattle.refusal.specs.declared.Refusal.{Refusal}
+use Rattle.refusal.specs.declared.Refusal.TheVariants.{Area}
 use Rattle.le.specs.Le.{Bytes, store}
 use Rattle.mvcc.specs.Decode.{batch_of}
-use Rattle.mvcc.specs.declared.BatchDecoded.{BatchDecoded}
-use Rattle.mvcc.specs.declared.BatchDecoded.TheVariants.{Batch}
 use Rattle.mvcc.specs.declared.MvccCommitBatch.{MvccCommitBatch}
 use Rattle.mvcc.proofs.Parts.{report-answer}
-use Rattle.mvcc_canonical.proofs.Whole.{Decoded, Copy, count-is, end_is, fits, walk, copied, whole, copy_is, way_out, way_long, way-refused, way-done}
+use Rattle.mvcc_canonical.proofs.Whole.{Decoded, Copy, count-is, end_is, fits, walk, copied, whole, copy_is, Says, way_out, way_long, way-refused, way-done}
 use Rattle.mvcc_canonical.proofs.canonicalize.Goals as goal
+use Rattle.mvcc_canonical.proofs.canonicalize.Goals.{then-out-ne-BATCH_BODY_SIZE-via-then-out-ne-BATCH_BODY_SIZE, then-out-ne-BATCH_BODY_SIZE-via-else-out-ne-BATCH_BODY_SIZE+then-body-gt-BATCH_BODY_SIZE}
 
 pub returns-then-out-ne-BATCH_BODY_SIZE : goal.returns-then-out-ne-BATCH_BODY_SIZE
 returns-then-out-ne-BATCH_BODY_SIZE c =
-    let both = way_out c.args.body.now c.args.out.now c.if-out-ne-BATCH_BODY_SIZE.true in
+    let s = c.args.body.now in
+    let out = c.args.out.now in
+    let both : Says s out (Err Area) out = elim c.then-out-ne-BATCH_BODY_SIZE.branch [
+      | then-out-ne-BATCH_BODY_SIZE-via-then-out-ne-BATCH_BODY_SIZE w ↦ way_out s out w.if-out-ne-BATCH_BODY_SIZE.true
+      | then-out-ne-BATCH_BODY_SIZE-via-else-out-ne-BATCH_BODY_SIZE+then-body-gt-BATCH_BODY_SIZE w ↦
+          way_long s out w.if-out-ne-BATCH_BODY_SIZE.false w.if-body-gt-BATCH_BODY_SIZE.true
+    ] in
     record { value = both.0; out_after = both.1 }
 
-pub returns-then-body-gt-BATCH_BODY_SIZE : goal.returns-then-body-gt-BATCH_BODY_SIZE
-returns-then-body-gt-BATCH_BODY_SIZE c =
-    let both = way_long c.args.body.now c.args.out.now c.if-out-ne-BATCH_BODY_SIZE.false c.if-body-gt-BATCH_BODY_SIZE.true in
-    record { value = both.0; out_after = both.1 }
-
-pub returns-in_default : goal.returns-in_default
-returns-in_default c =
+pub returns-in_err-batch : goal.returns-in_err-batch
+returns-in_err-batch c =
     let a = c.args in
-    let both = way-refused a.body.now a.out.now c.if-out-ne-BATCH_BODY_SIZE.false c.if-body-gt-BATCH_BODY_SIZE.false (report-answer a.body.now c.decode-d.ensures.value) c.in_default.is c.canonical_answer.ensures in
-    record { value = both.0; out_after = both.1 }
+    let p = err_from_is_err_and c.from_residual.result c.from_residual.ensures.1 in
+    let e = report-answer a.body.now c.decode.ensures.value in
+    let both = way-refused a.body.now a.out.now c.if-out-ne-BATCH_BODY_SIZE.false c.if-body-gt-BATCH_BODY_SIZE.false (rw c.in_err-batch.was at e) in
+    record { value = rw (p.1, p.2) both.0; out_after = both.1 }
 
 -- the body, once it is decoded
-known : (s : List ℕ) {d : BatchDecoded} {b : MvccCommitBatch} → Bytes s → length s ≤ 4096 → d ≡ batch_of s → d ≡ Batch b → Decoded s b
+known : (s : List ℕ) {d : Result MvccCommitBatch Refusal} {b : MvccCommitBatch} → Bytes s → length s ≤ 4096 → d ≡ batch_of s → d ≡ Ok b → Decoded s b
 known s sb m e f = record { bytes = sb; small = m; is = sym e ∙ f }
 
 pub overflow_sub-end : goal.overflow_sub-end
 overflow_sub-end c =
     let s = c.args.body.now in
-    let k = known s (λ i. (c.type_inv.body i).fits) c.if-body-gt-BATCH_BODY_SIZE.false (report-answer s c.decode-d.ensures.value) c.in-Batch.is in
+    let k = known s (λ i. (c.type_inv.body i).fits) c.if-body-gt-BATCH_BODY_SIZE.false (report-answer s c.decode.ensures.value) c.in_ok-batch.was in
     let f = fits s k in
     let h = k.small in
     rw (end_is s k) (omega arith)
@@ -44,7 +50,7 @@ overflow_sub-end c =
 pub top_bool-requires : goal.top_bool-requires
 top_bool-requires c =
     let s = c.args.body.now in
-    let k = known s (λ i. (c.type_inv.body i).fits) c.if-body-gt-BATCH_BODY_SIZE.false (report-answer s c.decode-d.ensures.value) c.in-Batch.is in
+    let k = known s (λ i. (c.type_inv.body i).fits) c.if-body-gt-BATCH_BODY_SIZE.false (report-answer s c.decode.ensures.value) c.in_ok-batch.was in
     rw (end_is s k) (fits s k)
 
 -- what both stores leave
@@ -59,7 +65,7 @@ returns-then-top_bool-le1 c =
     let a = c.args in
     let s = a.body.now in
     let full = c.if-out-ne-BATCH_BODY_SIZE.false in
-    let k = known s (λ i. (c.type_inv.body i).fits) c.if-body-gt-BATCH_BODY_SIZE.false (report-answer s c.decode-d.ensures.value) c.in-Batch.is in
+    let k = known s (λ i. (c.type_inv.body i).fits) c.if-body-gt-BATCH_BODY_SIZE.false (report-answer s c.decode.ensures.value) c.in_ok-batch.was in
     let l = laid s k a.out.now full c.part.ensures c.write_bytes.ensures.1 c.write_zeros.ensures.1 in
     let both = way-done s a.out.now full k (copy_is s k l c.top_bool.ensures c.if-top_bool-le1.true) in
     record { value = both.0; out_after = both.1 }
@@ -67,7 +73,7 @@ returns-then-top_bool-le1 c =
 pub fix_records-requires : goal.fix_records-requires
 fix_records-requires c =
     let s = c.args.body.now in
-    let k = known s (λ i. (c.type_inv.body i).fits) c.if-body-gt-BATCH_BODY_SIZE.false (report-answer s c.decode-d.ensures.value) c.in-Batch.is in
+    let k = known s (λ i. (c.type_inv.body i).fits) c.if-body-gt-BATCH_BODY_SIZE.false (report-answer s c.decode.ensures.value) c.in_ok-batch.was in
     rw (count-is s k) (walk s k)
 
 pub returns : goal.returns
@@ -75,7 +81,7 @@ returns c =
     let a = c.args in
     let s = a.body.now in
     let full = c.if-out-ne-BATCH_BODY_SIZE.false in
-    let k = known s (λ i. (c.type_inv.body i).fits) c.if-body-gt-BATCH_BODY_SIZE.false (report-answer s c.decode-d.ensures.value) c.in-Batch.is in
+    let k = known s (λ i. (c.type_inv.body i).fits) c.if-body-gt-BATCH_BODY_SIZE.false (report-answer s c.decode.ensures.value) c.in_ok-batch.was in
     let l = laid s k a.out.now full c.part.ensures c.write_bytes.ensures.1 c.write_zeros.ensures.1 in
     let both = way-done s a.out.now full k (whole s k (rw (count-is s k, l) at c.fix_records.ensures)) in
     record { value = both.0; out_after = both.1 }

@@ -1,39 +1,39 @@
 -- `mvcc_canonical::fix_columns` meets its contract. Assumes nothing.
 use native.Mathlib.Omega.{arith}
-use mathlib.Core.Path.{refl, sym, ap, ◌∙◌}
-use Prim.Native.Nat.{◌-◌}
-use Rattle.mvcc_canonical.proofs.Walk.{end_on, end-off, end-done, fix-on, fix-off, fix-done, column-did}
+use mathlib.Core.Path.{◌≡◌, sym, ap, ◌∙◌}
+use Prim.Native.Nat.{◌+◌, ◌-◌, ◌<◌}
+use Rattle.mvcc_canonical.proofs.Walk.{column-ok, column-on, end_on, end-done, fix-on, fix-done, column-did}
 use Rattle.mvcc.specs.Decode.{column_at}
-use Rattle.mvcc_canonical.specs.Canonical.{fix_all, column_step}
 use Rattle.mvcc.specs.Fields.{column_answer}
-use Rattle.mvcc.proofs.Laws.{told}
+use Rattle.mvcc_canonical.specs.Canonical.{fix_all, column_step}
 use Rattle.mvcc_canonical.proofs.fix_columns.Goals as goal
 
-pub loop-left-init : goal.loop-left-init
-loop-left-init c = (refl, (refl, refl))
+pub unwrap-next-requires : goal.unwrap-next-requires
+unwrap-next-requires c =
+    let l = c.loop in
+    column-ok c.args.body.now (c.args.n - l.counter) l.at _ (omega arith) l.invariant.0 c.decode_column.ensures
 
-pub shape_of-out-in_default : goal.shape_of-out-in_default
-shape_of-out-in_default c = c.loop-left.invariant.1.1
-
-pub returns-in_default : goal.returns-in_default
-returns-in_default c = let e = told column_answer c.decode_column.ensures c.in_default.is in record { value = sym (end-off (column_at c.args.body.now) column_step c.loop-left.left c.loop-left.at c.loop-left-test.true e) ∙ c.loop-left.invariant.0; out_after = sym (fix-off (column_at c.args.body.now) column_step c.loop-left.left c.loop-left.at c.loop-left.out e) ∙ c.loop-left.invariant.1.0 }
-
-pub loop-left-preserved : goal.loop-left-preserved
-loop-left-preserved c =
-    let e = told column_answer c.decode_column.ensures c.in-Taken.is in (
-      sym (end_on (column_at c.args.body.now) column_step c.loop-left.left c.loop-left.at c.loop-left-test.true e) ∙ c.loop-left.invariant.0,
-      (
-        ap (fix_all (column_at c.args.body.now) column_step (c.loop-left.left - 1) c.in-Taken.next) (column-did c.in-Taken.c c.in-Taken.next c.loop-left.out c.fix_value.ensures)
-            ∙ sym (fix-on (column_at c.args.body.now) column_step c.loop-left.left c.loop-left.at c.loop-left.out c.loop-left-test.true e) ∙ c.loop-left.invariant.1.0,
-        omega (arith, c.loop-left.invariant.1.1),
-      ),
+pub loop-preserved : goal.loop-preserved
+loop-preserved c =
+    let l = c.loop in
+    let s = c.args.body.now in
+    let left = c.args.n - l.counter in
+    let some : 0 < c.args.n - l.counter = omega arith in
+    let less : c.args.n - (l.counter + 1) ≡ c.args.n - l.counter - 1 = omega arith in
+    let r = c.unwrap-next.result in
+    let e = sym c.decode_column.ensures ∙ ap (λ q. column_answer q) c.unwrap-next.ensures in (
+      rw less (column-on s left l.at some l.invariant.0 e),
+      rw less (sym (end_on (column_at s) column_step left l.at some e) ∙ l.invariant.1),
+      rw less
+          (ap (fix_all (column_at s) column_step (left - 1) r.1) (column-did r.0 r.1 l.out c.fix_value.ensures)
+          ∙ sym (fix-on (column_at s) column_step left l.at l.out some e) ∙ l.invariant.2),
     )
 
-pub shape_of-out : goal.shape_of-out
-shape_of-out c = c.loop-left.invariant.1.1
-
 pub returns : goal.returns
-returns c = record {
-  value = sym (end-done (column_at c.args.body.now) column_step c.loop-left.left c.loop-left.at c.loop-left-test.false) ∙ c.loop-left.invariant.0;
-  out_after = sym (fix-done (column_at c.args.body.now) column_step c.loop-left.left c.loop-left.at c.loop-left.out c.loop-left-test.false) ∙ c.loop-left.invariant.1.0;
-}
+returns c =
+    let l = c.loop in
+    let f = column_at c.args.body.now in
+    record {
+      value = sym (end-done f column_step (c.args.n - l.counter) l.at (omega arith)) ∙ l.invariant.1;
+      out_after = sym (fix-done f column_step (c.args.n - l.counter) l.at l.out (omega arith)) ∙ l.invariant.2;
+    }

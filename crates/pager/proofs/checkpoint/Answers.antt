@@ -1,17 +1,26 @@
+use mathlib.Core.Path.{ap, ◌∙◌}
+use Rattle.std.specs.Prelude.{Ok}
 use Rattle.pager_state.specs.World.{world}
-use Rattle.pager.proofs.Whole.{checkpoint-told, checkpoint-refused, checkpoint-run}
+use Rattle.pager.proofs.Whole.{checkpoint-run, checkpoint-nothing, checkpoint-refused}
 use Rattle.pager.proofs.checkpoint.Goals as goal
 
-pub returns-in_default : goal.returns-in_default
-returns-in_default c =
-    let g = c.args.staging.now in
-    let w = world c.args.pager c.args.table.now c.args.log.now c.args.main.now in
-    let k = c.begin_checkpoint-begun.ensures in
-    record { answer_value = checkpoint-told g w c.args.salt k c.answer_of.ensures c.written_as-answer.ensures; later_after = checkpoint-refused g w c.args.salt k c.in_default.not-Begun }
+pub returns-in-Ok-Begun : goal.returns-in-Ok-Begun
+returns-in-Ok-Begun c =
+    let a = c.args in
+    let w = world a.pager a.table.now a.log.now a.main.now in
+    let both = checkpoint-run a.staging.now w a.salt c.begin_checkpoint-begun.ensures (c.in-Ok-Begun.is ∙ ap Ok (rw c.in-Ok-Begun.is at c.in-Ok-Begun.field-0-is)) c.answer_of-pages.ensures c.run_steps-end.ensures in
+    record { answer_value = both.0; later_after = both.1 }
 
-pub returns : goal.returns
-returns c =
-    let g = c.args.staging.now in
-    let w = world c.args.pager c.args.table.now c.args.log.now c.args.main.now in
-    let k = c.begin_checkpoint-begun.ensures in
-    record { answer_value = checkpoint-told g w c.args.salt k c.answer_of.ensures c.written_as-answer.ensures; later_after = checkpoint-run g w c.args.salt k c.in-Begun.is c.run_steps-end.ensures }
+pub returns-in-Ok-Nothing : goal.returns-in-Ok-Nothing
+returns-in-Ok-Nothing c =
+    let a = c.args in
+    let w = world a.pager a.table.now a.log.now a.main.now in
+    let both = checkpoint-nothing a.staging.now w a.salt c.begin_checkpoint-begun.ensures (c.in-Ok-Nothing.is ∙ ap Ok (rw c.in-Ok-Nothing.is at c.in-Ok-Nothing.field-0-is)) in
+    record { answer_value = both.0; later_after = both.1 }
+
+pub returns-in-Err : goal.returns-in-Err
+returns-in-Err c =
+    let a = c.args in
+    let w = world a.pager a.table.now a.log.now a.main.now in
+    let both = checkpoint-refused a.staging.now w a.salt c.begin_checkpoint-begun.ensures c.in-Err.is in
+    record { answer_value = both.0; later_after = both.1 }

@@ -1,8 +1,7 @@
-use native.Mathlib.Omega.{arith}
 use mathlib.Core.Path.{◌≡◌, sym, ◌∙◌}
 use mathlib.Core.Bool.{true}
+use mathlib.Core.Logic.{⊎_elim}
 use Rattle.pager_state.specs.World.{world, fine}
-use Rattle.pager_state.proofs.Made.{fine-parts}
 use Rattle.pager_checkpoint.proofs.Checkpointing.{not-fine, at-idle, at-commit, at-checkpoint, at_length, at-empty, at_last}
 use Rattle.pager_checkpoint.proofs.checkpoint_step.Goals as goal
 
@@ -13,52 +12,12 @@ returns-then-not-is_fine c =
     let both = not-fine W (sym c.is_fine.ensures ∙ c.if-not-is_fine.true) in
     record { answer_value = both.0; main_after = both.1 }
 
-pub pages_step-requires : goal.pages_step-requires
-unfolding fine
-pages_step-requires c =
-    let W = world c.args.pager c.args.table.now c.args.log.now c.args.main.now in
-    let fi : fine W ≡ true = sym c.is_fine.ensures ∙ c.if-not-is_fine.false in
-    let s = fine-parts W fi in
-    s.files.main.area
-
-pub length_step-requires : goal.length_step-requires
-unfolding fine
-length_step-requires c =
-    let W = world c.args.pager c.args.table.now c.args.log.now c.args.main.now in
-    let fi : fine W ≡ true = sym c.is_fine.ensures ∙ c.if-not-is_fine.false in
-    let s = fine-parts W fi in
-    (s.count, s.files.main.area)
-
-pub empty_step-requires : goal.empty_step-requires
-unfolding fine
-empty_step-requires c =
-    let W = world c.args.pager c.args.table.now c.args.log.now c.args.main.now in
-    let fi : fine W ≡ true = sym c.is_fine.ensures ∙ c.if-not-is_fine.false in
-    let s = fine-parts W fi in
-    omega (arith, s.files.log.area)
-
-pub last_step-requires : goal.last_step-requires
-unfolding fine
-last_step-requires c =
-    let W = world c.args.pager c.args.table.now c.args.log.now c.args.main.now in
-    let fi : fine W ≡ true = sym c.is_fine.ensures ∙ c.if-not-is_fine.false in
-    let s = fine-parts W fi in
-    (s.files.log.area, s.files.log.len)
-
 pub returns-in-Idle : goal.returns-in-Idle
 unfolding fine
 returns-in-Idle c =
     let W = world c.args.pager c.args.table.now c.args.log.now c.args.main.now in
     let fi : fine W ≡ true = sym c.is_fine.ensures ∙ c.if-not-is_fine.false in
-    let both = at-idle W fi c.in-Idle.is in
-    record { answer_value = both.0; main_after = both.1 }
-
-pub returns-in-Commit : goal.returns-in-Commit
-unfolding fine
-returns-in-Commit c =
-    let W = world c.args.pager c.args.table.now c.args.log.now c.args.main.now in
-    let fi : fine W ≡ true = sym c.is_fine.ensures ∙ c.if-not-is_fine.false in
-    let both = at-commit W fi _ _ _ _ c.in-Commit.is in
+    let both = ⊎_elim (at-idle W fi) (λ w. at-commit W fi _ _ _ _ w.4) c.in-Idle.is in
     record { answer_value = both.0; main_after = both.1 }
 
 pub returns-in-Checkpoint : goal.returns-in-Checkpoint

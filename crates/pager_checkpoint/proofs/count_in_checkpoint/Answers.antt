@@ -1,40 +1,26 @@
-use native.Mathlib.Omega.{arith}
-use mathlib.Core.Path.{ap, ◌∙◌}
-use lib.ListN.{length}
-use Rattle.pager_state.specs.Pages.{in_checkpoint_by}
-use Rattle.pager_state.proofs.Walks.{tally-step}
-use Rattle.pager_checkpoint.proofs.Scan.{seen, scanned, from_one}
+use Rattle.std.proofs.Common.{◌∙◌, ap, ℕ, ◌+◌, ◌-◌, drop, length, get_or, arith, sym}
+use Rattle.std.proofs.lemmas.List.{get_or-take, get_or-drop}
+use Rattle.pager_checkpoint.proofs.Scan.{counted, scanned, from_one}
 use Rattle.pager_checkpoint.proofs.count_in_checkpoint.Goals as goal
 
-pub loop-p-init : goal.loop-p-init
-loop-p-init c =
-    let e = ap length (from_one c.args.count c.args.table.now 0) in
-    (omega arith, (omega arith, omega (arith, e)))
+pub returns-then-end-eq0 : goal.returns-then-end-eq0
+returns-then-end-eq0 c = sym (ap length (scanned c.args.count c.args.table.now 0 (omega (arith, c.checkpoint_end-end.ensures, c.if-end-eq0.true))))
 
-pub tally-n-requires : goal.tally-n-requires
-tally-n-requires c =
+pub loop-entry-init : goal.loop-entry-init
+loop-entry-init c = (omega arith, omega (arith, ap length (from_one c.args.count c.args.table.now 0)))
+
+pub loop-entry-preserved : goal.loop-entry-preserved
+loop-entry-preserved c =
     let e = c.checkpoint_end-end.ensures in
-    omega (arith, c.loop-p-test.true)
-
-pub overflow_add-p : goal.overflow_add-p
-overflow_add-p c =
-    let e = c.checkpoint_end-end.ensures in
-    omega (arith, c.loop-p-test.true)
-
-pub loop-p-smaller : goal.loop-p-smaller
-loop-p-smaller c = omega (arith, c.loop-p-test.true)
-
-pub loop-p-preserved : goal.loop-p-preserved
-loop-p-preserved c =
-    let e = c.checkpoint_end-end.ensures in
-    let t = c.loop-p-test.true in
-    let p = c.loop-p.p in
-    let y = seen c.args.count c.args.table.now p c.loop-p.invariant.0 (omega arith) in
-    let k = tally-step (in_checkpoint_by c.args.count c.args.table.now) c.loop-p.n p (omega arith) y c.tally-n.ensures in
-    (omega arith, (omega (arith, k.0), k.1 ∙ c.loop-p.invariant.1.1))
+    let l = c.loop-entry in
+    let g = get_or-take (c.checkpoint_end-end.result - 1) (drop 1 c.args.table.now) l.entry-index 0 (omega arith) ∙ get_or-drop 1 c.args.table.now l.entry-index 0
+    ∙ ap (λ (i : ℕ). get_or c.args.table.now i 0) {x = 1 + l.entry-index} {y = l.entry-index + 1} (omega arith) in
+    let k = counted c.args.count c.args.table.now l.n (l.entry-index + 1) (omega arith) (omega arith) (omega arith) (rw g at c.from-n.ensures) in
+    (omega (arith, k.0, l.invariant.0), k.1 ∙ l.invariant.1)
 
 pub returns : goal.returns
 returns c =
     let e = c.checkpoint_end-end.ensures in
-    let z = ap length (scanned c.args.count c.args.table.now c.loop-p.p (omega (arith, c.loop-p-test.false))) in
-    omega (arith, c.widen_u32.ensures, z, c.loop-p.invariant.1.1)
+    let l = c.loop-entry in
+    let z = ap length (scanned c.args.count c.args.table.now (l.entry-index + 1) (omega arith)) in
+    omega (arith, z, l.invariant.1)

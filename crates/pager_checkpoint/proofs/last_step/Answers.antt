@@ -17,6 +17,6 @@ returns c =
     let l = c.args.log.now in
     let v = c.args.pager.wal in
     let t = truncated-as l v c.args.salt c.requires in
-    let e : c.in-Truncated.wal ≡ empty_wal (truncated_header v.header c.args.salt) = cc (t, c.truncate.ensures.0, c.in-Truncated.is) in
+    let e : c.in-Ok.wal ≡ empty_wal (truncated_header v.header c.args.salt) = cc (t, c.truncate.ensures.0, c.in-Ok.is) in
     let n = length-encode_wal_header (truncated_header v.header c.args.salt) in
     record { answer_value = rw n; pager_value = c.with_wal-next.ensures ∙ rw e; table_after = c.checkpoint_table.ensures; log_after = c.truncate.ensures.1 ∙ truncated-log l v c.args.salt c.requires }

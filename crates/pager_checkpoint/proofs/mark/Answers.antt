@@ -1,8 +1,11 @@
-use borrow.Author.Tests.{eq-eqb, ne_eqb}
+use Rattle.std.proofs.Common.{arith}
 use Rattle.pager_checkpoint.proofs.mark.Goals as goal
+use Rattle.pager_checkpoint.proofs.Table.{marked, no-entries}
 
-pub returns-then-entry-eq0 : goal.returns-then-entry-eq0
-returns-then-entry-eq0 c = simp (eq-eqb _ _ c.if-entry-eq0.true)
+pub returns-then-table-gt0 : goal.returns-then-table-gt0
+returns-then-table-gt0 c =
+    let l = c.loop-entry in
+    marked c.args.table.now l.table l.auto.table (λ k h. l.invariant.0 k (omega arith)) c.if-table-gt0.true
 
-pub returns-else-entry-eq0 : goal.returns-else-entry-eq0
-returns-else-entry-eq0 c = simp (ne_eqb _ _ c.if-entry-eq0.false)
+pub returns-else-table-gt0 : goal.returns-else-table-gt0
+returns-else-table-gt0 c = no-entries c.args.table.now c.loop-entry.table c.loop-entry.auto.table c.if-table-gt0.false

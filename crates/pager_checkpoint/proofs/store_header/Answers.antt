@@ -1,10 +1,5 @@
-use native.Mathlib.Omega.{arith}
-use lib.ListN.{length-take}
 use Rattle.pager_checkpoint.proofs.Areas.{header-stored}
 use Rattle.pager_checkpoint.proofs.store_header.Goals as goal
-
-pub slice_bounds-encode_header-end-2 : goal.slice_bounds-encode_header-end-2
-slice_bounds-encode_header-end-2 c = simp length-take (omega arith)
 
 pub returns : goal.returns
 returns c = header-stored c.args.main.now c.args.len c.args.header c.requires c.encode_header.ensures.1 c.max.ensures

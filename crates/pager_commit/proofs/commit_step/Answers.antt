@@ -2,7 +2,6 @@ use mathlib.Core.Path.{◌≡◌, sym, ◌∙◌}
 use mathlib.Core.Bool.{true}
 use Rattle.pager_state.specs.World.{world, fine}
 use Rattle.pager_state.specs.Steps.{step_fine}
-use Rattle.pager_state.proofs.Made.{ready-fine}
 use Rattle.pager_commit.proofs.Step.{not-fine, at_other, at-commit}
 use Rattle.pager_commit.proofs.commit_step.Goals as goal
 
@@ -25,17 +24,6 @@ returns-in_default c =
     sym c.are_fine.ensures ∙ c.if-not-are_fine.false in
     let both = at_other g w (lengths) c.in_default.not-Commit in
     record { answer_value = both.0; later_after = both.1 }
-
-pub frames_step-requires : goal.frames_step-requires
-unfolding fine
-frames_step-requires c =
-    let a = c.args in
-    let g = a.staging.now in
-    let w = world a.pager a.table.now a.log.now a.main.now in
-    let lengths : step_fine g w ≡ true =
-    sym c.are_fine.ensures ∙ c.if-not-are_fine.false in
-    let r = ready-fine g w (lengths) in
-    (record { table = r.0.table; log = r.0.files.log.area }, r.1)
 
 pub returns : goal.returns
 unfolding fine

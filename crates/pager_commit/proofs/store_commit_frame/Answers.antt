@@ -1,11 +1,6 @@
-use native.Mathlib.Omega.{arith}
-use Rattle.pager_commit.proofs.Stores.{room-is, not_full, appended-is, commit-frame-stored}
+use Rattle.pager_commit.proofs.Stores.{not_full, appended-is, commit-frame-stored}
 use Rattle.pager_commit.proofs.store_commit_frame.Goals as goal
 
-pub enter-requires : goal.enter-requires
-enter-requires c = (omega (arith, c.requires.0.table), omega (arith, room-is c.args.wal c.requires.1))
-
--- there is room, so the commit frame is appended
 pub returns-in_default : goal.returns-in_default
 returns-in_default c =
     let s = commit-frame-stored c.args.log.now c.args.wal c.args.header c.requires.0.log c.requires.1 c.encode_fields-fields.ensures c.append_page_zero-appended.ensures.value c.append_page_zero-appended.ensures.log_after in
@@ -14,4 +9,4 @@ returns-in_default c =
 pub returns : goal.returns
 returns c =
     let s = commit-frame-stored c.args.log.now c.args.wal c.args.header c.requires.0.log c.requires.1 c.encode_fields-fields.ensures c.append_page_zero-appended.ensures.value c.append_page_zero-appended.ensures.log_after in
-    record { value = appended-is s.0 c.in-Appended.is; table_after = c.enter.ensures; log_after = s.1 }
+    record { value = appended-is s.0 c.in-Ok.is; table_after = c.enter.ensures; log_after = s.1 }

@@ -1,14 +1,8 @@
-use native.Mathlib.Omega.{arith}
 use mathlib.Core.Path.{◌≡◌, ◌∙◌}
 use lib.ListN.{length}
 use Rattle.page.specs.Page.{page_size}
-use Rattle.pager_commit.proofs.Stores.{body-size, room-is, frame-stored}
+use Rattle.pager_commit.proofs.Stores.{body-size, frame-stored}
 use Rattle.pager_commit.proofs.store_frame.Goals as goal
-
-pub enter-requires : goal.enter-requires
-enter-requires c =
-    let k = c.requires in
-    (omega (arith, k.page_lt_page_limit.0, k.lengths.0.table), omega (arith, room-is c.args.wal k.wal_value))
 
 pub returns : goal.returns
 returns c =

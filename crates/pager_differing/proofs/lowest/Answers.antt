@@ -1,25 +1,19 @@
-use Rattle.std.proofs.Common.{◌≡◌, ◌<◌, min, length, ◌∙◌, arith}
-use Rattle.pager_differing.proofs.Least.{least-none, least_step, least-page}
+use Rattle.std.proofs.Common.{◌≡◌, ◌<◌, get_or, take, arith, ◌∙◌, length-take, get_or-take}
+use Rattle.std.proofs.lemmas.List.{take_min}
+use Rattle.pager_differing.proofs.Least.{least_step, least-page}
 use Rattle.pager_differing.proofs.lowest.Goals as goal
 
-pub overflow_cast-from : goal.overflow_cast-from
-overflow_cast-from c = omega (arith, c.requires)
-
-pub loop-i-init : goal.loop-i-init
-loop-i-init c = (c.min-end.ensures, (omega arith, least-none c.args.s.now c.args.page))
-
-pub bounds-s-i : goal.bounds-s-i
-bounds-s-i c = omega arith
-
-pub loop-i-preserved : goal.loop-i-preserved
-loop-i-preserved c =
-    let h : c.wrapping_sub_u16-rise.result < 65536 = omega arith in
-    (c.loop-i.invariant.0, (omega arith, least_step c.args.s.now c.args.page c.loop-i.i c.loop-i.invariant.1.1 c.wrapping_sub_u16-rise.result h c.requires c.wrapping_sub_u16-rise.ensures.value c.min_u16-least.ensures))
-
-pub overflow_add-page : goal.overflow_add-page
-overflow_add-page c = omega (arith, c.requires, c.loop-i.invariant.1.1.most, c.widen_u16.ensures)
+pub loop-number-preserved : goal.loop-number-preserved
+loop-number-preserved c =
+    let a = c.args in
+    let i = c.loop-number.number-index in
+    let h : i < c.min.result = omega (arith, length-take c.min.result a.s.now, c.loop-number-test.true) in
+    let x = get_or (take c.min.result a.s.now) i 0 in
+    let b : x < 65536 = rw (get_or-take c.min.result a.s.now i 0 h) (c.type_inv.s i).fits in
+    least_step _ a.page i c.loop-number.invariant _ (omega arith) c.requires (omega (arith, b, c.requires)) c.min-least.ensures
 
 pub returns : goal.returns
 returns c =
-    let e : c.loop-i.i ≡ min c.args.n (length c.args.s.now) = omega arith in
-    c.min.ensures ∙ rw c.widen_u16.ensures (least-page c.args.s.now c.args.n c.args.page e c.requires c.loop-i.invariant.1.1)
+    let a = c.args in
+    let e : take c.min.result a.s.now ≡ take a.n a.s.now = rw c.min.ensures (take_min a.n a.s.now) in
+    c.min-2.ensures ∙ rw (c.from.ensures, ← e) (least-page (take c.min.result a.s.now) a.page (omega arith) c.requires c.loop-number.invariant)

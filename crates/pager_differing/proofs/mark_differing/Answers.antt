@@ -1,66 +1,66 @@
-use Rattle.std.proofs.Common.{◌≡◌, ◌<◌, min, length, ◌∙◌, arith, length-take}
-use Rattle.le.specs.Choice.{pick}
+use Rattle.std.proofs.Common.{◌≡◌, ℕ, ◌<◌, min, Bool, List, length, get_or, sym, ◌∙◌, arith, length-take}
 use Rattle.pager_state.specs.World.{staged_limit}
-use Rattle.pager_state.specs.Overlay.{staged_pages}
+use Rattle.pager_state.specs.Overlay.{find_in, slot_of, staged_pages}
 use Rattle.pager_state.proofs.Held.{slots}
-use Rattle.pager_differing.proofs.Differing.{count_none, count-step, count-all, tally-most}
-use Rattle.pager_differing.proofs.Marking.{marks-none, marks-step, marks-all}
+use Rattle.pager_state.specs.declared.Staged.{Staged}
+use Rattle.pager_differing.proofs.Differing.{count_none, count-step, count-all}
+use Rattle.pager_differing.proofs.Marking.{marks-none, marks-more, marks-kept, marks-all}
 use Rattle.pager_differing.proofs.mark_differing.Goals as goal
+use Rattle.pager_differing.specs.Differing.{counts_at}
+use Rattle.pager_differing.proofs.mark_differing.Goals.{then-is_counted, else-is_counted}
+
+slotted : (s : Staged) (g t l m : List ℕ) (page i : ℕ) {first : ℕ} {yes : Bool} → first ≡ find_in (staged_pages s) page → yes ≡ counts_at first g t l m page i
+    → counts_at (slot_of s page) g t l m page i ≡ yes
+unfolding slot_of
+slotted s g t l m page i e f = rw e at (sym f)
 
 pub loop-i-init : goal.loop-i-init
 loop-i-init c =
     let a = c.args in
-    let g = a.staging.now in
-    let t = a.table.now in
-    let l = a.log.now in
-    let m = a.main.now in
-    (c.min-end.ensures, (omega arith, (omega arith, (count_none a.staged g t l m, marks-none a.staged g t l m))))
-
-pub bounds-staged-i : goal.bounds-staged-i
-bounds-staged-i c = omega arith
-
-pub is_counted-yes-requires : goal.is_counted-yes-requires
-is_counted-yes-requires c = omega arith
-
-pub bounds-pages-i : goal.bounds-pages-i
-bounds-pages-i c = omega arith
-
-pub tally-n-requires : goal.tally-n-requires
-tally-n-requires c = omega arith
-
-pub overflow_add-i : goal.overflow_add-i
-overflow_add-i c = omega arith
-
-pub loop-i-smaller : goal.loop-i-smaller
-loop-i-smaller c = omega arith
+    record {
+      few = omega arith;
+      counted = count_none a.staged a.areas.staging.now a.areas.table.now a.areas.log.now a.areas.main.now;
+      marked = marks-none a.staged a.areas.staging.now a.areas.table.now a.areas.log.now a.areas.main.now;
+    }
 
 pub loop-i-preserved : goal.loop-i-preserved
 loop-i-preserved c =
     let s = c.args.staged in
-    let g = c.args.staging.now in
-    let t = c.args.table.now in
-    let l = c.args.log.now in
-    let m = c.args.main.now in
+    let g = c.args.areas.staging.now in
+    let t = c.args.areas.table.now in
+    let l = c.args.areas.log.now in
+    let m = c.args.areas.main.now in
+    let i = c.loop-i.i in
     let v = c.loop-i.invariant in
     let z : length s.pages ≡ staged_limit = slots s _ c.well_formed.0 in
     let y : length (staged_pages s) ≡ min s.count staged_limit = simp (length-take, z) in
-    let h : c.loop-i.i < length (staged_pages s) = omega arith in
-    let b : c.loop-i.i < staged_limit = omega arith in
-    let e = c.widen_u16-page.ensures in
-    let d : c.mark.result ≡ pick c.is_counted-yes.result c.widen_u16-page.result 65535 = c.mark.ensures ∙ rw e in
-    let k = count-step s g t l m c.loop-i.i c.widen_u16-page.result h e c.find_among-first.ensures.value c.is_counted-yes.ensures c.tally-n.ensures v.1.1.1.0 in
-    let p = marks-step s g t l m c.loop-i.i v.1.1.1.1 b e c.find_among-first.ensures.value c.is_counted-yes.ensures d in
-    (v.0, (omega arith, (tally-most c.loop-i.n c.is_counted-yes.result c.tally-n.ensures v.1.1.0, (k, p))))
+    let h : i < length (staged_pages s) = omega (arith, c.min-end.ensures) in
+    let k = count-step s g t l m i c.from-page.result h c.from-page.ensures c.find_among-first.ensures.value c.is_counted.ensures v.counted in
+    let q : counts_at (slot_of s c.from-page.result) g t l m c.from-page.result i ≡ c.is_counted.result = slotted s g t l m c.from-page.result i c.find_among-first.ensures.value c.is_counted.ensures in
+    let o : counts_at (slot_of s (get_or s.pages i 0)) g t l m (get_or s.pages i 0) i ≡ c.is_counted.result = rw c.from-page.ensures at q in
+    elim c.if-is_counted.branch [
+      | then-is_counted w ↦ record {
+        few = omega (arith, w.count-is);
+        counted = w.count-is ∙ rw w.if-is_counted.true at k;
+        marked = rw w.pages-is (marks-more s g t l m i v.marked (omega arith) (o ∙ w.if-is_counted.true));
+      }
+      | else-is_counted w ↦ record {
+        few = omega (arith, w.count-is);
+        counted = w.count-is ∙ rw w.if-is_counted.false at k;
+        marked = rw w.pages-is (marks-kept s g t l m i v.marked (omega arith) (o ∙ w.if-is_counted.false));
+      }
+    ]
 
-pub returns : goal.returns
-returns c =
+pub returns-clause-count_value : goal.returns-clause-count_value
+returns-clause-count_value c =
     let s = c.args.staged in
-    let g = c.args.staging.now in
-    let t = c.args.table.now in
-    let l = c.args.log.now in
-    let m = c.args.main.now in
-    let v = c.loop-i.invariant.1.1.1 in
     let z : length s.pages ≡ staged_limit = slots s _ c.well_formed.0 in
     let y : length (staged_pages s) ≡ min s.count staged_limit = simp (length-take, z) in
-    let e : c.loop-i.i ≡ length (staged_pages s) = omega arith in
-    record { count_value = v.0 ∙ count-all s g t l m c.loop-i.i e; count_le_staged_limit = (omega arith, v.1.long); fact = marks-all s g t l m c.loop-i.i v.1 e z }
+    c.loop-i.invariant.counted ∙ count-all s _ _ _ _ c.loop-i.i (omega (arith, c.min-end.ensures))
+
+pub returns-clause-fact : goal.returns-clause-fact
+returns-clause-fact c =
+    let s = c.args.staged in
+    let z : length s.pages ≡ staged_limit = slots s _ c.well_formed.0 in
+    let y : length (staged_pages s) ≡ min s.count staged_limit = simp (length-take, z) in
+    marks-all s _ _ _ _ c.loop-i.i c.loop-i.invariant.marked (omega (arith, c.min-end.ensures)) z

@@ -1,12 +1,12 @@
-use Rattle.std.proofs.Common.{◌≡◌, ◌-◌, ◌≤◌, min, length}
-use Rattle.pager_state.specs.World.{staged_limit}
+use Rattle.std.proofs.Common.{◌≡◌, ◌≤◌, length}
 use Rattle.pager_state.specs.Pages.{pages_from}
 use Rattle.pager_differing.proofs.Differing.{Upto}
 use Rattle.pager_differing.proofs.Marking.{Front}
 use Rattle.pager_differing.proofs.mark_differing.Given as goal
 
 abbrev pub invariant-loop-i : goal.invariant-loop-i
-invariant-loop-i l = (l.end ≡ min l.staged.count staged_limit) × ((l.i ≤ l.end) × ((l.n ≤ l.i) × ((l.n ≡ length (pages_from (Upto l.staged l.staging l.table l.log l.main l.i) 0)) × Front l.staged l.staging l.table l.log l.main l.i l.pages)))
-
-abbrev pub decreases-loop-i : goal.decreases-loop-i
-decreases-loop-i l = l.end - l.i
+invariant-loop-i l = record {
+  few : l.count ≤ l.i;
+  counted : l.count ≡ length (pages_from (Upto l.staged l.areas.staging.now l.areas.table.now l.areas.log.now l.areas.main.now l.i) 0);
+  marked : Front l.staged l.areas.staging.now l.areas.table.now l.areas.log.now l.areas.main.now l.i l.pages;
+}

@@ -1,17 +1,10 @@
 use mathlib.Core.Path.{◌≡◌, sym, ap, ◌∙◌}
-use borrow.Author.Tests.{eq-eqb, ne_eqb}
+use borrow.Author.Tests.{eq-eqb}
 use Rattle.frame.specs.Frame.{frame_at}
 use Rattle.frame.specs.declared.FrameHeader.{FrameHeader}
 use Rattle.wal.specs.Recovery.{page_of, batch_page}
 use Rattle.pager_open.proofs.Clock.{time-there}
 use Rattle.pager_open.proofs.batch_time.Goals as goal
-
-pub returns-then-header : goal.returns-then-header
-returns-then-header c =
-    let read-page : c.read_frame_header-header.result.page_num ≡ page_of (frame_at c.args.at c.args.file.now) =
-    ap (λ (x : FrameHeader). x.page_num) c.read_frame_header-header.ensures in
-    let n : page_of (frame_at c.args.at c.args.file.now) ≡ batch_page → ⊥ = λ e. c.if-header.true (read-page ∙ e) in
-    rw (ne_eqb (page_of (frame_at c.args.at c.args.file.now)) batch_page n)
 
 pub returns : goal.returns
 returns c =

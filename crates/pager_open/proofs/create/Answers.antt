@@ -1,6 +1,5 @@
 use mathlib.Core.Path.{◌≡◌, sym, ◌∙◌}
 use mathlib.Core.Bool.{true}
-use native.Mathlib.Omega.{arith}
 use lib.ListN.{length}
 use Rattle.wal.specs.Write.{empty_wal}
 use Rattle.pager_state.specs.Opening.{first_header, created_pager}
@@ -15,27 +14,6 @@ returns-then-not-are_fine c =
     let both = create-refused a.table.now a.log.now a.main.now a.staging.now a.salt (sym c.are_fine.ensures ∙ c.if-not-are_fine.true) (rw c.no_store.ensures) in
     record { value = both.0; table_after = both.1.0; log_after = both.1.1.0; main_after = both.1.1.1 }
 
-pub store_pages-requires : goal.store_pages-requires
-store_pages-requires c =
-    let fine : let a = c.args in lengths_fine (length a.table.now) (length a.log.now) 0 (length a.main.now) 0 (length a.staging.now) ≡ true =
-    sym c.are_fine.ensures ∙ c.if-not-are_fine.false in
-    let sizes : let a = c.args in Fine (length a.table.now) (length a.log.now) 0 (length a.main.now) =
-    let a = c.args in
-    lengths (length a.table.now) (length a.log.now) 0 (length a.main.now) 0 (length a.staging.now) (fine) in
-    omega (arith, (sizes).main)
-
-pub clear_table-requires : goal.clear_table-requires
-clear_table-requires c =
-    let fine : let a = c.args in lengths_fine (length a.table.now) (length a.log.now) 0 (length a.main.now) 0 (length a.staging.now) ≡ true =
-    sym c.are_fine.ensures ∙ c.if-not-are_fine.false in
-    let sizes : let a = c.args in Fine (length a.table.now) (length a.log.now) 0 (length a.main.now) =
-    let a = c.args in
-    lengths (length a.table.now) (length a.log.now) 0 (length a.main.now) 0 (length a.staging.now) (fine) in
-    (sizes).table
-
-pub shape_of-main : goal.shape_of-main
-shape_of-main c = c.store_pages.auto.main
-
 pub returns : goal.returns
 unfolding first_header created_pager empty_wal
 returns c =
@@ -45,6 +23,6 @@ returns c =
     let a = c.args in
     lengths (length a.table.now) (length a.log.now) 0 (length a.main.now) 0 (length a.staging.now) (fine) in
     let a = c.args in
-    let p = rw c.empty_wal-wal.ensures at c.open_store.ensures in
+    let p = rw c.empty_wal.ensures at c.open_store.ensures in
     let both = create-done a.table.now a.log.now a.main.now a.staging.now a.salt (fine) (sizes).area p c.clear_table.ensures c.create.ensures.1 c.store_pages.ensures in
     record { value = both.0; table_after = both.1.0; log_after = both.1.1.0; main_after = both.1.1.1 }

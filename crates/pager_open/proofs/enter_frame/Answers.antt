@@ -1,8 +1,5 @@
-use Rattle.pager_open.proofs.Table.{entered-as, entered-none}
+use Rattle.pager_open.proofs.Table.{entered-as}
 use Rattle.pager_open.proofs.enter_frame.Goals as goal
 
 pub returns-then-n-table : goal.returns-then-n-table
 returns-then-n-table c = entered-as c.args.table.now c.args.page_num c.args.at
-
-pub returns-else-n-table : goal.returns-else-n-table
-returns-else-n-table c = entered-none c.args.table.now c.args.page_num c.args.at c.if-n-table.false

@@ -1,14 +1,8 @@
-use mathlib.Core.Path.{◌≡◌}
-use mathlib.Core.List.{[]}
-use Prim.Native.Nat.{◌-◌}
-use lib.ListN.{length}
+use Rattle.std.proofs.Common.{◌≡◌, [], take}
 use Rattle.header.specs.declared.DbHeader.{DbHeader}
+use Rattle.wal.specs.Recovery.{chunks}
 use Rattle.pager_state.specs.Opening.{table_of}
-use Rattle.pager_open.proofs.Table.{Entering}
 use Rattle.pager_open.proofs.fill_table.Given as goal
 
-abbrev pub invariant-loop-header : goal.invariant-loop-header
-invariant-loop-header l = (h : DbHeader) → l.initial.table ≡ table_of h [] → Entering h l.file l.table l.at
-
-abbrev pub decreases-loop-header : goal.decreases-loop-header
-decreases-loop-header l = length l.file - l.at
+abbrev pub invariant-loop-index : goal.invariant-loop-index
+invariant-loop-index l = (h : DbHeader) → l.initial.table ≡ table_of h [] → l.table ≡ table_of h (take l.index (chunks l.file))

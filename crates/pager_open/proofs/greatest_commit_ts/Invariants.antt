@@ -1,11 +1,7 @@
-use Prim.Native.Nat.{◌-◌}
-use lib.ListN.{length}
-use Rattle.pager_open.proofs.Front.{Front}
+use Rattle.std.proofs.Common.{◌≡◌, take}
+use Rattle.wal.specs.Recovery.{chunks}
 use Rattle.pager_open.proofs.Clock.{greatest_in}
 use Rattle.pager_open.proofs.greatest_commit_ts.Given as goal
 
-abbrev pub invariant-loop-greatest : goal.invariant-loop-greatest
-invariant-loop-greatest l = Front greatest_in l.file l.greatest l.at
-
-abbrev pub decreases-loop-greatest : goal.decreases-loop-greatest
-decreases-loop-greatest l = length l.file - l.at
+abbrev pub invariant-loop-index : goal.invariant-loop-index
+invariant-loop-index l = l.greatest ≡ greatest_in (take l.index (chunks l.file))

@@ -1,6 +1,4 @@
 use mathlib.Core.Path.{sym, ap, ◌∙◌}
-use native.Mathlib.Omega.{arith}
-use lib.ListN.{length-take}
 use Rattle.pager_state.specs.Stores.{File}
 use Rattle.pager_state.specs.Opening.{How, opened_answer}
 use Rattle.pager_open.specs.Given.{how_of}
@@ -12,10 +10,7 @@ returns-then-not-covers c =
     let a = c.args in
     let how : How = how_of a.options in
     let f : File = record { area = a.log.now; len = a.log_len } in
-    c.refused.ensures ∙ ap opened_answer (main-short how a.main_len f a.main_header (sym c.covers.ensures ∙ c.if-not-covers.true))
-
-pub judge_log-requires : goal.judge_log-requires
-judge_log-requires c = rw (c.part.ensures, length-take) (omega (arith, c.requires))
+    c.refused.ensures ∙ ap opened_answer (main-short how a.storage.len f a.storage.header (sym c.covers.ensures ∙ c.if-not-covers.true))
 
 pub returns-then-options : goal.returns-then-options
 returns-then-options c =
@@ -23,7 +18,7 @@ returns-then-options c =
     let how : How = how_of a.options in
     let f : File = record { area = a.log.now; len = a.log_len } in
     rw c.part.ensures at c.judge_log.ensures
-    ∙ ap opened_answer (log-there how a.main_len f a.main_header (sym c.covers.ensures ∙ c.if-not-covers.false) c.if-options.true)
+    ∙ ap opened_answer (log-there how a.storage.len f a.storage.header (sym c.covers.ensures ∙ c.if-not-covers.false) c.if-options.true)
 
 pub returns : goal.returns
 returns c =
@@ -31,4 +26,4 @@ returns c =
     let how : How = how_of a.options in
     let f : File = record { area = a.log.now; len = a.log_len } in
     c.opened_with.ensures
-    ∙ ap opened_answer (log-absent how a.main_len f a.main_header (sym c.covers.ensures ∙ c.if-not-covers.false) c.if-options.false c.fresh_wal.ensures)
+    ∙ ap opened_answer (log-absent how a.storage.len f a.storage.header (sym c.covers.ensures ∙ c.if-not-covers.false) c.if-options.false c.fresh_wal.ensures)

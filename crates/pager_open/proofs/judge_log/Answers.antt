@@ -8,17 +8,17 @@ use Rattle.pager_open.proofs.judge_log.Goals as goal
 
 pub judge_found-requires : goal.judge_found-requires
 judge_found-requires c =
-    let k = open-known c.args.file.now _ (sym c.open.ensures ∙ c.in-Opened.is) in
+    let k = open-known c.args.file.now _ (sym c.open.ensures ∙ c.in-Ok.is) in
     (k.known, k.long, c.requires)
 
-pub returns-in-Opened : goal.returns-in-Opened
-returns-in-Opened c =
+pub returns-in-Ok : goal.returns-in-Ok
+returns-in-Ok c =
     let a = c.args in
-    let rest = judged_found (how_of a.options) a.main_len a.main_header (found_in a.options.clean a.file.now) in
-    c.judge_found.ensures ∙ ap opened_answer (log-judged a.file.now rest c.requires c.open.ensures c.in-Opened.is)
+    let rest = judged_found (how_of a.options) a.storage.len a.storage.header (found_in a.options.clean a.file.now) in
+    c.judge_found.ensures ∙ ap opened_answer (log-judged a.file.now rest c.requires c.open.ensures c.in-Ok.is)
 
-pub returns-in-Refused : goal.returns-in-Refused
-returns-in-Refused c =
+pub returns-in-Err : goal.returns-in-Err
+returns-in-Err c =
     let a = c.args in
-    let rest = judged_found (how_of a.options) a.main_len a.main_header (found_in a.options.clean a.file.now) in
-    c.refused.ensures ∙ ap opened_answer (log-judged a.file.now rest c.requires c.open.ensures c.in-Refused.is)
+    let rest = judged_found (how_of a.options) a.storage.len a.storage.header (found_in a.options.clean a.file.now) in
+    c.refused.ensures ∙ ap opened_answer (log-judged a.file.now rest c.requires c.open.ensures c.in-Err.is)

@@ -1,7 +1,6 @@
 use mathlib.Core.Path.{◌≡◌, sym, ◌∙◌}
 use mathlib.Core.Bool.{true}
-use native.Mathlib.Omega.{arith}
-use lib.ListN.{length, length-take}
+use lib.ListN.{length}
 use Rattle.pager_state.specs.Stores.{Disk}
 use Rattle.pager_state.specs.Opening.{How}
 use Rattle.pager_open.specs.Given.{how_of, files}
@@ -17,15 +16,6 @@ returns-then-not-are_fine c =
     let both = area-refused how d a.table.now a.staging.now (sym c.are_fine.ensures ∙ c.if-not-are_fine.true) c.refused.ensures in
     record { result_value = both.0; table_after = both.1.0; log_after = both.1.1 }
 
-pub judge-opened-requires : goal.judge-opened-requires
-judge-opened-requires c =
-    let fine : let a = c.args in lengths_fine (length a.table.now) (length a.log.now) a.log_len (length a.main.now) a.main_len (length a.staging.now) ≡ true =
-    sym c.are_fine.ensures ∙ c.if-not-are_fine.false in
-    let sizes : let a = c.args in Fine (length a.table.now) (length a.log.now) a.log_len (length a.main.now) =
-    let a = c.args in
-    lengths (length a.table.now) (length a.log.now) a.log_len (length a.main.now) a.main_len (length a.staging.now) (fine) in
-    (sizes).file
-
 pub returns-in_default : goal.returns-in_default
 returns-in_default c =
     let fine : let a = c.args in lengths_fine (length a.table.now) (length a.log.now) a.log_len (length a.main.now) a.main_len (length a.staging.now) ≡ true =
@@ -35,16 +25,6 @@ returns-in_default c =
     let d : Disk = files a.main.now a.main_len a.log.now a.log_len in
     let both = judged-refused how d a.table.now a.staging.now (fine) c.judge-opened.result c.judge-opened.ensures _ c.in_default.is in
     record { result_value = both.0; table_after = both.1.0; log_after = both.1.1 }
-
-pub fill_table-requires : goal.fill_table-requires
-fill_table-requires c =
-    let fine : let a = c.args in lengths_fine (length a.table.now) (length a.log.now) a.log_len (length a.main.now) a.main_len (length a.staging.now) ≡ true =
-    sym c.are_fine.ensures ∙ c.if-not-are_fine.false in
-    let sizes : let a = c.args in Fine (length a.table.now) (length a.log.now) a.log_len (length a.main.now) =
-    let a = c.args in
-    lengths (length a.table.now) (length a.log.now) a.log_len (length a.main.now) a.main_len (length a.staging.now) (fine) in
-    let k = sizes in
-    (k.table, rw (c.part.ensures, length-take) (omega (arith, k.area)))
 
 pub returns : goal.returns
 returns c =
@@ -57,5 +37,5 @@ returns c =
     let how : How = how_of a.options in
     let d : Disk = files a.main.now a.main_len a.log.now a.log_len in
     let t = rw c.part.ensures at c.fill_table.ensures in
-    let both = judged-opened how d a.table.now a.staging.now (fine) c.judge-opened.result c.judge-opened.ensures c.in-Opened.is (sizes).area t c.store_log.ensures in
+    let both = judged-opened how d a.table.now a.staging.now (fine) c.judge-opened.result c.judge-opened.ensures c.in-Ok.is (sizes).area t c.store_log.ensures in
     record { result_value = both.0; table_after = both.1.0; log_after = both.1.1 }

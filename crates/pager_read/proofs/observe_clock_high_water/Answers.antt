@@ -8,4 +8,4 @@ returns-then-is_busy c = rw (sym c.is_busy.ensures ∙ c.if-is_busy.true)
 
 pub returns : goal.returns
 unfolding observe_clock
-returns c = rw (sym c.is_busy.ensures ∙ c.if-is_busy.false, c.observed-later.ensures)
+returns c = rw (sym c.is_busy.ensures ∙ c.if-is_busy.false, c.observed-wal.ensures)

@@ -18,4 +18,4 @@ returns-then-is_busy c = rw (eq-eqb _ _ c.if-log-ne-WAL_AREA.false, le-leb _ _ c
 
 pub returns : goal.returns
 unfolding next_recovered recovered_refusal next_batch
-returns c = rw (eq-eqb _ _ c.if-log-ne-WAL_AREA.false, le-leb _ _ c.if-wal-gt-WAL_AREA.false, sym c.is_busy.ensures ∙ c.if-is_busy.false, c.recovered_as.ensures, c.first_batch.ensures, c.part.ensures)
+returns c = rw (eq-eqb _ _ c.if-log-ne-WAL_AREA.false, le-leb _ _ c.if-wal-gt-WAL_AREA.false, sym c.is_busy.ensures ∙ c.if-is_busy.false, c.first_batch.ensures, c.part.ensures)

@@ -1,33 +1,24 @@
-use mathlib.Core.Path.{refl, sym}
-use mathlib.Core.Logic.{inl}
-use Prim.Native.Nat.{◌+◌, ◌≤◌}
 use native.Mathlib.Omega.{arith}
-use borrow.Author.Tests.{le-leb}
-use lib.ListN.{length}
-use Rattle.pager_state.specs.Overlay.{find_in}
-use Rattle.pager_state.proofs.Slots.{front-next, front-end}
+use mathlib.Core.Path.{◌≡◌, sym, ◌∙◌}
+use Prim.Native.Nat.{◌*◌, ◌/◌, ◌≤◌, ◌<◌, ◌+◌}
+use lib.ListN.{length, get_or, take, drop}
+use mathlib.Core.List.{[]}
+use Rattle.le.proofs.Compare.{no_test}
+use Rattle.pager_state.proofs.Slots.{front-next, block_at}
 use Rattle.pager_state.proofs.front_without.Goals as goal
+use Rattle.pager_state.proofs.front_without.Goals.{then-clear, else-clear}
 
-pub loop-at-init : goal.loop-at-init
-loop-at-init c =
+pub loop-i-preserved : goal.loop-i-preserved
+loop-i-preserved c =
     let a = c.args in
-    record {
-      within = omega arith;
-      tells = sym (le-leb 0 (find_in a.s.now a.p) (omega arith));
-      free = omega arith;
-      ends = inl (omega arith, refl);
-    }
-
-pub loop-at-preserved : goal.loop-at-preserved
-loop-at-preserved c =
-    let a = c.args in
-    let v = c.loop-at in
-    let h : v.at + 8 ≤ length a.s.now = omega (arith, v.invariant.within, c.loop-at-test.true) in
-    front-next a.s.now a.p 8 v.at v.front v.invariant h c.is_none_of.ensures c.both-clear.ensures c.front_after-front.ensures
-
-pub returns : goal.returns
-returns c =
-    let a = c.args in
-    let v = c.loop-at in
-    let e = front-end a.s.now a.p 8 v.at v.front v.invariant (omega (arith, v.invariant.within, c.loop-at-test.false)) in
-    record { upper_bound = (e.0, e.1.0); p_bound = e.1.1 }
+    let v = c.loop-i in
+    let n = length a.s.now / 8 in
+    let i : v.i < n = omega (arith, c.loop-i-test.true, c.as_chunks.ensures.front_len) in
+    let h : 8 * v.i + 8 ≤ length a.s.now = omega arith in
+    let b : get_or c.as_chunks.result.0.now v.i [] ≡ take 8 (drop (8 * v.i) a.s.now) = rw c.as_chunks.ensures.front (block_at 8 n a.s.now v.i i) in
+    let e : 8 * (v.i + 1) ≡ 8 * v.i + 8 = omega arith in
+    let r = rw b at c.is_none_of-clear.ensures in
+    rw e (elim c.if-clear.branch [
+      | then-clear w ↦ front-next a.s.now a.p 8 (8 * v.i) v.front v.invariant h r (λ t. w.front-is ∙ e) (λ t. absurd (no_test (sym t ∙ w.if-clear.true)))
+      | else-clear w ↦ front-next a.s.now a.p 8 (8 * v.i) v.front v.invariant h r (λ t. absurd (no_test (sym w.if-clear.false ∙ t))) (λ t. w.front-is)
+    ])

@@ -9,26 +9,23 @@ use Rattle.text.proofs.first.Goals as goal
 pub loop-at-init : goal.loop-at-init
 loop-at-init c = (omega arith, (first-over c.args.s.now, stay (search rules)))
 
-pub returns-then-n-eq0 : goal.returns-then-n-eq0
-returns-then-n-eq0 c =
+pub returns-in_err-at : goal.returns-in_err-at
+returns-in_err-at c =
     let s = c.args.s.now in
     let l = c.loop-at in
-    record { judges = (λ h. absurd (omega arith)); s_value = λ h. sym l.invariant.1.1.same ∙ no-sequence s l.at (search rules) (sym c.if-n-eq0.true ∙ c.sequence-n.ensures) }
+    rw c.from_residual.ensures (sym l.invariant.1.1.same ∙ no-sequence s l.at (search rules) c.in_err-at.ensures)
 
 pub overflow_add-at : goal.overflow_add-at
-overflow_add-at c = omega (arith, c.loop-at.invariant.0, c.sequence-n.ensures, size_few (drop c.loop-at.at c.args.s.now))
-
-pub overflow_add-passed : goal.overflow_add-passed
-overflow_add-passed c = let p = c.loop-at.invariant in omega (arith, p.0, p.1.1.few)
+overflow_add-at c = omega (arith, c.loop-at.invariant.0, c.in_ok-at.ensures.1, size_few (drop c.loop-at.at c.args.s.now))
 
 pub loop-at-preserved : goal.loop-at-preserved
 loop-at-preserved c =
     let s = c.args.s.now in
     let l = c.loop-at in
-    let q = c.sequence-n in
-    let p = over-sequence s l.at q.result (search rules) (search rules) q.ensures in (
-      omega (arith, q.ensures, size_few (drop l.at s)),
-      (first_next s l.at q.result l.invariant.1.0 (search rules) q.ensures, then l.invariant.1.1 p),
+    let n = c.in_ok-at.ensures in
+    let p = over-sequence s l.at c.in_ok-at.field-0 (search rules) n.0 n.1 in (
+      omega (arith, n.1, size_few (drop l.at s)),
+      (first_next s l.at c.in_ok-at.field-0 l.invariant.1.0 n.0 n.1, then l.invariant.1.1 p),
     )
 
 pub returns : goal.returns
@@ -36,4 +33,4 @@ returns c =
     let s = c.args.s.now in
     let l = c.loop-at in
     let i = l.invariant in
-    record { judges = (λ h. judges s l.at l.passed i.1.1 (search rules) (omega (arith, i.0)) (first-shut s l.at (search rules) i.1.0)); s_value = λ h. absurd (omega arith) }
+    judges s l.at l.passed i.1.1 (search rules) (omega (arith, i.0)) (first-shut s l.at (search rules) i.1.0)

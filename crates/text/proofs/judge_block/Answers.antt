@@ -1,50 +1,32 @@
-use native.Mathlib.Omega.{arith}
-use mathlib.Core.Path.{◌≡◌, sym, ◌∙◌}
-use borrow.Author.Rules.{rules}
-use Prim.Native.Nat.{◌+◌}
-use Rattle.le.proofs.Compare.{both_true, no_test}
-use Rattle.text.proofs.Judging.{begun-none, begun_more, fit-more, fits-none}
+use Rattle.std.proofs.Common.{◌≡◌, sym, ◌∙◌, ◌+◌, arith}
+use mathlib.Core.Bool.{and-eq-true_iff}
+use Rattle.text.proofs.Judging.{one-most, unless, judgement, begun_more, fit-more, fits-none}
 use Rattle.text.proofs.judge_block.Goals as goal
-
-pub loop-j-init : goal.loop-j-init
-loop-j-init c =
-    let a = c.args in
-    let e : a.from + 3 + 0 ≡ a.from + 3 = omega arith in
-    (omega arith, (omega arith, ((λ t k l h. absurd (omega arith)), ((λ t. no_test (sym t)), rw e (begun-none a.s.now (a.from + 3))))))
-
-pub overflow_add-begun : goal.overflow_add-begun
-overflow_add-begun c =
-    let v = c.loop-j in
-    omega (arith, v.invariant.0, v.invariant.1.0, c.one_unless-begun.ensures.1)
 
 pub loop-j-preserved : goal.loop-j-preserved
 loop-j-preserved c =
     let a = c.args in
     let v = c.loop-j in
+    let i = v.invariant in
     let s = a.s.now in
-    let f = c.fits.ensures in
+    let f = c.fits-all.ensures in
     let e : a.from + v.j + 3 ≡ a.from + 3 + v.j = omega arith in
     let g : a.from + 3 + v.j + 1 ≡ a.from + 3 + (v.j + 1) = omega arith in
-    let m = rw (c.continues.ensures, e) at c.one_unless-begun.ensures.0 in (
-      search rules,
-      (
-        omega (arith, v.invariant.1.0, c.one_unless-begun.ensures.1),
-        (
-          (λ t.
-              let q = both_true _ _ (sym c.both-all.ensures ∙ t) in
-              fit-more s a.from v.j (v.invariant.1.1.0 q.0) (sym f ∙ q.1)),
-          (
-            (λ t. fits-none s a.from v.j v.all (search rules) v.invariant.1.1.0 v.invariant.1.1.1.0 f (sym c.both-all.ensures ∙ t)),
-            rw g at (begun_more s (a.from + 3) (a.from + 3 + v.j) v.begun v.invariant.1.1.1.1 (search rules) m),
-          ),
-        ),
-      ),
-    )
+    let m = rw (unless, c.continues.ensures, e) at c.from-begun.ensures in
+    record {
+      few = omega (arith, i.few, one-most _ m);
+      fit = λ t.
+          let q = simp and-eq-true_iff at t in
+          fit-more s a.from v.j (i.fit q.0) (sym f ∙ q.1);
+      ill = λ t. fits-none s a.from v.j v.all (omega arith) i.fit i.ill f t;
+      counted = rw g at (begun_more s (a.from + 3) (a.from + 3 + v.j) v.begun i.counted (omega arith) m);
+    }
 
 pub returns : goal.returns
 returns c =
     let v = c.loop-j in
+    let i = v.invariant in
     let a = c.args in
-    let e : v.j ≡ 128 = omega (arith, v.invariant.0, c.loop-j-test.false) in
+    let e : v.j ≡ 128 = omega arith in
     let f : a.from + 3 + 128 ≡ a.from + 131 = omega arith in
-    record { all_fit = (λ t. rw e at (v.invariant.1.1.0 t)); from_value = v.invariant.1.1.1.0; begun = rw (e, f) at v.invariant.1.1.1.1 }
+    judgement v.all _ c.then_some.ensures i.ill (λ t. (rw e at (i.fit t), rw (e, f) at i.counted))

@@ -1,20 +1,21 @@
-use native.Mathlib.Omega.{arith}
-use mathlib.Core.Logic.{⊎_elim}
-use borrow.Author.Rules.{rules}
-use Rattle.le.proofs.Tests.{le-or-lt}
+use Rattle.std.proofs.Common.{◌≡◌, length, sym, ◌∙◌, arith}
+use Rattle.std.specs.Slice.Iter.{chunks_exact_rest}
 use Rattle.text.proofs.skip.Goals as goal
+use Rattle.text.proofs.Laws.{ascii-part, ascii-joined, part-inside, part-rest}
 
-pub loop-at-init : goal.loop-at-init
-loop-at-init c = (search rules, (search rules, λ k l m. absurd (omega arith)))
-
-pub loop-at-preserved : goal.loop-at-preserved
-loop-at-preserved c =
-    let l = c.loop-at in
-    let f = c.is_ascii.ensures (c.if-not-is_ascii.false) in
-    (omega (arith, l.invariant.0), (search rules, λ k p q. ⊎_elim (λ x. f k x q) (λ x. l.invariant.1.1 k p x) (le-or-lt l.at k)))
-
-pub returns-then-not-is_ascii : goal.returns-then-not-is_ascii
-returns-then-not-is_ascii c = c.loop-at.invariant
-
-pub returns : goal.returns
-returns c = c.loop-at.invariant
+pub loop-block-preserved : goal.loop-block-preserved
+loop-block-preserved c =
+    let v = c.loop-block in
+    let i = v.invariant in
+    let s = c.args.s.now in
+    let q = c.in-Some.ensures.steps in
+    let u = chunks_exact_rest c.next.new.self in
+    let e = sym i.rest ∙ q.1.0 in
+    let n : length c.in-Some.block.now ≡ c.args.n = q.1.1 ∙ i.size in
+    record {
+      from = omega (arith, i.from);
+      inside = rw n at (part-inside s c.in-Some.block.now u v.at e i.inside);
+      passed = ascii-joined s _ v.at _ i.passed (ascii-part s c.in-Some.block.now u v.at e _ (c.is_ascii.ensures c.if-not-is_ascii.false) (omega (arith, n)));
+      rest = rw n at (part-rest s c.in-Some.block.now u v.at e);
+      size = q.0 ∙ i.size;
+    }

@@ -6,7 +6,4 @@ use Rattle.text.proofs.start.Goals as goal
 pub returns-then-front-ge3 : goal.returns-then-front-ge3
 returns-then-front-ge3 c =
     let a = c.args in
-    record { judges = (λ h. judges-ascii a.s.now a.front c.requires.1 (search rules) (omega (arith, c.requires.0))); s_value = λ h. absurd (omega arith) }
-
-pub returns : goal.returns
-returns c = c.first.ensures
+    judges-ascii a.s.now a.front c.requires.1 (search rules) (omega (arith, c.requires.0))

@@ -1,5 +1,5 @@
 use native.Mathlib.Omega.{arith}
-use mathlib.Core.Path.{sym, refl, ◌∙◌}
+use mathlib.Core.Path.{refl, ◌∙◌}
 use borrow.Author.Rules.{rules}
 use Rattle.text.proofs.Laws.{stay, then, told, well, ill, over-sequence}
 use Rattle.text.proofs.tail.Goals as goal
@@ -7,27 +7,22 @@ use Rattle.text.proofs.tail.Goals as goal
 pub loop-at-init : goal.loop-at-init
 loop-at-init c = (search rules, told (stay (search rules)) refl (omega arith))
 
-pub returns-then-n-eq0 : goal.returns-then-n-eq0
-returns-then-n-eq0 c =
-    let a = c.args in
-    let l = c.loop-at in
-    ill a.passed l.invariant.1 (search rules) (sym c.if-n-eq0.true ∙ c.sequence-n.ensures)
+pub returns-in_err-at : goal.returns-in_err-at
+returns-in_err-at c = c.from_residual.ensures ∙ ill c.args.passed c.loop-at.invariant.1 (search rules) c.in_err-at.ensures
 
 pub overflow_add-at : goal.overflow_add-at
 overflow_add-at c =
-    let a = c.args in
-    let l = c.loop-at in
-    omega (arith, (over-sequence a.s.now l.at c.sequence-n.result (search rules) (search rules) c.sequence-n.ensures).inside)
+    let n = c.in_ok-at.ensures in
+    omega (arith, (over-sequence c.args.s.now c.loop-at.at c.in_ok-at.field-0 (search rules) n.0 n.1).inside)
 
 pub loop-at-preserved : goal.loop-at-preserved
 loop-at-preserved c =
-    let a = c.args in
     let l = c.loop-at in
-    let p = over-sequence a.s.now l.at c.sequence-n.result (search rules) (search rules) c.sequence-n.ensures in
+    let n = c.in_ok-at.ensures in
+    let p = over-sequence c.args.s.now l.at c.in_ok-at.field-0 (search rules) n.0 n.1 in
     (omega (arith, l.invariant.0), told (then l.invariant.1 p) refl (omega (arith, l.invariant.0)))
 
 pub returns : goal.returns
 returns c =
-    let a = c.args in
     let l = c.loop-at in
-    well a.passed l.invariant.1 (search rules) (omega (arith, l.invariant.0))
+    well c.args.passed l.invariant.1 (search rules) (omega (arith, l.invariant.0))

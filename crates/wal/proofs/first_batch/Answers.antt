@@ -6,7 +6,7 @@ use Rattle.wal.proofs.Reading.{batch-here, batch-later, batch-none}
 use Rattle.wal.proofs.first_batch.Goals as goal
 
 pub loop-i-init : goal.loop-i-init
-loop-i-init c = (c.chunk_count-count.ensures, refl)
+loop-i-init c = refl
 
 pub returns-then-header : goal.returns-then-header
 returns-then-header c =
@@ -15,7 +15,7 @@ returns-then-header c =
     let v = c.loop-i in
     let a = c.args in
     let e = rw (numbered) at c.if-header.true in
-    batch-here a.file.now v.i (omega arith) e ∙ v.invariant.1
+    batch-here a.file.now v.i (omega arith) e ∙ v.invariant
 
 pub loop-i-preserved : goal.loop-i-preserved
 loop-i-preserved c =
@@ -24,10 +24,10 @@ loop-i-preserved c =
     let v = c.loop-i in
     let a = c.args in
     let e = rw (numbered) at c.if-header.false in
-    (v.invariant.0, batch-later a.file.now v.i (omega arith) e ∙ v.invariant.1)
+    batch-later a.file.now v.i (omega arith) e ∙ v.invariant
 
 pub returns : goal.returns
 returns c =
     let v = c.loop-i in
     let a = c.args in
-    batch-none a.file.now v.i (omega arith) ∙ v.invariant.1
+    batch-none a.file.now v.i (omega arith) ∙ v.invariant

@@ -16,7 +16,7 @@ pub returns : goal.returns
 unfolding truncate_answer truncate_after truncated_header
 returns c =
     let a = c.args in (
-      rw (eq-eqb _ _ c.if-log-ne-WAL_AREA.false, le-leb _ _ c.if-wal-gt-WAL_AREA.false, c.empty.ensures, c.wrapping_add_u32.ensures.value),
+      rw (eq-eqb _ _ c.if-log-ne-WAL_AREA.false, le-leb _ _ c.if-wal-gt-WAL_AREA.false, c.empty.ensures),
       rw (eq-eqb _ _ c.if-log-ne-WAL_AREA.false, le-leb _ _ c.if-wal-gt-WAL_AREA.false)
-          (headed-done a.log.now (truncated_header a.wal.header a.salt) c.if-log-ne-WAL_AREA.false (rw c.wrapping_add_u32.ensures.value at c.encode_wal_header.ensures.1)),
+          (headed-done a.log.now (truncated_header a.wal.header a.salt) c.if-log-ne-WAL_AREA.false c.encode_wal_header.ensures.1),
     )

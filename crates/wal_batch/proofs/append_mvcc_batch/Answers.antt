@@ -29,12 +29,12 @@ returns-then-wal-lt-FRAME_SIZE c =
     let both = way-full a.log.now a.wal a.body.now c.if-log-ne-WAL_AREA.false c.if-wal-gt-WAL_AREA.false c.if-body-gt-PAGE_SIZE.false (omega (arith, c.if-wal-lt-FRAME_SIZE.true)) c.full.ensures in
     record { value = both.0; log_after = both.1 }
 
-pub returns-in-Refused : goal.returns-in-Refused
-returns-in-Refused c =
+pub returns-in-Err : goal.returns-in-Err
+returns-in-Err c =
     let room : c.args.wal.len + 4112 ≤ 4210720 =
     omega (arith, c.if-wal-lt-FRAME_SIZE.false, c.if-wal-gt-WAL_AREA.false) in
     let a = c.args in
-    let both = way-refused a.log.now a.wal a.body.now c.if-log-ne-WAL_AREA.false c.if-body-gt-PAGE_SIZE.false (room) c.in-Refused.is c.canonicalize.ensures.value c.canonicalize.ensures.out_after in
+    let both = way-refused a.log.now a.wal a.body.now c.if-log-ne-WAL_AREA.false c.if-body-gt-PAGE_SIZE.false (room) c.in-Err.ensures.value c.in-Err.ensures.out_after in
     record { value = both.0; log_after = both.1 }
 
 pub returns : goal.returns
@@ -42,6 +42,6 @@ returns c =
     let room : c.args.wal.len + 4112 ≤ 4210720 =
     omega (arith, c.if-wal-lt-FRAME_SIZE.false, c.if-wal-gt-WAL_AREA.false) in
     let a = c.args in
-    let both = way-done a.log.now a.wal a.body.now c.if-log-ne-WAL_AREA.false c.if-body-gt-PAGE_SIZE.false (room) (λ i. (c.type_inv.body i).fits) c.in-Done.is
-    c.canonicalize.ensures.value c.canonicalize.ensures.out_after c.write_frame_header.ensures.log_after (c.longer.ensures ∙ rw (le-leb _ _ (room))) in
+    let both = way-done a.log.now a.wal a.body.now c.if-log-ne-WAL_AREA.false c.if-body-gt-PAGE_SIZE.false (room) (λ i. (c.type_inv.body i).fits)
+    c.in_default.ensures.value c.in_default.ensures.out_after c.write_frame_header.ensures.log_after (c.longer.ensures ∙ rw (le-leb _ _ (room))) in
     record { value = both.0; log_after = both.1 }

@@ -1,16 +1,18 @@
 use Rattle.std.proofs.Common.{sym, ap, ◌∙◌}
+use Rattle.std.specs.Prelude.{Result}
 use Rattle.refusal.specs.Refusal.{accepts}
+use Rattle.refusal.specs.declared.Refusal.{Refusal}
 use Rattle.mvcc.specs.Seen.{refusal_in, decode_refusal, decodes}
-use Rattle.mvcc.specs.declared.BatchDecoded.{BatchDecoded}
 use Rattle.mvcc.proofs.Parts.{report-answer}
+use Rattle.mvcc.specs.declared.MvccCommitBatch.{MvccCommitBatch}
 use Rattle.batchlist.proofs.print.print_batch.Goals as goal
 
-pub returns-in-Batch : goal.returns-in-Batch
+pub returns-in-Ok : goal.returns-in-Ok
 unfolding decodes decode_refusal
-returns-in-Batch g c =
-    ap (λ (d : BatchDecoded). accepts (refusal_in d)) (sym c.in-Batch.is ∙ report-answer _ c.decode-answer.ensures.value)
+returns-in-Ok g c =
+    ap (λ (d : Result MvccCommitBatch Refusal). accepts (refusal_in d)) (sym c.in-Ok.is ∙ report-answer _ c.decode-answer.ensures.value)
 
-pub returns-in-Refused : goal.returns-in-Refused
+pub returns-in-Err : goal.returns-in-Err
 unfolding decodes decode_refusal
-returns-in-Refused g c =
-    ap (λ (d : BatchDecoded). accepts (refusal_in d)) (sym c.in-Refused.is ∙ report-answer _ c.decode-answer.ensures.value)
+returns-in-Err g c =
+    ap (λ (d : Result MvccCommitBatch Refusal). accepts (refusal_in d)) (sym c.in-Err.is ∙ report-answer _ c.decode-answer.ensures.value)

@@ -1,14 +1,16 @@
 use mathlib.Core.Path.{sym, ap, ◌∙◌}
-use Rattle.mvcc.specs.declared.BatchDecoded.{BatchDecoded}
+use Rattle.std.specs.Prelude.{Result}
+use Rattle.refusal.specs.declared.Refusal.{Refusal}
+use Rattle.mvcc.specs.declared.MvccCommitBatch.{MvccCommitBatch}
 use Rattle.capi.specs.Batch.{answer_numbers, batch_numbers}
 use Rattle.capi.proofs.batch.lateenbael_mvcc_decode.Goals as goal
 
-pub returns-in-Batch : goal.returns-in-Batch
-returns-in-Batch c =
+pub returns-in-Ok : goal.returns-in-Ok
+returns-in-Ok c =
     let d = c.decode-report in
-    ap (λ (a : BatchDecoded). answer_numbers a d.result.items) (sym c.in-Batch.is) ∙ ap batch_numbers d.ensures.value
+    ap (λ (a : Result MvccCommitBatch Refusal). answer_numbers a d.result.items) (sym c.in-Ok.is) ∙ ap batch_numbers d.ensures.value
 
-pub returns-in-Refused : goal.returns-in-Refused
-returns-in-Refused c =
+pub returns-in-Err : goal.returns-in-Err
+returns-in-Err c =
     let d = c.decode-report in
-    c.no_batch.ensures ∙ ap (λ (a : BatchDecoded). answer_numbers a d.result.items) (sym c.in-Refused.is) ∙ ap batch_numbers d.ensures.value
+    c.no_batch.ensures ∙ ap (λ (a : Result MvccCommitBatch Refusal). answer_numbers a d.result.items) (sym c.in-Err.is) ∙ ap batch_numbers d.ensures.value

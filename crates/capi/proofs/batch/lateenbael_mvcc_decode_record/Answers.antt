@@ -5,11 +5,11 @@ use Rattle.capi.specs.Batch.{record_numbers}
 use Rattle.mvcc.specs.Fields.{record_answer}
 use Rattle.capi.proofs.batch.lateenbael_mvcc_decode_record.Goals as goal
 
-pub returns-in-Taken : goal.returns-in-Taken
-returns-in-Taken c =
+pub returns-in-Ok : goal.returns-in-Ok
+returns-in-Ok c =
     rw
-    (to_z-of_z w64 c.in-Taken.record.row.rowid (record { sfits = c.struct_told-1.given.1.0.1 }), c.op_of.ensures, c.count_of.ensures, c.first_of.ensures)
-    (ap record_numbers (ap record_answer (sym c.in-Taken.is) ∙ c.decode_record.ensures))
+    (to_z-of_z w64 c.in-Ok.record.row.rowid (record { sfits = c.struct_told-1.given.1.0.1 }), c.op_of.ensures, c.count_of.ensures, c.first_of.ensures)
+    (ap record_numbers (ap record_answer (sym c.in-Ok.is) ∙ c.decode_record.ensures))
 
-pub returns-in-Refused : goal.returns-in-Refused
-returns-in-Refused c = rw (c.no_place.ensures, c.number.ensures) (ap record_numbers (ap record_answer (sym c.in-Refused.is) ∙ c.decode_record.ensures))
+pub returns-in-Err : goal.returns-in-Err
+returns-in-Err c = rw (c.no_place.ensures, c.number.ensures) (ap record_numbers (ap record_answer (sym c.in-Err.is) ∙ c.decode_record.ensures))

@@ -1,14 +1,6 @@
-use mathlib.Core.Path.{refl}
-use Rattle.capi.proofs.Exported.{told}
-use Rattle.capi.specs.Log.{encoded_as}
+use mathlib.Core.Path.{ap, ◌∙◌}
+use Rattle.capi_answers.specs.Answers.{refusal_number}
 use Rattle.capi.proofs.log.lateenbael_encode_header.Goals as goal
 
-pub returns-in-Done : goal.returns-in-Done
-returns-in-Done c =
-    let h = c.encode_header.ensures in
-    record { value = told encoded_as refl c.in-Done.is h.0; buf_after = h.1 }
-
-pub returns-in-Refused : goal.returns-in-Refused
-returns-in-Refused c =
-    let h = c.encode_header.ensures in
-    record { value = told encoded_as c.number.ensures c.in-Refused.is h.0; buf_after = h.1 }
+pub returns : goal.returns
+returns c = let h = c.encode_header.ensures in record { value = c.refusal_number.ensures ∙ ap refusal_number h.0; buf_after = h.1 }

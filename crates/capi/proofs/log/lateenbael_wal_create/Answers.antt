@@ -1,13 +1,6 @@
-use Rattle.capi.proofs.Exported.{told}
-use Rattle.capi.specs.Log.{wal_created_as}
+use mathlib.Core.Path.{ap, ◌∙◌}
+use Rattle.capi.specs.Log.{log_as}
 use Rattle.capi.proofs.log.lateenbael_wal_create.Goals as goal
 
-pub returns-in-Created : goal.returns-in-Created
-returns-in-Created c =
-    let h = c.create.ensures in
-    record { value = told wal_created_as c.given.ensures c.in-Created.is h.0; log_after = h.1 }
-
-pub returns-in-Refused : goal.returns-in-Refused
-returns-in-Refused c =
-    let h = c.create.ensures in
-    record { value = told wal_created_as c.refused.ensures c.in-Refused.is h.0; log_after = h.1 }
+pub returns : goal.returns
+returns c = let h = c.create.ensures in record { value = c.log_as.ensures ∙ ap log_as h.0; log_after = h.1 }

@@ -4,14 +4,14 @@ use Rattle.capi.proofs.Exported.{told}
 use Rattle.capi.specs.Log.{place_as}
 use Rattle.capi.proofs.log.lateenbael_wal_find_page.Goals as goal
 
-pub returns-in-At : goal.returns-in-At
+pub returns-in-Some : goal.returns-in-Some
 unfolding wal_in
-returns-in-At c =
-    let h = rw c.wal_in.ensures at c.find_page.ensures in
-    told place_as refl c.in-At.is h
+returns-in-Some c =
+    let h = rw c.from.ensures at c.find_page.ensures in
+    told place_as refl c.in-Some.is h
 
-pub returns-in-Nothing : goal.returns-in-Nothing
+pub returns-in-None : goal.returns-in-None
 unfolding wal_in
-returns-in-Nothing c =
-    let h = rw c.wal_in.ensures at c.find_page.ensures in
-    told place_as refl c.in-Nothing.is h
+returns-in-None c =
+    let h = rw c.from.ensures at c.find_page.ensures in
+    told place_as refl c.in-None.is h

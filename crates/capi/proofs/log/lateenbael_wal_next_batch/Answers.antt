@@ -4,14 +4,14 @@ use Rattle.capi.proofs.Exported.{told}
 use Rattle.capi.specs.Log.{batch_as}
 use Rattle.capi.proofs.log.lateenbael_wal_next_batch.Goals as goal
 
-pub returns-in-Batch : goal.returns-in-Batch
+pub returns-in-Some : goal.returns-in-Some
 unfolding wal_in
-returns-in-Batch c =
-    let h = rw c.wal_in.ensures at c.next_batch.ensures in
-    told batch_as refl c.in-Batch.is h
+returns-in-Some c =
+    let h = rw c.from.ensures at c.next_batch.ensures in
+    told batch_as refl c.in-Some.is h
 
-pub returns-in-Nothing : goal.returns-in-Nothing
+pub returns-in-None : goal.returns-in-None
 unfolding wal_in
-returns-in-Nothing c =
-    let h = rw c.wal_in.ensures at c.next_batch.ensures in
-    told batch_as refl c.in-Nothing.is h
+returns-in-None c =
+    let h = rw c.from.ensures at c.next_batch.ensures in
+    told batch_as refl c.in-None.is h

@@ -4,7 +4,7 @@ pub returns : goal.returns
 returns c =
     let made = c.create.ensures in
     record {
-      result_value = rw made.value at c.created_as.ensures;
+      result_value = rw made.value at c.done_as.ensures;
       table_after = made.table_after;
       log_after = made.log_after;
       main_after = made.main_after;

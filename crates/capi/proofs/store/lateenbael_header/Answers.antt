@@ -4,4 +4,4 @@ use Rattle.pager_state.specs.Queries.{header}
 use Rattle.capi.proofs.store.lateenbael_header.Goals as goal
 
 pub returns : goal.returns
-returns c = by header_as header c.pager_in.ensures c.header.ensures c.header_as.ensures
+returns c = by header_as header c.from.ensures c.header.ensures c.header_as.ensures

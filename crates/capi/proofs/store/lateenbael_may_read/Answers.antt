@@ -1,6 +1,6 @@
 use mathlib.Core.Path.{ap, ◌∙◌}
-use Rattle.capi.specs.Store.{read_number}
+use Rattle.capi_answers.specs.Answers.{refusal_number}
 use Rattle.capi.proofs.store.lateenbael_may_read.Goals as goal
 
 pub returns : goal.returns
-returns c = c.read_number.ensures ∙ ap read_number c.may_read.ensures
+returns c = c.refusal_number.ensures ∙ ap refusal_number c.may_read.ensures

@@ -9,4 +9,4 @@ use Rattle.capi.proofs.store.lateenbael_preview_commit.Goals as goal
 pub returns : goal.returns
 returns c =
     let a = c.args in
-    λ (salt : ℕ). by previewed_as (λ (p : Pager). preview_commit a.staging.now (world p a.table.now a.log.now a.main.now) a.new_header salt) c.pager_in.ensures (c.preview_commit.ensures salt) c.previewed_as.ensures
+    λ (salt : ℕ). by previewed_as (λ (p : Pager). preview_commit a.staging.now (world p a.table.now a.log.now a.main.now) a.new_header salt) c.from.ensures (c.preview_commit.ensures salt) c.previewed_as.ensures

@@ -7,4 +7,4 @@ use Rattle.capi.proofs.store.lateenbael_recovered_mvcc_commits.Goals as goal
 pub returns : goal.returns
 returns c =
     let a = c.args in
-    by recovered_as (λ (p : Pager). next_recovered p a.log.now a.index) c.pager_in.ensures c.recovered_mvcc_commits.ensures c.recovered_as.ensures
+    by recovered_as (λ (p : Pager). next_recovered p a.log.now a.index) c.from.ensures c.recovered_mvcc_commits.ensures c.recovered_as.ensures

@@ -1,116 +1,104 @@
-use mathlib.Core.Path.{◌≡◌, refl, sym, ◌∙◌}
-use Prim.Native.Nat.{◌+◌, ◌≤◌}
+use mathlib.Core.Path.{◌≡◌, sym, ap, ◌∙◌}
+use Prim.Native.Nat.{◌+◌, ◌-◌, ◌<◌}
 use native.Mathlib.Omega.{arith}
-use lib.ListN.{length}
-use Rattle.mvcc.specs.Fields.{row_answer, payload_answer, items_in}
-use Rattle.mvcc.specs.Decode.{record_at, batch_magic}
+use native.Mathlib.Nat.{zero-add}
+use Rattle.mvcc.specs.Decode.{record_at}
+use Rattle.mvcc.specs.Fields.{payload_answer}
 use Rattle.mvcc.specs.Items.{record_items}
 use Rattle.mvcc.specs.Seen.{commit_ts_of}
-use Rattle.le.specs.Le.{le_of, whole_field}
-use Rattle.mvcc.proofs.Laws.{told, passed, many-on, many-off, many-done}
-use Rattle.mvcc.proofs.Items.{items-on, items-off, items-done, items-least, items-fit}
-use Rattle.mvcc.proofs.Parts.{row-bad, row-none, payload-bad, payload-good, payload-items, reported, report-short, report-alien, report-good, report-bad}
+use Rattle.le.specs.Le.{whole_field}
+use Rattle.mvcc.proofs.Laws.{many-on, many-off, many-done}
+use Rattle.mvcc.proofs.Items.{items-on, items-off, items-done, items-room}
+use Rattle.mvcc.proofs.Parts.{row-bad, row-none, payload-bad, payload-good, payload-items, reported, report-refused, report-good, report-bad}
 use Rattle.mvcc.proofs.MvccCommitBatch.decode.Goals as goal
+use Rattle.mvcc.proofs.Heading.{heading-told}
 
-pub returns-then-body-lt-BATCH_HEADING_SIZE : goal.returns-then-body-lt-BATCH_HEADING_SIZE
-returns-then-body-lt-BATCH_HEADING_SIZE c =
+pub returns-in-Err : goal.returns-in-Err
+returns-in-Err c =
     let s = c.args.body.now in
-    let both = reported s (c.refused_batch.ensures ∙ report-short s c.if-body-lt-BATCH_HEADING_SIZE.true) in
+    let both = reported s (c.refused_batch.ensures ∙ report-refused s (heading-told s c.in-Err.ensures)) in
     record { value = both.0; result_le_body_items = both.1 }
 
-pub returns-then-read_u64-ne-MVCC_BODY_MAGIC : goal.returns-then-read_u64-ne-MVCC_BODY_MAGIC
-unfolding batch_magic le_of
-returns-then-read_u64-ne-MVCC_BODY_MAGIC c =
-    let s = c.args.body.now in
-    let both = reported s (c.refused_batch-then-read_u64-ne-MVCC_BODY_MAGIC.ensures ∙ report-alien s c.if-body-lt-BATCH_HEADING_SIZE.false (λ e. c.if-read_u64-ne-MVCC_BODY_MAGIC.true (c.read_u64.ensures ∙ e))) in
-    record { value = both.0; result_le_body_items = both.1 }
+pub loop-init : goal.loop-init
+loop-init c =
+    let n = c.from-records.result in
+    let e : n - 0 ≡ n = omega arith in
+    (rw e, rw (e, zero-add))
 
-pub loop-left-init : goal.loop-left-init
-loop-left-init c = (refl, omega arith)
-
-pub returns-in_default : goal.returns-in_default
-unfolding batch_magic le_of whole_field commit_ts_of
-returns-in_default c =
-    let l = c.loop-left in
+pub returns-in-Err-row_at : goal.returns-in-Err-row_at
+unfolding whole_field commit_ts_of
+returns-in-Err-row_at c =
+    let l = c.loop in
     let s = c.args.body.now in
-    let r = passed row_answer c.row_at-r.ensures c.in_default.is c.why_row.ensures refl in
-    let both = reported s (c.refused_batch-in_default.ensures
-    ∙ report-bad s c.if-body-lt-BATCH_HEADING_SIZE.false (sym c.read_u64.ensures ∙ c.if-read_u64-ne-MVCC_BODY_MAGIC.false) c.commit_ts-commit_ts.ensures c.read_u16-records.ensures
-    (many-off (record_at s) l.left l.end c.loop-left-test.true (row-bad s l.end r) l.invariant.0)
-    (omega (arith, row-none s l.end r, items-off (record_at s) (record_items s) l.items l.left l.end c.loop-left-test.true (row-bad s l.end r) l.invariant.1))) in
+    let some : 0 < c.from-records.result - l.counter = omega arith in
+    let r = sym c.in-Err-row_at.ensures in
+    let bad = row-bad s l.end r in
+    let n = items-off (record_at s) (record_items s) l.items _ l.end some bad l.invariant.1 in
+    let both = reported s (c.refused_batch-in-Err-row_at.ensures
+    ∙ report-bad s (heading-told s c.in_default.ensures) c.commit_ts-commit_ts.ensures (c.from-records.ensures ∙ c.read_u16.ensures)
+    (many-off (record_at s) _ l.end some bad l.invariant.0) (omega (arith, row-none s l.end r, n))) in
     record { value = both.0; result_le_body_items = both.1 }
 
 pub items_in-items-requires : goal.items_in-items-requires
 items_in-items-requires c =
-    let counted : let s = c.args.body.now in
-    record_items s c.loop-left.end ≡ items_in c.payload_at-p.result =
-    payload-items _ _ (told row_answer c.row_at-r.ensures c.in-Taken.is) ∙ sym c.payload_at-p.ensures.result_value_2 in
-    let few : let l = c.loop-left in
+    let l = c.loop in
     let s = c.args.body.now in
-    l.items + items_in c.payload_at-p.result ≤ length s =
-    let l = c.loop-left in
-    let s = c.args.body.now in
+    let n = c.from-records.result in
     omega (
       arith,
-      counted,
-      items-least (record_at s) (record_items s) l.items l.left l.end c.loop-left-test.true l.invariant.1,
-      items-fit s c.read_u16-records.result 18,
-    ) in
-    omega (arith, few)
+      items-room s n 18 l.items (n - l.counter) l.end (omega arith) l.invariant.1,
+      payload-items s l.end (sym c.in-Ok.ensures),
+      c.payload_at-p.ensures.result_value_2,
+    )
 
 pub overflow_add-items : goal.overflow_add-items
 overflow_add-items c =
-    let counted : let s = c.args.body.now in
-    record_items s c.loop-left.end ≡ items_in c.payload_at-p.result =
-    payload-items _ _ (told row_answer c.row_at-r.ensures c.in-Taken.is) ∙ sym c.payload_at-p.ensures.result_value_2 in
-    let few : let l = c.loop-left in
+    let l = c.loop in
     let s = c.args.body.now in
-    l.items + items_in c.payload_at-p.result ≤ length s =
-    let l = c.loop-left in
-    let s = c.args.body.now in
+    let n = c.from-records.result in
     omega (
       arith,
-      counted,
-      items-least (record_at s) (record_items s) l.items l.left l.end c.loop-left-test.true l.invariant.1,
-      items-fit s c.read_u16-records.result 18,
-    ) in
-    omega (arith, few, c.items_in-items.ensures)
-
-pub returns-in_default-p : goal.returns-in_default-p
-unfolding batch_magic le_of whole_field commit_ts_of
-returns-in_default-p c =
-    let counted : let s = c.args.body.now in
-    record_items s c.loop-left.end ≡ items_in c.payload_at-p.result =
-    payload-items _ _ (told row_answer c.row_at-r.ensures c.in-Taken.is) ∙ sym c.payload_at-p.ensures.result_value_2 in
-    let l = c.loop-left in
-    let s = c.args.body.now in
-    let e = payload-bad s l.end (told row_answer c.row_at-r.ensures c.in-Taken.is)
-    (passed payload_answer c.payload_at-p.ensures.result_value c.in_default-p.is c.why_payload.ensures refl) in
-    let both = reported s (c.refused_batch-in_default-p.ensures
-    ∙ report-bad s c.if-body-lt-BATCH_HEADING_SIZE.false (sym c.read_u64.ensures ∙ c.if-read_u64-ne-MVCC_BODY_MAGIC.false) c.commit_ts-commit_ts.ensures c.read_u16-records.ensures
-    (many-off (record_at s) l.left l.end c.loop-left-test.true e l.invariant.0)
-    (rw (counted, ← c.items_in-items.ensures) at (items-off (record_at s) (record_items s) l.items l.left l.end c.loop-left-test.true e l.invariant.1))) in
-    record { value = both.0; result_le_body_items = both.1 }
-
-pub loop-left-preserved : goal.loop-left-preserved
-loop-left-preserved c =
-    let counted : let s = c.args.body.now in
-    record_items s c.loop-left.end ≡ items_in c.payload_at-p.result =
-    payload-items _ _ (told row_answer c.row_at-r.ensures c.in-Taken.is) ∙ sym c.payload_at-p.ensures.result_value_2 in
-    let l = c.loop-left in
-    let s = c.args.body.now in
-    let e = payload-good s l.end (told row_answer c.row_at-r.ensures c.in-Taken.is) (told payload_answer c.payload_at-p.ensures.result_value c.in-Taken-p.is) in (
-      many-on (record_at s) l.left l.end c.loop-left-test.true e l.invariant.0,
-      rw (counted, ← c.items_in-items.ensures) at (items-on (record_at s) (record_items s) l.items l.left l.end c.loop-left-test.true e l.invariant.1),
+      items-room s n 18 l.items (n - l.counter) l.end (omega arith) l.invariant.1,
+      payload-items s l.end (sym c.in-Ok.ensures),
+      c.payload_at-p.ensures.result_value_2,
     )
 
+pub returns-in-Err-p : goal.returns-in-Err-p
+unfolding whole_field commit_ts_of
+returns-in-Err-p c =
+    let l = c.loop in
+    let s = c.args.body.now in
+    let some : 0 < c.from-records.result - l.counter = omega arith in
+    let row = sym c.in-Ok.ensures in
+    let p = c.payload_at-p.ensures in
+    let bad = payload-bad s l.end row (sym p.result_value ∙ ap (λ q. payload_answer q) c.in-Err-p.is) in
+    let n = items-off (record_at s) (record_items s) l.items _ l.end some bad l.invariant.1 in
+    let both = reported s (c.refused_batch-in-Err-p.ensures
+    ∙ report-bad s (heading-told s c.in_default.ensures) c.commit_ts-commit_ts.ensures (c.from-records.ensures ∙ c.read_u16.ensures)
+    (many-off (record_at s) _ l.end some bad l.invariant.0)
+    (rw (payload-items s l.end row, ← p.result_value_2, ← c.items_in-items.ensures) at n)) in
+    record { value = both.0; result_le_body_items = both.1 }
+
+pub loop-preserved : goal.loop-preserved
+loop-preserved c =
+    let l = c.loop in
+    let s = c.args.body.now in
+    let n = c.from-records.result in
+    let some : 0 < n - l.counter = omega arith in
+    let less : n - (l.counter + 1) ≡ n - l.counter - 1 = omega arith in
+    let row = sym c.in-Ok.ensures in
+    let p = c.payload_at-p.ensures in
+    let good = payload-good s l.end row (sym p.result_value ∙ ap (λ q. payload_answer q) c.in-Ok-p.is) in
+    let count = rw (payload-items s l.end row, ← p.result_value_2, ← c.items_in-items.ensures) at (items-on (record_at s) (record_items s) l.items _ l.end some good l.invariant.1) in
+    (rw less (many-on (record_at s) _ l.end some good l.invariant.0), rw less count)
+
 pub returns : goal.returns
-unfolding batch_magic le_of whole_field commit_ts_of
+unfolding whole_field commit_ts_of
 returns c =
-    let l = c.loop-left in
+    let l = c.loop in
     let s = c.args.body.now in
     let both = reported s
-    (report-good s c.if-body-lt-BATCH_HEADING_SIZE.false (sym c.read_u64.ensures ∙ c.if-read_u64-ne-MVCC_BODY_MAGIC.false) c.commit_ts-commit_ts.ensures c.read_u16-records.ensures
-    (many-done (record_at s) l.left l.end c.loop-left-test.false l.invariant.0)
-    (items-done (record_at s) (record_items s) l.items l.left l.end c.loop-left-test.false l.invariant.1)) in
+    (report-good s (heading-told s c.in_default.ensures) c.commit_ts-commit_ts.ensures (c.from-records.ensures ∙ c.read_u16.ensures)
+    (many-done (record_at s) (c.from-records.result - l.counter) l.end (omega arith) l.invariant.0)
+    (items-done (record_at s) (record_items s) l.items (c.from-records.result - l.counter) l.end (omega arith) l.invariant.1)) in
     record { value = both.0; result_le_body_items = both.1 }

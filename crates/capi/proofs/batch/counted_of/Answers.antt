@@ -1,7 +1,0 @@
-use Rattle.capi.proofs.batch.counted_of.Goals as goal
-
-pub returns-in-Closed : goal.returns-in-Closed
-returns-in-Closed c = rw c.in-Closed.is
-
-pub returns-in-Open : goal.returns-in-Open
-returns-in-Open c = rw c.in-Open.is

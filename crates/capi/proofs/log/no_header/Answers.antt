@@ -1,4 +1,0 @@
-use Rattle.capi.proofs.log.no_header.Goals as goal
-
-pub returns : goal.returns
-returns c = rw c.number.ensures

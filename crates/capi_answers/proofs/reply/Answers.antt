@@ -1,4 +1,0 @@
-use Rattle.capi_answers.proofs.reply.Goals as goal
-
-pub returns : goal.returns
-returns c = rw c.store_of.ensures

@@ -1,7 +1,0 @@
-use Rattle.mvcc.proofs.why_column.Goals as goal
-
-pub returns-in-Taken : goal.returns-in-Taken
-returns-in-Taken c = rw c.in-Taken.is
-
-pub returns-in-Refused : goal.returns-in-Refused
-returns-in-Refused c = rw c.in-Refused.is

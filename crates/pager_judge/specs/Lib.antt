@@ -1,0 +1,2 @@
+-- The root of the definitions of a commit's judgement.
+pub mod Judged

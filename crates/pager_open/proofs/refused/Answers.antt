@@ -1,4 +1,0 @@
-use Rattle.pager_open.proofs.refused.Goals as goal
-
-pub returns : goal.returns
-returns c = rw c.no_store.ensures
