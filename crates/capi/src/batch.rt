@@ -190,7 +190,7 @@ fn value_numbers(tag: u32, flag: u32, integer: i64, bits: u64, place: TextPlace)
 fn flag_of(b: bool) -> u32
     ensures { result ≡ flag_number b }
 {
-    if b { 1 } else { 0 }
+    u32::from(b)
 }
 
 fn numbers_of(v: Value) -> ValueNumbers

@@ -19,7 +19,7 @@ use capi_answers::{
 };
 use capi_numbers::Store;
 use header::DbHeader;
-use pager_state::{Pager, STAGED_PAGES};
+use pager_state::{Areas, Pager, STAGED_PAGES};
 use refusal::Refusal;
 
 // ---- creation and openings
@@ -142,14 +142,13 @@ pub extern "C" fn lateenbael_find_page(
     ensures { let w = world (pager_in store) table.now log.now main.now in
         result ≡ found_as (find_page w staging.now page_num) }
 {
-    capi_answers::found_as(pager_read::find_page(
-        Pager::from(store),
+    let areas = Areas {
         table,
         log,
         main,
         staging,
-        page_num,
-    ))
+    };
+    capi_answers::found_as(pager_read::find_page(Pager::from(store), areas, page_num))
 }
 
 // The same in parts, of what a reading takes of the store: its refusals, which stay the same until the store changes, ..
@@ -167,9 +166,13 @@ pub extern "C" fn lateenbael_may_read(
     ensures { let a = may_read page_count job log_len main_len table.now log.now main.now staging.now in
         result ≡ refusal_number a }
 {
-    capi_answers::refusal_number(pager_read::may_read(
-        page_count, job, log_len, main_len, table, log, main, staging,
-    ))
+    let areas = Areas {
+        table,
+        log,
+        main,
+        staging,
+    };
+    capi_answers::refusal_number(pager_read::may_read(page_count, job, log_len, main_len, areas))
 }
 
 // .. the first page number from which on there is no page, ..
@@ -291,14 +294,13 @@ pub extern "C" fn lateenbael_preview_commit<'a>(
     ensures { let w = world (pager_in store) table.now log.now main.now in
         ((salt : ℕ) → result ≡ previewed_as (preview_commit staging.now w new_header salt)) }
 {
-    capi_answers::previewed_as(pager_preview::preview_commit(
-        Pager::from(store),
+    let areas = Areas {
         table,
         log,
         main,
         staging,
-        new_header,
-    ))
+    };
+    capi_answers::previewed_as(pager_preview::preview_commit(Pager::from(store), areas, new_header))
 }
 
 // ---- commit and checkpoint, begun
@@ -316,12 +318,15 @@ pub extern "C" fn lateenbael_begin_commit<'a>(
     ensures { let w = world (pager_in store) table.now log.now main.now in
         (let a = begin_commit staging.now w new_header salt in result ≡ commit_begun_as a.answer a.pager) }
 {
-    capi_answers::commit_begun_as(pager_commit::begin_commit(
-        Pager::from(store),
+    let areas = Areas {
         table,
         log,
         main,
         staging,
+    };
+    capi_answers::commit_begun_as(pager_commit::begin_commit(
+        Pager::from(store),
+        areas,
         new_header,
         salt,
     ))
@@ -339,12 +344,15 @@ pub extern "C" fn lateenbael_begin_checkpoint(
     ensures { let w = world (pager_in store) table.now log.now main.now in
         (let a = begin_checkpoint staging.now w salt in result ≡ checkpoint_begun_as a.answer a.pager) }
 {
-    capi_answers::checkpoint_begun_as(pager_checkpoint::begin_checkpoint(
-        Pager::from(store),
+    let areas = Areas {
         table,
         log,
         main,
         staging,
+    };
+    capi_answers::checkpoint_begun_as(pager_checkpoint::begin_checkpoint(
+        Pager::from(store),
+        areas,
         salt,
     ))
 }

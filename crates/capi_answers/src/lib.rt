@@ -1,4 +1,5 @@
 // The answers of the store's calls in numbers: document 01's refusal or 0, what the call gives, and the store after it.
+// Numbers for kinds, flags and what is none: the C interface.
 #![tactic(auto)]
 
 ghost use Rattle.std.specs.Prelude.{◌≡◌};

@@ -1,5 +1,6 @@
 // The open store, an open log and what is part done, in numbers, and back. Any numbers make a store: a kind of job that there is
 // not is none, and a kind of opening that there is not writes nothing.
+// Numbers for kinds, and counts with a flag beside them: the C interface.
 #![tactic(auto)]
 
 ghost use Rattle.std.specs.Prelude.{◌≡◌};
@@ -75,19 +76,13 @@ impl From<WalNumbers> for Wal {
 fn committed_of(last: Option<u32>) -> u32
     ensures { result ≡ committed_of last }
 {
-    match last {
-        None => 0,
-        Some(_) => 1,
-    }
+    u32::from(last.is_some())
 }
 
 fn count_of(last: Option<u32>) -> u32
     ensures { result ≡ last_commit_count last }
 {
-    match last {
-        None => 0,
-        Some(n) => n,
-    }
+    last.unwrap_or(0)
 }
 
 impl From<Wal> for WalNumbers {
@@ -95,15 +90,14 @@ impl From<Wal> for WalNumbers {
 
     #[tactic(auto, unfolding(crate::specs::Numbers::numbers_of_wal))]
     fn from(w: Wal) -> WalNumbers {
-        let last = w.last_commit_page_count;
         WalNumbers {
             header: w.header,
             len: w.len,
             good_end: w.good_end,
             last_commit_offset: w.last_commit_offset,
             frame_count: w.frame_count,
-            committed: committed_of(last),
-            last_commit_page_count: count_of(last),
+            committed: committed_of(w.last_commit_page_count),
+            last_commit_page_count: count_of(w.last_commit_page_count),
         }
     }
 }

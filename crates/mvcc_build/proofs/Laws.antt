@@ -1,19 +1,18 @@
 -- Laws of the stores and answers of an addition, as the functions' proofs cite them. Assumes nothing.
 use mathlib.Core.Path.{◌≡◌, refl, sym, ap, ◌∙◌}
-use mathlib.Core.Bool.{Bool, true, false, not}
+use mathlib.Core.Bool.{Bool, true, false}
 use mathlib.Core.List.{List, [], ◌∷◌, ◌++◌, append_assoc, append-nil}
-use Prim.Native.Nat.{ℕ, zero, suc, ◌+◌, ◌-◌, ◌*◌, ◌/◌, ◌%◌, ◌^◌, ◌≤◌, ◌<◌}
+use Prim.Native.Nat.{ℕ, zero, suc, ◌+◌, ◌*◌, ◌/◌, ◌%◌, ◌≤◌, ◌<◌}
 use native.Mathlib.Omega.{arith}
 use borrow.Author.Tests.{leb-true, le-leb, eq-eqb, ne_eqb, eqb-true}
 use lib.Dec.{leb, eqb}
 use lib.Ieee.{Float, nan, inf, fin, is_nan, binary64, to_bits}
 use lib.ListN.{length, take, drop, set, replicate, length-append, length-replicate, replicate-append-replicate}
 use lib.Seq.{take-add, take-length, drop-drop}
-use lib.IntN.{ℤ, pos, negsuc, ◌-ℤ◌}
-use lib.Signed.{lt_z}
+use lib.IntN.{ℤ}
 use mir.Val.{of_z, bool_byte}
 use mir.Syntax.{w64}
-use Rattle.std.specs.Prelude.{Option, None, Ok, Err}
+use Rattle.std.specs.Prelude.{Option, None, Some, Ok, Err}
 use Rattle.le.proofs.Compare.{no_test}
 use Rattle.le.specs.Choice.{pick, both}
 use Rattle.le.specs.Le.{Bytes, le_bytes, put, store}
@@ -190,6 +189,12 @@ module _ (b : BatchBuilder) (body : List ℕ) (texts : Bool) (op : ℕ) (t : Lis
         way-more record_count b body texts H (record_in b (length H) end) size h
         (rw (ne_eqb _ _ k, i, o)) (rw p at q)
 
+-- a record that takes one more, and one that doesn't
+pub fewer : (o : Option OpenRecord) {counted columns : ℕ} → is_full o ≡ false → o ≡ taking counted columns → columns ≡ 0xffff → ⊥
+fewer o {counted} {columns} e f h =
+    let g : eqb columns 0xffff ≡ false = rw f at e in
+    no_test (sym g ∙ eq-eqb columns 0xffff h)
+
 module _ (b : BatchBuilder) (body : List ℕ) (texts : Bool) (t : List ℕ) (tag k v : ℕ) (bs : List ℕ) where
   abbrev C : List ℕ
   C = tagged t tag k v bs
@@ -200,6 +205,11 @@ module _ (b : BatchBuilder) (body : List ℕ) (texts : Bool) (t : List ℕ) (tag
   sized : length C ≡ 3 + k + length t + length bs
   sized = length-tagged t tag k v bs
 
+  many-at : (o : Option OpenRecord) → is_full o ≡ true → Err Fit ≡ column_in b (length C) o
+  unfolding column_in
+  many-at None e = no_test e
+  many-at (Some r) e = rw e
+
   pub col-refused : {e : Refusal} → judged (length body) texts (b.at + (3 + k + length t + length bs)) ≡ Err e → Cols (Err e) body
   unfolding column_result
   col-refused h = way-refused column_count b body texts C (column_in b (length C) b.last) sized h
@@ -209,17 +219,18 @@ module _ (b : BatchBuilder) (body : List ℕ) (texts : Bool) (t : List ℕ) (tag
     unfolding column_result column_in body_after
     col-none o = way-more column_count b body texts C (column_in b (length C) b.last) sized h (rw o) refl
 
-    module _ {counted columns : ℕ} (o : b.last ≡ taking counted columns) where
-      pub col-many : columns ≡ 0xffff → Cols (Err Fit) body
-      unfolding column_result column_in body_after
-      col-many e = way-more column_count b body texts C (column_in b (length C) b.last) sized h (rw (o, eq-eqb columns 0xffff e)) refl
+    pub col-many : is_full b.last ≡ true → Cols (Err Fit) body
+    unfolding column_result body_after
+    col-many e = way-more column_count b body texts C (column_in b (length C) b.last) sized h (many-at b.last e) refl
 
-      pub col-done : (columns ≡ 0xffff → ⊥) → {l m : List ℕ} → l ≡ put body b.at C → m ≡ store l counted (le_bytes 2 (columns + 1))
+    module _ {counted columns : ℕ} (o : b.last ≡ taking counted columns) where
+      pub col-done : is_full b.last ≡ false → {l m : List ℕ} → l ≡ put body b.at C → m ≡ store l counted (le_bytes 2 (columns + 1))
           → Cols (Ok (record { at = b.at + (3 + k + length t + length bs); records = b.records; last = taking counted (columns + 1) })) m
       unfolding column_result column_in body_after column_count columns_recounted
       col-done i p q =
+          let e : eqb columns 0xffff ≡ false = rw o at i in
           way-more column_count b body texts C (column_in b (length C) b.last) sized h
-          (rw (o, ne_eqb columns 0xffff i, sized)) (rw p at q)
+          (rw (o, e, sized)) (rw p at q)
 
 -- ---- the public additions
 

@@ -8,7 +8,7 @@ ghost use Rattle.pager_state.specs.Steps.{answer_of, step_answer, stepped, steps
 ghost use Rattle.pager.specs.Jobs.{is_commit_job};
 
 use header::DbHeader;
-use pager_state::{CheckpointStart, Job, Outcome, Pager, Step};
+use pager_state::{Areas, CheckpointStart, Job, Outcome, Pager, Step};
 use refusal::Refusal;
 
 // More steps than any commit or checkpoint has.
@@ -126,7 +126,13 @@ pub fn checkpoint<'a>(
         let later = world result.pager table.new log.new main.new in
         later ≡ checkpoint_world staging.now w salt }
 {
-    let begun = pager_checkpoint::begin_checkpoint(pager, table, log, main, staging, salt);
+    let areas = Areas {
+        table,
+        log,
+        main,
+        staging,
+    };
+    let begun = pager_checkpoint::begin_checkpoint(pager, areas, salt);
     match begun.answer {
         Ok(CheckpointStart::Begun) => {
             let pages = answer_of(begun.pager.job);

@@ -6,10 +6,10 @@ use mathlib.Core.Logic.{⊎_elim}
 use Prim.Native.Nat.{ℕ, suc, ◌+◌, ◌*◌, ◌≤◌, ◌<◌}
 use native.Mathlib.Numerals.{add-one}
 use native.Mathlib.Omega.{arith}
-use borrow.Author.Tests.{le-leb, leb-true, leb-false}
-use lib.Dec.{leb}
+use borrow.Author.Tests.{le-leb}
+use Rattle.std.proofs.Math.Bool.{not-not}
 use lib.ListN.{length, length-take}
-use Rattle.std.specs.Prelude.{Err, Ok, Result}
+use Rattle.std.specs.Prelude.{Option, None, Some, Err, Ok, Result, MatchOption, is_some, not}
 use Rattle.le.specs.Le.{put}
 use Rattle.le.proofs.Tests.{le-or-lt}
 use Rattle.frame.specs.Frame.{frame_at, body_of}
@@ -44,19 +44,12 @@ use Rattle.pager_checkpoint.specs.CheckpointStep.{checkpoint_step_answer, checkp
 -- ---- a checkpoint's pages, by the count and the table
 
 module _ (w : World) where
-  pub some-pages : (p q : ℕ) → q ≡ first_of (pages_from (in_checkpoint w) p) → q < 1024 → pages_from (in_checkpoint w) p ≡ q ∷ pages_from (in_checkpoint w) (suc q)
-  some-pages p q g h = (lowest (in_checkpoint w) p q g h).split
-
-  pub no-pages : (p q : ℕ) → q ≡ first_of (pages_from (in_checkpoint w) p) → 1024 ≤ q → pages_from (in_checkpoint w) p ≡ []
-  no-pages p q g h = none_found (in_checkpoint w) p q g h
-
   -- whether another page follows
-  none-as : (p q : ℕ) → q ≡ first_of (pages_from (in_checkpoint w) p) → (b : Bool) → leb 1024 q ≡ b → is_empty (pages_from (in_checkpoint w) p) ≡ b
-  none-as p q g true t = ap is_empty (no-pages p q g (leb-true 1024 q t))
-  none-as p q g false t = ap is_empty (some-pages p q g (leb-false 1024 q t))
-
-  pub last-is : (p q : ℕ) → q ≡ first_of (pages_from (in_checkpoint w) (p + 1)) → is_empty (pages_from (in_checkpoint w) (suc p)) ≡ leb 1024 q
-  last-is p q g = none-as (suc p) q (g ∙ ap (λ (k : ℕ). first_of (pages_from (in_checkpoint w) k)) (add-one p)) (leb 1024 q) refl
+  pub last-is : (p : ℕ) (next : Option ℕ) (last : Bool) → is_some next ≡ not last
+      → MatchOption next (pages_from (in_checkpoint w) (p + 1) ≡ []) (λ q. (q < 1024) × (pages_from (in_checkpoint w) (p + 1) ≡ q ∷ pages_from (in_checkpoint w) (suc q)))
+      → is_empty (pages_from (in_checkpoint w) (suc p)) ≡ last
+  last-is p None last e a = rw (add-one p) at (ap is_empty a) ∙ ap not e ∙ not-not last
+  last-is p (Some q) last e a = rw (add-one p) at (ap is_empty a.1) ∙ ap not e ∙ not-not last
 
 -- a page's bytes in the log, as its frame's body
 pub body-of-page : (t l : List ℕ) (n : ℕ) {at : ℕ} {bs : List ℕ} → at ≡ frame_of t n → bs ≡ body_of (frame_at at l) → bs ≡ log_bytes t l n

@@ -1,7 +1,7 @@
 -- The scan for a checkpoint's pages: only those from 1 on, below the page count, that the table has need be looked at. Assumes nothing.
 use mathlib.Core.Path.{◌≡◌, refl, sym, ap, ◌∙◌}
 use mathlib.Core.Bool.{Bool, true, false}
-use mathlib.Core.List.{List, []}
+use mathlib.Core.List.{List, [], ◌∷◌}
 use mathlib.Core.Logic.{⊎_elim}
 use Prim.Native.Nat.{ℕ, zero, suc, ◌+◌, ◌-◌, ◌/◌, ◌≤◌, ◌<◌, max}
 use native.Mathlib.Nat.{add-zero}
@@ -14,7 +14,7 @@ use Rattle.std.proofs.lemmas.List.{get_or-take, get_or-drop, length-take, length
 use Rattle.le.specs.Choice.{both, pick}
 use Rattle.le.proofs.Tests.{le-or-lt}
 use Rattle.pager_state.specs.Overlay.{frame_of, in_log}
-use Rattle.pager_state.specs.Pages.{pages_from, first_of, in_checkpoint_by}
+use Rattle.pager_state.specs.Pages.{pages_from, in_checkpoint_by}
 use Rattle.pager_state.proofs.Searches.{pages-hit, pages-miss, pages-end}
 use Rattle.pager_state.proofs.Entries.{get_d_past}
 use Rattle.pager_state.proofs.Walks.{tally-step}
@@ -117,8 +117,9 @@ module _ (count : ℕ) (t : List ℕ) where
     -- a part with one
     pub one-found : (k : ℕ) → 1 ≤ q
         → (k < length (take (end - q) (drop q t))) × (1 < get_or (take (end - q) (drop q t)) k 0) × ((j : ℕ) → j < k → get_or (take (end - q) (drop q t)) j 0 ≤ 1)
-        → first_of (pages_from (in_checkpoint_by count t) q) ≡ q + k
+        → (q + k < 1024) × (pages_from (in_checkpoint_by count t) q ≡ (q + k) ∷ pages_from (in_checkpoint_by count t) (suc (q + k)))
     one-found k l a =
         let n : length (take (end - q) (drop q t)) ≡ end - q = simp (length-take, length-drop) (omega (arith, e)) in
         let g = get_or-take (end - q) (drop q t) k 0 (omega (arith, a.0, n)) ∙ get_or-drop q t k 0 in
-        ap first_of (past_part q (end - q) k (omega (arith, a.0, n)) a.2 ∙ pages-hit (in_checkpoint_by count t) (q + k) (omega (arith, a.0, n, e)) (hit (q + k) (omega arith) (omega (arith, a.0, n, e)) (rw g at a.1)))
+        let b : q + k < 1024 = omega (arith, a.0, n, e) in
+        (b, past_part q (end - q) k (omega (arith, a.0, n)) a.2 ∙ pages-hit (in_checkpoint_by count t) (q + k) b (hit (q + k) (omega arith) (omega (arith, a.0, n, e)) (rw g at a.1)))

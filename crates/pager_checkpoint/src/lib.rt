@@ -1,7 +1,7 @@
 // The stores of a checkpoint, one at a time, and the call that starts a checkpoint.
 #![tactic(auto)]
 
-ghost use Rattle.std.specs.Prelude.{Ok, ◌≡◌, true, false, ℕ, ◌+◌, ◌*◌, ◌≤◌, ◌<◌, eqb, length, get_or, MatchOption};
+ghost use Rattle.std.specs.Prelude.{Ok, ◌≡◌, true, false, ℕ, suc, ◌+◌, ◌*◌, ◌≤◌, ◌<◌, eqb, length, get_or, [], ◌∷◌, MatchOption};
 ghost use Rattle.wal.specs.Recovery.{wal_area};
 ghost use Rattle.page.specs.Page.{page_size};
 ghost use Rattle.le.specs.Choice.{both};
@@ -12,7 +12,7 @@ ghost use Rattle.le.specs.Le.{put};
 ghost use Rattle.pager_state.specs.World.{world, header_of, count_of, with_job, with_wal, page_limit, main_area_size};
 ghost use Rattle.pager_state.specs.Overlay.{log_bytes, main_at};
 ghost use Rattle.pager_state.specs.Stores.{Put, SetLen, Other, place_of, grown, put_file};
-ghost use Rattle.pager_state.specs.Pages.{pages_from, first_of, in_checkpoint_by, in_checkpoint};
+ghost use Rattle.pager_state.specs.Pages.{pages_from, in_checkpoint_by, in_checkpoint};
 ghost use Rattle.pager_state.specs.Checkpoint.{checkpointed_from, without_frames, log_length_act, pages_todo, pages_advance};
 ghost use Rattle.pager_state.specs.Steps.{named, no_log_pages, begin_checkpoint};
 ghost use Rattle.pager_checkpoint.specs.CheckpointStep.{checkpoint_step_answer, checkpoint_stepped, checkpoint_end, file_in, with_main, page_put, header_put, checkpoint_started_as};
@@ -20,7 +20,7 @@ ghost use Rattle.pager_checkpoint.specs.CheckpointStep.{checkpoint_step_answer, 
 use header::DbHeader;
 use page::PAGE_SIZE;
 use pager_state::{
-    CheckpointStart, FileKind, FileStorage, Job, Outcome, PAGES, Pager, Place, Step,
+    Areas, CheckpointStart, FileKind, FileStorage, Job, Outcome, PAGES, Pager, Place, Step,
 };
 use refusal::Refusal;
 use wal::{WAL_HEADER_SIZE, Wal};
@@ -64,22 +64,21 @@ fn first_in_log(entries: &[u32]) -> Option<usize>
     Some(start + k)
 }
 
-// The first page from `page` on that a checkpoint stores; 1,024 if there is none. Often it is the very next.
-fn next_in_checkpoint(count: u32, table: &[u32], page: usize) -> usize
-    ensures { result ≡ first_of (pages_from (in_checkpoint_by count table.now) page) }
+// The first page from `page` on that a checkpoint stores. Often it is the very next.
+fn next_in_checkpoint(count: u32, table: &[u32], page: usize) -> Option<usize>
+    ensures { let from = pages_from (in_checkpoint_by count table.now) in
+        MatchOption result (from page ≡ []) (λ p. (p < page_limit) × (from page ≡ p ∷ from (suc p))) }
 {
     let end = checkpoint_end(count, table.len());
     let first = page.max(1);
     if end <= first {
-        return PAGES;
+        return None;
     }
     if 1 < table[first] {
-        return first;
+        return Some(first);
     }
-    match first_in_log(&table[first..end]) {
-        Some(k) => first + k,
-        None => PAGES,
-    }
+    let k = first_in_log(&table[first..end])?;
+    Some(first + k)
 }
 
 // How many pages a checkpoint stores. The count is as wide as the entries, so that the compiler counts four at once.
@@ -250,12 +249,13 @@ fn pages_step(
         world result.pager table.now log.now main.new ≡ pages_advance salt answer (pages_from (in_checkpoint w) page) w }
 {
     let count = pager.current_header.page_count;
-    let q = next_in_checkpoint(count, table, page);
-    if q < PAGES {
-        let last = PAGES <= next_in_checkpoint(count, table, q + 1);
-        return page_step(pager, salt, answer, q, last, table, log, main);
+    match next_in_checkpoint(count, table, page) {
+        Some(q) => {
+            let last = next_in_checkpoint(count, table, q + 1).is_none();
+            page_step(pager, salt, answer, q, last, table, log, main)
+        }
+        None => header_step(pager, salt, answer, main),
     }
-    header_step(pager, salt, answer, main)
 }
 
 // Sets the main file's length.
@@ -389,17 +389,12 @@ fn started(answer: Result<CheckpointStart, Refusal>, pager: Pager) -> Outcome<Ch
 }
 
 // Judges a checkpoint; stores nothing. Of the staging area only the length is looked at.
-pub fn begin_checkpoint(
-    pager: Pager,
-    table: &[u32],
-    log: &[u8],
-    main: &[u8],
-    staging: &[u8],
-    salt: u32,
-) -> Outcome<CheckpointStart>
-    ensures { result ≡ begin_checkpoint staging.now (world pager table.now log.now main.now) salt }
+pub fn begin_checkpoint(pager: Pager, areas: Areas, salt: u32) -> Outcome<CheckpointStart>
+    ensures { let a = areas.entry in
+        let w = world pager a.table.now a.log.now a.main.now in
+        result ≡ begin_checkpoint a.staging.now w salt }
 {
-    if !pager_state::are_fine(pager, table.len(), log.len(), main.len(), staging.len()) {
+    if !areas.are_fine(pager) {
         return started(Err(Refusal::Area), pager);
     }
     if pager_state::is_busy(pager.job) {
@@ -408,10 +403,10 @@ pub fn begin_checkpoint(
     if pager_state::is_read_only(pager.opening) {
         return started(Err(Refusal::ReadOnly), pager);
     }
-    if nothing_to_checkpoint(pager.wal.frame_count, table) {
+    if nothing_to_checkpoint(pager.wal.frame_count, areas.table) {
         return started(Ok(CheckpointStart::Nothing), pager);
     }
-    let answer = count_in_checkpoint(pager.current_header.page_count, table);
+    let answer = count_in_checkpoint(pager.current_header.page_count, areas.table);
     let begun = Job::Checkpoint {
         salt,
         page: 0,

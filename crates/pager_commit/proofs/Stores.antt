@@ -59,10 +59,3 @@ commit-frame-stored l v h n t e a b =
     let z : length (front_page (header_fields h)) ≡ page_size = length-padded (header_fields h) (length-header_fields h) in
     let f : v.len ≤ wal_area = omega (arith, room-is v t) in
     (a ∙ rw (e, eq-eqb _ _ z, eq-eqb _ _ n, le-leb _ _ f, t), b ∙ rw (e, eq-eqb _ _ z, eq-eqb _ _ n, le-leb _ _ f, t))
-
--- so it is not refused
-pub not_full : {A : Type 0} {r : (Result Wal Refusal)} {v : Wal} {x : Refusal} → r ≡ Ok v → r ≡ Err x → A
-not_full e f = let z : ◌≡◌ {A = ℕ} 0 1 = cc in absurd (omega arith)
-
-pub appended-is : {r : (Result Wal Refusal)} {u v : Wal} → r ≡ Ok v → r ≡ Ok u → u ≡ v
-appended-is e f = cc

@@ -15,11 +15,11 @@ ghost use Rattle.pager_commit.specs.Parts.{Lengths, slot_frame, commit_frame_byt
 use frame::{FRAME_SIZE, FrameStart};
 use header::DbHeader;
 use page::PAGE_SIZE;
-use pager_differing::{Areas, Slot};
+use pager_differing::Slot;
 use pager_judge::Judged;
 use pager_state::{
-    AUTO_CHECKPOINT_THRESHOLD_FRAMES, FileKind, Job, Outcome, PAGES, Pager, Place, STAGED_PAGES,
-    Staged, Step,
+    AUTO_CHECKPOINT_THRESHOLD_FRAMES, Areas, FileKind, Job, Outcome, PAGES, Pager, Place,
+    STAGED_PAGES, Staged, Step,
 };
 use refusal::Refusal;
 use wal::{WAL_AREA, Wal};
@@ -72,11 +72,7 @@ fn store_commit_frame(table: &mut [u32], log: &mut [u8], wal: Wal, header: DbHea
 {
     enter(table, 0, wal.len);
     let fields = header::encode_fields(header);
-    let appended = wal::append_page_zero(log, wal, &fields, header.page_count);
-    let Ok(later) = appended else {
-        return wal;
-    };
-    later
+    wal::append_page_zero(log, wal, &fields, header.page_count).unwrap_or(wal)
 }
 
 // What a commit has left after its commit frame.
@@ -272,24 +268,11 @@ pub fn commit_step<'a>(
 
 // Judges a commit; stores nothing.
 #[tactic(auto, unfolding(pager_state::specs::Steps::begin_commit), using(pager_judge::proofs::Judging::begun, pager_judge::proofs::Judging::refused))]
-pub fn begin_commit<'a>(
-    pager: Pager,
-    table: &[u32],
-    log: &'a [u8],
-    main: &'a [u8],
-    staging: &'a [u8],
-    new_header: DbHeader,
-    salt: u32,
-) -> Outcome<()>
-    ensures { let w = world pager table.now log.now main.now in
-        result ≡ begin_commit staging.now w new_header salt }
+pub fn begin_commit(pager: Pager, areas: Areas, new_header: DbHeader, salt: u32) -> Outcome<()>
+    ensures { let a = areas.entry in
+        let w = world pager a.table.now a.log.now a.main.now in
+        result ≡ begin_commit a.staging.now w new_header salt }
 {
-    let areas = Areas {
-        table,
-        log,
-        main,
-        staging,
-    };
     match pager_judge::judge(pager, areas, new_header) {
         Ok(judged) => {
             let job = Job::Commit {

@@ -1,5 +1,6 @@
 -- The searches for differing and for lacking pages, and how many differ. Assumes nothing.
 use Rattle.std.proofs.Common.{◌≡◌, ℕ, suc, ◌+◌, ◌<◌, ◌≤◌, min, max, Bool, true, false, not, eqb, ltb, leb, List, [], length, get_or, take, sym, refl, ap, ◌∙◌, ⊎_elim, add-one, arith, length-take, get_or-take, ltb-true, le-ltb, lt-ltb, eq-eqb, eqb-true, le-leb}
+use Rattle.std.specs.Prelude.{Option, None, Some, MatchOption}
 use borrow.Author.Tests.{lt-leb}
 use Rattle.le.specs.Choice.{pick, both}
 use Rattle.le.proofs.Tests.{le-or-lt, eq-or-not}
@@ -10,7 +11,7 @@ use Rattle.pager_state.specs.Pages.{pages_from, first_of, differs_in, lacks}
 use Rattle.pager_state.specs.declared.Staged.{Staged}
 use Rattle.pager_state.proofs.Searches.{pages-hit, pages-miss, lowest, pages-same}
 use Rattle.pager_state.proofs.Slots.{find-there}
-use Rattle.pager_state.proofs.Walks.{pages-skip, none_is, first-before, pages-more}
+use Rattle.pager_state.proofs.Walks.{pages-skip, none_is, first-is, first-before, pages-more}
 use Rattle.pager_differing.specs.Differing.{is_in, next_in, slot_differs, counts_at, Found}
 use Rattle.pager_differing.specs.declared.Slot.{Slot}
 
@@ -34,13 +35,9 @@ module _ (s : Staged) (long : length s.pages ≡ staged_limit) (q : ℕ) {r n : 
   size : length (staged_pages s) ≡ n
   size = let c = length-take s.count s.pages in omega (arith, c, long, f)
 
-  pub without-slot : n ≤ r → is_staged s q ≡ false
+  pub by-slot : ltb r n ≡ is_staged s q
   unfolding is_staged slot_of
-  without-slot h = le-ltb (find_in (staged_pages s) q) (length (staged_pages s)) (omega (arith, e, size, h))
-
-  pub with-slot : r < n → is_staged s q ≡ true
-  unfolding is_staged slot_of
-  with-slot h = lt-ltb (find_in (staged_pages s) q) (length (staged_pages s)) (omega (arith, e, size, h))
+  by-slot = rw (e, size)
 
 -- a page that is found has a place in the list
 pub place-within : (s : List ℕ) (n p q : ℕ) → q ≡ next_in (take n s) p → q < page_limit → find_in (take n s) q < length s
@@ -208,15 +205,20 @@ module _ (s : Staged) (old new : ℕ) where
         let j : old ≤ p = omega arith in
         rw (le-leb 1 p i, le-leb old p j, lt-ltb p new k, e)
 
-    pub lack-here : is_staged s p ≡ false → p ≡ first_of (pages_from L p)
-    lack-here e = sym (ap first_of (pages-hit L p b (lack-at false e)))
-
-    pub lack-past : is_staged s p ≡ true → pages_from L p ≡ pages_from L (p + 1)
-    lack-past e = pages-miss L p b (lack-at true e) ∙ ap (pages_from L) (sym (add-one p))
+  staged-before : (start q : ℕ) → start ≡ max 1 old → q ≤ min new page_limit → ((n : ℕ) → start ≤ n → n < q → is_staged s n ≡ true) → (n : ℕ) → n < q → L n ≡ false
+  staged-before start q e h a n b =
+      ⊎_elim (λ k. lack-at n (omega (arith, k, e)) (omega (arith, h, b)) (omega (arith, h, b)) true (a n k b)) (λ k. lack-below n (omega (arith, k, e))) (le-or-lt start n)
 
   lack-above : (n : ℕ) → new ≤ n → L n ≡ false
   unfolding lacks
   lack-above n h = rw (le-ltb n new h, both_false (leb old n), both_false (leb 1 n))
 
-  pub lack-end : (p : ℕ) → min new page_limit ≤ p → page_limit ≡ first_of (pages_from L p)
-  lack-end p h = sym (ap first_of (none_is L p (λ n a b. lack-above n (omega arith))))
+  pub lack-found : (start end : ℕ) (r : Option ℕ) → start ≡ max 1 old → end ≡ min new page_limit
+      → MatchOption r ((n : ℕ) → start ≤ n → n < end → is_staged s n ≡ true) (λ p. (start ≤ p) × (p < end) × (is_staged s p ≡ false) × ((n : ℕ) → start ≤ n → n < p → is_staged s n ≡ true))
+      → MatchOption r (first_of (pages_from L 0) ≡ page_limit) (λ p. (p ≡ first_of (pages_from L 0)) × (p < page_limit))
+  lack-found start end None e f a =
+      ap first_of (none_is L 0 (λ n _ b. ⊎_elim (λ k. lack-above n (omega (arith, k, f, b))) (λ k. staged-before start end e (omega (arith, f)) a n k) (le-or-lt end n)))
+  lack-found start end (Some p) e f a =
+      let b : p < page_limit = omega (arith, a.1, f) in
+      let x : L p ≡ true = lack-at p (omega (arith, a.0, e)) (omega (arith, a.1, f)) b false a.2 in
+      (sym (first-is L 0 p (omega arith) b x (λ n _ k. staged-before start p e (omega (arith, a.1, f)) a.3 n k)), b)

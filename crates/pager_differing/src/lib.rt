@@ -1,16 +1,16 @@
 // Which pages a commit stores: the staged pages that differ, one after another or all at once, and the first that is missing.
 #![tactic(auto)]
 
-ghost use Rattle.std.specs.Prelude.{◌≡◌, ◌+◌, ◌<◌, ◌≤◌, not, length, take, drop, IfSome, IfNone, ◌==◌};
+ghost use Rattle.std.specs.Prelude.{◌≡◌, ◌+◌, ◌<◌, ◌≤◌, not, length, take, drop, IfSome, IfNone, MatchOption, ◌==◌};
 ghost use Rattle.le.specs.Choice.{both};
 ghost use Rattle.le.specs.Le.{same_bytes};
-ghost use Rattle.pager_state.specs.World.{page_limit, staged_limit, staging_area, fine_by};
-ghost use Rattle.pager_state.specs.Overlay.{find_in, slot_of, committed_in};
+ghost use Rattle.pager_state.specs.World.{page_limit, staged_limit};
+ghost use Rattle.pager_state.specs.Overlay.{find_in, slot_of, is_staged, committed_in};
 ghost use Rattle.pager_state.specs.Pages.{pages_from, first_of, differs_in, lacks};
 ghost use Rattle.pager_differing.specs.Differing.{next_in, slot_differs, counts_at, Found, Marks};
 
 use page::PAGE_SIZE;
-use pager_state::{PAGES, Pager, STAGED_PAGES, Staged};
+use pager_state::{Areas, PAGES, STAGED_PAGES, Staged};
 
 // A staged page and its slot.
 #[derive(Clone, Copy)]
@@ -47,32 +47,6 @@ pub fn next_of(s: &[u16; STAGED_PAGES], n: usize, page: usize) -> Option<Slot>
     }
     let index = pager_state::find_among(s, n, found);
     Some(Slot { page: found, index })
-}
-
-// The page table and the areas that a staged page is compared with.
-#[derive(Clone, Copy)]
-pub struct Areas<'a> {
-    pub table: &'a [u32],
-    pub log: &'a [u8],
-    pub main: &'a [u8],
-    pub staging: &'a [u8],
-}
-
-impl<'a> Areas<'a> {
-    // Whether they have the store's lengths, and its files lie inside them.
-    pub fn are_fine(self, pager: Pager) -> bool
-        ensures { let a = self.entry in
-            let fine = fine_by pager (length a.table.now) (length a.log.now) (length a.main.now) in
-            result ≡ both fine (length a.staging.now == staging_area) }
-    {
-        pager_state::are_fine(
-            pager,
-            self.table.len(),
-            self.log.len(),
-            self.main.len(),
-            self.staging.len(),
-        )
-    }
 }
 
 // The bytes that a page was last committed with: the log's, else the main file's, else none.
@@ -178,17 +152,20 @@ pub fn mark_differing(staged: Staged, areas: Areas) -> Marked
     Marked { pages, count }
 }
 
-// The first page that joins and isn't staged; 1,024 if there is none.
-pub fn first_lacking(staged: Staged, old: u32, new: u32) -> usize
-    ensures { result ≡ first_of (pages_from (lacks staged old new) 0) }
+// Whether a page is staged.
+fn is_staged(staged: Staged, page: usize) -> bool
+    ensures { result ≡ is_staged staged page }
 {
     let slots = staged.count.min(STAGED_PAGES);
+    pager_state::find_among(&staged.pages, staged.count, page) < slots
+}
+
+// The first page that joins and isn't staged.
+pub fn first_lacking(staged: Staged, old: u32, new: u32) -> Option<usize>
+    ensures { let first = first_of (pages_from (lacks staged old new) 0) in
+        MatchOption result (first ≡ page_limit) (λ p. (p ≡ first) × (p < page_limit)) }
+{
     let start = (old as usize).max(1);
     let end = (new as usize).min(PAGES);
-    for p in start..end {
-        if slots <= pager_state::find_among(&staged.pages, staged.count, p) {
-            return p;
-        }
-    }
-    PAGES
+    (start..end).find(|p| !is_staged(staged, *p))
 }

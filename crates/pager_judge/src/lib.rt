@@ -9,8 +9,7 @@ ghost use Rattle.pager_judge.specs.Judged.{start_of, Begins};
 
 use frame::FRAME_SIZE;
 use header::DbHeader;
-use pager_differing::Areas;
-use pager_state::{PAGES, Pager, STAGED_PAGES, Staged};
+use pager_state::{Areas, PAGES, Pager, STAGED_PAGES, Staged};
 use refusal::Refusal;
 use wal::WAL_AREA;
 
@@ -75,10 +74,10 @@ pub fn judge(pager: Pager, areas: Areas, new_header: DbHeader) -> Result<Judged,
     if !is_header_good(new_header) {
         return Err(Refusal::NewHeader);
     }
-    let old = pager.current_header;
-    let lacking = pager_differing::first_lacking(staged, old.page_count, new_header.page_count);
-    if lacking < PAGES {
-        return Err(Refusal::Joining(lacking));
+    let old = pager.current_header.page_count;
+    let new = new_header.page_count;
+    if let Some(page) = pager_differing::first_lacking(staged, old, new) {
+        return Err(Refusal::Joining(page));
     }
     let found = pager_differing::mark_differing(staged, areas);
     if WAL_AREA < wal.len + FRAME_SIZE * (found.count + 1) {

@@ -11,8 +11,7 @@ ghost use Rattle.pager_preview.specs.Closed.{end_of};
 use frame::FRAME_SIZE;
 use header::DbHeader;
 use page::PAGE_SIZE;
-use pager_differing::Areas;
-use pager_state::{AUTO_CHECKPOINT_THRESHOLD_FRAMES, Pager};
+use pager_state::{AUTO_CHECKPOINT_THRESHOLD_FRAMES, Areas, Pager};
 use refusal::Refusal;
 use wal::{WAL_HEADER_SIZE, Wal};
 
@@ -55,23 +54,11 @@ fn end_of(pages: usize, wal: Wal, main_len: usize, page_count: u32) -> Preview
 }
 
 // What a commit with these arguments, and any salt, would answer and leave. Every area is only read.
-pub fn preview_commit<'a>(
-    pager: Pager,
-    table: &[u32],
-    log: &'a [u8],
-    main: &'a [u8],
-    staging: &'a [u8],
-    new_header: DbHeader,
-) -> Result<Preview, Refusal>
-    ensures { let w = world pager table.now log.now main.now in
-        ((salt : ℕ) → result ≡ preview_commit staging.now w new_header salt) }
+pub fn preview_commit(pager: Pager, areas: Areas, new_header: DbHeader) -> Result<Preview, Refusal>
+    ensures { let a = areas.entry in
+        let w = world pager a.table.now a.log.now a.main.now in
+        ((salt : ℕ) → result ≡ preview_commit a.staging.now w new_header salt) }
 {
-    let areas = Areas {
-        table,
-        log,
-        main,
-        staging,
-    };
     let judged = pager_judge::judge(pager, areas, new_header)?;
     Ok(end_of(
         judged.pages,

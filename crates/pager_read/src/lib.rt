@@ -13,7 +13,7 @@ use frame::FRAME_HEADER_SIZE;
 use header::DbHeader;
 use page::PAGE_SIZE;
 use pager_state::{
-    AccessMode, Opening, Outcome, PageFound, Pager, STAGED_PAGES, STAGING_AREA, Staged,
+    AccessMode, Areas, Opening, Outcome, PageFound, Pager, STAGED_PAGES, STAGING_AREA, Staged,
 };
 use refusal::Refusal;
 use wal::{BatchAt, WAL_AREA, Wal};
@@ -68,10 +68,7 @@ pub fn clock_high_water(pager: Pager) -> Result<u64, Refusal>
 fn raised(wal: Wal, value: u64) -> Wal
     ensures { result ≡ raised wal value }
 {
-    let Ok(higher) = wal::set_clock_high_water(wal, value) else {
-        return wal;
-    };
-    higher
+    wal::set_clock_high_water(wal, value).unwrap_or(wal)
 }
 
 // The same by the kind of opening: without a log the clock stays 0.
@@ -145,17 +142,12 @@ fn overlay(staged: Staged, count: u32, table: &[u32], page_num: u32) -> PageFoun
 }
 
 // The area and place of a page's bytes: staged, else none if at or above the page count, else in the log, else in the main file.
-pub fn find_page(
-    pager: Pager,
-    table: &[u32],
-    log: &[u8],
-    main: &[u8],
-    staging: &[u8],
-    page_num: u32,
-) -> Result<PageFound, Refusal>
-    ensures { result ≡ find_page (world pager table.now log.now main.now) staging.now page_num }
+pub fn find_page(pager: Pager, areas: Areas, page_num: u32) -> Result<PageFound, Refusal>
+    ensures { let a = areas.entry in
+        let w = world pager a.table.now a.log.now a.main.now in
+        result ≡ find_page w a.staging.now page_num }
 {
-    if !pager_state::are_fine(pager, table.len(), log.len(), main.len(), staging.len()) {
+    if !areas.are_fine(pager) {
         return Err(Refusal::Area);
     }
     let job = pager.job;
@@ -164,7 +156,7 @@ pub fn find_page(
     }
     let staged = pager.staged;
     let header = pager.current_header;
-    Ok(overlay(staged, header.page_count, table, page_num))
+    Ok(overlay(staged, header.page_count, areas.table, page_num))
 }
 
 // Page numbers that there can be.
@@ -181,30 +173,29 @@ pub fn read_end(page_count: u32, staged_count: usize) -> usize
     PAGE_NUMBERS
 }
 
-// What a reading refuses, judged once for all pages of a store: for a host that reads often. A job of 0 is none.
+// What a reading refuses, judged once for all pages of a store: for a host that reads often. The job is the C
+// interface's number: 0 is none.
 pub fn may_read(
     page_count: u32,
     job: u32,
     log_len: usize,
     main_len: usize,
-    table: &[u32],
-    log: &[u8],
-    main: &[u8],
-    staging: &[u8],
+    areas: Areas,
 ) -> Result<(), Refusal>
-    ensures { result ≡ may_read page_count job log_len main_len table.now log.now main.now staging.now }
+    ensures { let a = areas.entry in
+        result ≡ may_read page_count job log_len main_len a.table.now a.log.now a.main.now a.staging.now }
 {
     if !pager_state::is_inside(
         page_count,
         log_len,
         main_len,
-        table.len(),
-        log.len(),
-        main.len(),
+        areas.table.len(),
+        areas.log.len(),
+        areas.main.len(),
     ) {
         return Err(Refusal::Area);
     }
-    if staging.len() != STAGING_AREA {
+    if areas.staging.len() != STAGING_AREA {
         return Err(Refusal::Area);
     }
     if job != 0 {
@@ -214,24 +205,19 @@ pub fn may_read(
 }
 
 // A page's own bytes inside the staging area, the log or the main file; no byte where there is no page.
-pub fn read_page<'a>(
-    pager: Pager,
-    table: &[u32],
-    log: &'a [u8],
-    main: &'a [u8],
-    staging: &'a [u8],
-    page_num: u32,
-) -> &'a [u8]
-    ensures { result.now ≡ read_page (world pager table.now log.now main.now) staging.now page_num }
+pub fn read_page<'a>(pager: Pager, areas: Areas<'a>, page_num: u32) -> &'a [u8]
+    ensures { let a = areas.entry in
+        let w = world pager a.table.now a.log.now a.main.now in
+        result.now ≡ read_page w a.staging.now page_num }
 {
-    let Ok(found) = find_page(pager, table, log, main, staging, page_num) else {
-        return &log[..0];
+    let Ok(found) = find_page(pager, areas, page_num) else {
+        return &areas.log[..0];
     };
     match found {
-        PageFound::Staged(at) => pager_state::page_from(staging, at),
-        PageFound::Log(at) => pager_state::page_from(log, at),
-        PageFound::Main(at) => pager_state::page_from(main, at),
-        PageFound::Nothing => &log[..0],
+        PageFound::Staged(at) => pager_state::page_from(areas.staging, at),
+        PageFound::Log(at) => pager_state::page_from(areas.log, at),
+        PageFound::Main(at) => pager_state::page_from(areas.main, at),
+        PageFound::Nothing => &areas.log[..0],
     }
 }
 

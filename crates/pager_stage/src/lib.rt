@@ -69,7 +69,8 @@ fn stage(
     }
 }
 
-// The same of what staging takes of a store, for a host that stages often. A job of 0 is none.
+// The same of what staging takes of a store, for a host that stages often. The job is the C interface's
+// number: 0 is none.
 pub fn stage_in(
     job: u32,
     page_num: u32,

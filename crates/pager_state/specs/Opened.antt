@@ -1,5 +1,5 @@
--- What an opening comes to: the open store, or a refusal. The call answers a struct with these cases and the store beside them, since an
--- enum can't hold an array.
+-- What an opening comes to: the open store, or a refusal. The call answers it as an `Outcome`,
+-- beside a refusal with a store without pages (`opened_answer`).
 use Rattle.refusal.specs.declared.Refusal.{Refusal}
 use Rattle.pager_state.specs.declared.Pager.{Pager}
 

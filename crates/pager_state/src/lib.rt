@@ -213,6 +213,32 @@ pub fn are_fine(pager: Pager, table: usize, log: usize, main: usize, staging: us
     is_fine(pager, table, log, main) && staging == STAGING_AREA
 }
 
+// The page table and the areas of a store, where they are only read.
+#[derive(Clone, Copy)]
+pub struct Areas<'a> {
+    pub table: &'a [u32],
+    pub log: &'a [u8],
+    pub main: &'a [u8],
+    pub staging: &'a [u8],
+}
+
+impl<'a> Areas<'a> {
+    // Whether they have the store's lengths, and its files lie inside them.
+    pub fn are_fine(self, pager: Pager) -> bool
+        ensures { let a = self.entry in
+            let fine = fine_by pager (length a.table.now) (length a.log.now) (length a.main.now) in
+            result ≡ both fine (eqb (length a.staging.now) staging_area) }
+    {
+        are_fine(
+            pager,
+            self.table.len(),
+            self.log.len(),
+            self.main.len(),
+            self.staging.len(),
+        )
+    }
+}
+
 // So many numbers are searched at once: a vector of 16 bytes.
 const BLOCK: usize = 8;
 

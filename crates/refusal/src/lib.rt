@@ -1,4 +1,4 @@
-// Document 01's table of refusals. Every answer that can be one has it as `Refused(Refusal)`.
+// Document 01's table of refusals. Every answer that can be one is a `Result` with it as the error.
 // A new refusal is a row of the enum, one of `row_of`, and one of the definition.
 #![tactic(auto)]
 

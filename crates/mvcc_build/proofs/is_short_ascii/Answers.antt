@@ -3,7 +3,6 @@ use native.Mathlib.Omega.{arith}
 use Prim.Native.Nat.{◌-◌}
 use lib.ListN.{length}
 use Rattle.le.specs.Le.{Bytes}
-use Rattle.le.proofs.Compare.{no_test}
 use Rattle.mvcc_build.proofs.Words.{and-true, wide-le, word-ascii, ends-ascii}
 use Rattle.mvcc_build.proofs.is_short_ascii.Goals as goal
 

@@ -1,8 +1,6 @@
 -- `mvcc_build::put_column` meets its contract. Assumes nothing.
-use Rattle.mvcc_build.specs.Build.{tagged}
-use Rattle.mvcc_build.proofs.Laws.{front_kept, column-stored, kept, length-tagged}
+use Rattle.mvcc_build.proofs.Laws.{column-stored}
 use native.Mathlib.Omega.{arith}
-use lib.ListN.{length-set}
 use Rattle.mvcc_build.proofs.put_column.Goals as goal
 
 pub returns : goal.returns

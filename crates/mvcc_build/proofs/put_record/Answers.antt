@@ -1,6 +1,5 @@
 -- `mvcc_build::put_record` meets its contract. Assumes nothing.
-use Rattle.mvcc_build.specs.Build.{head_bytes}
-use Rattle.mvcc_build.proofs.Laws.{head-stored, kept, length-head}
+use Rattle.mvcc_build.proofs.Laws.{head-stored}
 use mir.ValLaws.{to_z-of_z}
 use mir.Syntax.{w64}
 use Rattle.mvcc_build.proofs.put_record.Goals as goal

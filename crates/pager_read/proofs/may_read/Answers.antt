@@ -7,14 +7,14 @@ pub returns-then-not-is_inside : goal.returns-then-not-is_inside
 unfolding may_read
 returns-then-not-is_inside c = rw (sym c.is_inside.ensures ∙ c.if-not-is_inside.true)
 
-pub returns-then-staging-ne-STAGING_AREA : goal.returns-then-staging-ne-STAGING_AREA
+pub returns-then-areas-ne-STAGING_AREA : goal.returns-then-areas-ne-STAGING_AREA
 unfolding may_read
-returns-then-staging-ne-STAGING_AREA c = rw (sym c.is_inside.ensures ∙ c.if-not-is_inside.false, ne_eqb _ _ c.if-staging-ne-STAGING_AREA.true)
+returns-then-areas-ne-STAGING_AREA c = rw (sym c.is_inside.ensures ∙ c.if-not-is_inside.false, ne_eqb _ _ c.if-areas-ne-STAGING_AREA.true)
 
 pub returns-then-job-ne0 : goal.returns-then-job-ne0
 unfolding may_read
-returns-then-job-ne0 c = rw (sym c.is_inside.ensures ∙ c.if-not-is_inside.false, eq-eqb _ _ c.if-staging-ne-STAGING_AREA.false, ne_eqb _ _ c.if-job-ne0.true)
+returns-then-job-ne0 c = rw (sym c.is_inside.ensures ∙ c.if-not-is_inside.false, eq-eqb _ _ c.if-areas-ne-STAGING_AREA.false, ne_eqb _ _ c.if-job-ne0.true)
 
 pub returns : goal.returns
 unfolding may_read
-returns c = rw (sym c.is_inside.ensures ∙ c.if-not-is_inside.false, eq-eqb _ _ c.if-staging-ne-STAGING_AREA.false, eq-eqb _ _ c.if-job-ne0.false)
+returns c = rw (sym c.is_inside.ensures ∙ c.if-not-is_inside.false, eq-eqb _ _ c.if-areas-ne-STAGING_AREA.false, eq-eqb _ _ c.if-job-ne0.false)

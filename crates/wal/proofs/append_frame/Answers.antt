@@ -1,35 +1,25 @@
-use Rattle.std.proofs.Common.{◌+◌, ◌≤◌, arith}
-use Rattle.wal.proofs.Writing.{body_refused, area-refused, length-refused, log-full, frame-appended}
+use Rattle.wal.proofs.Writing.{passed, stopped, body_refused, area-refused, log-full, frame-appended}
 use Rattle.wal.proofs.append_frame.Goals as goal
 
 pub returns-then-content-ne-PAGE_SIZE : goal.returns-then-content-ne-PAGE_SIZE
 returns-then-content-ne-PAGE_SIZE c =
     let a = c.args in
-    let both = body_refused a.log.now a.wal a.page_num a.content.now a.commit_page_count c.if-content-ne-PAGE_SIZE.true in
-    record { value = both.0; log_after = both.1 }
+    body_refused a.log.now a.wal a.page_num a.content.now a.commit_page_count c.if-content-ne-PAGE_SIZE.true
 
-pub returns-then-log-ne-WAL_AREA : goal.returns-then-log-ne-WAL_AREA
-returns-then-log-ne-WAL_AREA c =
+pub returns-in_err-check_area : goal.returns-in_err-check_area
+returns-in_err-check_area c =
     let a = c.args in
-    let both = area-refused a.log.now a.wal a.page_num a.content.now a.commit_page_count c.if-content-ne-PAGE_SIZE.false c.if-log-ne-WAL_AREA.true in
-    record { value = both.0; log_after = both.1 }
+    area-refused a.log.now a.wal a.page_num a.content.now a.commit_page_count c.if-content-ne-PAGE_SIZE.false
+    (stopped _ _ c.from_residual.result c.from_residual.ensures.1 c.in_err-check_area.ensures)
 
-pub returns-then-wal-gt-WAL_AREA : goal.returns-then-wal-gt-WAL_AREA
-returns-then-wal-gt-WAL_AREA c =
+pub returns-in_err-check_room : goal.returns-in_err-check_room
+returns-in_err-check_room c =
     let a = c.args in
-    let both = length-refused a.log.now a.wal a.page_num a.content.now a.commit_page_count c.if-content-ne-PAGE_SIZE.false c.if-log-ne-WAL_AREA.false c.if-wal-gt-WAL_AREA.true in
-    record { value = both.0; log_after = both.1 }
-
-pub returns-then-wal-lt-FRAME_SIZE : goal.returns-then-wal-lt-FRAME_SIZE
-returns-then-wal-lt-FRAME_SIZE c =
-    let a = c.args in
-    let both = log-full a.log.now a.wal a.page_num a.content.now a.commit_page_count c.if-content-ne-PAGE_SIZE.false c.if-log-ne-WAL_AREA.false c.if-wal-gt-WAL_AREA.false (omega arith) in
-    record { value = both.0; log_after = both.1 }
+    log-full a.log.now a.wal a.page_num a.content.now a.commit_page_count c.if-content-ne-PAGE_SIZE.false (passed _ _ c.in_ok-check_area.ensures)
+    (stopped _ _ c.from_residual-in_err-check_room.result c.from_residual-in_err-check_room.ensures.1 c.in_err-check_room.ensures)
 
 pub returns : goal.returns
 returns c =
     let a = c.args in
-    let room : a.wal.len + 4112 ≤ 4210720 = omega (arith, c.if-wal-lt-FRAME_SIZE.false, c.if-wal-gt-WAL_AREA.false) in
-    let both = frame-appended a.log.now a.wal a.page_num a.content.now a.commit_page_count c.if-content-ne-PAGE_SIZE.false c.if-log-ne-WAL_AREA.false room
-    c.write_frame.ensures.log_after (rw c.is_readable_as-good.ensures at c.with_frame.ensures) in
-    record { value = both.0; log_after = both.1 }
+    frame-appended a.log.now a.wal a.page_num a.content.now a.commit_page_count c.if-content-ne-PAGE_SIZE.false (passed _ _ c.in_ok-check_area.ensures)
+    (passed _ _ c.in_ok-check_room.ensures) c.write_frame.ensures.log_after (rw c.is_readable_as-good.ensures at c.with_frame.ensures)

@@ -1,22 +1,18 @@
-use Rattle.std.proofs.Common.{eq-eqb, ne_eqb, le-leb}
-use borrow.Author.Tests.{lt-leb}
+use Rattle.std.proofs.Common.{eqb-true}
+use Rattle.le.proofs.Compare.{both_true}
 use Rattle.wal.specs.Write.{truncated_header, truncate_answer, truncate_after}
-use Rattle.wal.proofs.Writing.{headed-done}
+use Rattle.wal.proofs.Writing.{headed-done, passed, stopped}
 use Rattle.wal.proofs.truncate.Goals as goal
 
-pub returns-then-log-ne-WAL_AREA : goal.returns-then-log-ne-WAL_AREA
+pub returns-in_err-check_area : goal.returns-in_err-check_area
 unfolding truncate_answer truncate_after
-returns-then-log-ne-WAL_AREA c = (rw (ne_eqb _ _ c.if-log-ne-WAL_AREA.true), rw (ne_eqb _ _ c.if-log-ne-WAL_AREA.true))
-
-pub returns-then-wal-gt-WAL_AREA : goal.returns-then-wal-gt-WAL_AREA
-unfolding truncate_answer truncate_after
-returns-then-wal-gt-WAL_AREA c = (rw (eq-eqb _ _ c.if-log-ne-WAL_AREA.false, lt-leb _ _ c.if-wal-gt-WAL_AREA.true), rw (eq-eqb _ _ c.if-log-ne-WAL_AREA.false, lt-leb _ _ c.if-wal-gt-WAL_AREA.true))
+returns-in_err-check_area c =
+    let p = stopped _ _ c.from_residual.result c.from_residual.ensures.1 c.in_err-check_area.ensures in
+    (rw (p.1, p.0), rw p.0)
 
 pub returns : goal.returns
 unfolding truncate_answer truncate_after truncated_header
 returns c =
-    let a = c.args in (
-      rw (eq-eqb _ _ c.if-log-ne-WAL_AREA.false, le-leb _ _ c.if-wal-gt-WAL_AREA.false, c.empty.ensures),
-      rw (eq-eqb _ _ c.if-log-ne-WAL_AREA.false, le-leb _ _ c.if-wal-gt-WAL_AREA.false)
-          (headed-done a.log.now (truncated_header a.wal.header a.salt) c.if-log-ne-WAL_AREA.false c.encode_wal_header.ensures.1),
-    )
+    let a = c.args in
+    let fine = passed _ _ c.in_ok-check_area.ensures in
+    (rw (fine, c.empty.ensures), rw fine (headed-done a.log.now (truncated_header a.wal.header a.salt) (eqb-true _ _ (both_true _ _ fine).0) c.encode_wal_header.ensures.1))
