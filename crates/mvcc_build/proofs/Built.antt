@@ -20,7 +20,8 @@ use Rattle.mvcc.specs.Batch.{Val, null, integer, real, text, bool, vector, Col, 
 use Rattle.mvcc.specs.Seen.{decodes, commit_ts_of, records}
 use Rattle.mvcc.proofs.Trip.{length-encode_text, length-words}
 use Rattle.mvcc.proofs.Canonical.{body-length, body-decodes, body-commit_ts_of, body-records}
-use Rattle.mvcc_build.specs.Build.{Added, taking, started, started_bytes, addition_judged, body_after, record_in, record_count, record_table, record_added, record_bytes, column_in, column_result, columns_recounted, column_count, texted, column_added, column_bytes}
+use Rattle.mvcc_build.proofs.Laws.{behind-picks}
+use Rattle.mvcc_build.specs.Build.{Added, taking, started, started_bytes, judged, addition_judged, body_after, record_in, record_count, record_table, record_added, record_bytes, column_in, column_result, columns_recounted, column_count, texted, column_added, column_bytes}
 use Rattle.mvcc_build.specs.Built.{last_from, builder_of, Built, ends_present, with_in, with_column, Held, HeldValue}
 use Rattle.mvcc_build.specs.declared.BatchBuilder.{BatchBuilder}
 use Rattle.refusal.specs.declared.Refusal.TheVariants.{Text, Fit, NoRecord}
@@ -152,10 +153,10 @@ module _ {t : ℕ} {rs : List Rec} {b : BatchBuilder} {body : List ℕ} (h : Bui
   -- a record is refused where its table is not UTF-8 (19), or where the batch with it would pass 4,096 bytes (20)
   pub record-answer : (r : Rec) → record_added b body r
       ≡ pick (well_formed (record_table r)) (pick (leb (length (encode_batch t (rs ++ (r ∷ [])))) 4096) (Ok (builder_of t (rs ++ (r ∷ [])))) (Err Fit)) (Err Text)
-  unfolding record_added addition_judged record_in builder_of
+  unfolding record_added judged addition_judged record_in builder_of
   record-answer r =
       let n : length rs ≡ 0xffff → ⊥ = λ e. omega (arith, records-few t rs h.fits) in
-      rw (eq-eqb _ _ full, h.state, ne_eqb (length rs) 0xffff n, record-size t rs r, length-snoc rs r, last_snoc 18 rs r, batch-size t rs)
+      rw (eq-eqb _ _ full, h.state, ne_eqb (length rs) 0xffff n, record-size t rs r, length-snoc rs r, last_snoc 18 rs r, batch-size t rs, behind-picks)
 
   pub record-built : (r : Rec) {b' : BatchBuilder} → Held r → record_added b body r ≡ Ok b' → Built t (rs ++ (r ∷ [])) b' (record_bytes b body r)
   unfolding record_bytes body_after record_count builder_of encode_body
@@ -184,11 +185,11 @@ module _ {t : ℕ} {rs : List Rec} {b : BatchBuilder} {body : List ℕ} (h : Bui
       (pick (ends_present rs) (Ok (builder_of t (with_column rs c))) (Err NoRecord)) (Err Fit)) (Err Text)
 
   column-cases : (c : Col) (l : Option OpenRecord) → last_from 18 rs ≡ l → column_added b body c ≡ column_says c
-  unfolding column_added column_result addition_judged column_in builder_of
-  column-cases c None e = rw (eq-eqb _ _ full, h.state, e, ends-closed 18 rs e)
+  unfolding column_added column_result judged addition_judged column_in builder_of
+  column-cases c None e = rw (eq-eqb _ _ full, h.state, e, ends-closed 18 rs e, behind-picks)
   column-cases c (Some r) e =
       let n : r.columns ≡ 0xffff → ⊥ = λ i. omega (arith, columns-few t rs h.fits e) in
-      rw (eq-eqb _ _ full, h.state, e, ne_eqb r.columns 0xffff n, ends_open 18 rs e, column-size t rs c e, length-with rs c, last-with 18 rs c e)
+      rw (eq-eqb _ _ full, h.state, e, ne_eqb r.columns 0xffff n, ends_open 18 rs e, column-size t rs c e, length-with rs c, last-with 18 rs c e, behind-picks)
 
   pub column-answer : (c : Col) → column_added b body c
       ≡ pick (both (texted c.val) (well_formed c.name))

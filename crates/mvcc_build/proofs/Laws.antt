@@ -4,7 +4,7 @@ use mathlib.Core.Bool.{Bool, true, false}
 use mathlib.Core.List.{List, [], ◌∷◌, ◌++◌, append_assoc, append-nil}
 use Prim.Native.Nat.{ℕ, zero, suc, ◌+◌, ◌*◌, ◌/◌, ◌%◌, ◌≤◌, ◌<◌}
 use native.Mathlib.Omega.{arith}
-use borrow.Author.Tests.{leb-true, le-leb, eq-eqb, ne_eqb, eqb-true}
+use borrow.Author.Tests.{leb-true, eq-eqb, ne_eqb, eqb-true}
 use lib.Dec.{leb, eqb}
 use lib.Ieee.{Float, nan, inf, fin, is_nan, binary64, to_bits}
 use lib.ListN.{length, take, drop, set, replicate, length-append, length-replicate, replicate-append-replicate}
@@ -23,7 +23,7 @@ use Rattle.mvcc.specs.Batch.{Val, null, integer, real, text, bool, vector, tombs
 use Rattle.mvcc.proofs.Trip.{length-encode_text}
 use Rattle.mvcc.proofs.Sound.{words-length}
 use Rattle.mvcc.specs.Seen.{words}
-use Rattle.mvcc_build.specs.Build.{Added, taking, judged, addition_judged, body_after, record_in, record_count, head_bytes, last_of, head_result, record_added, record_bytes, column_in, column_result, column_count, columns_recounted, column, texted, column_added, column_bytes, elements, vector_added, vector_bytes, tagged, started, started_bytes, is_full}
+use Rattle.mvcc_build.specs.Build.{Added, taking, judged, behind, addition_judged, body_after, record_in, record_count, head_bytes, last_of, head_result, record_added, record_bytes, column_in, column_result, column_count, columns_recounted, column, texted, column_added, column_bytes, elements, vector_added, vector_bytes, tagged, started, started_bytes, is_full}
 use Rattle.mvcc_build.specs.declared.BatchBuilder.{BatchBuilder}
 use Rattle.mvcc_build.specs.declared.OpenRecord.{OpenRecord}
 use Rattle.refusal.specs.declared.Refusal.TheVariants.{Area, Truncated, Text, Fit, NoRecord}
@@ -123,12 +123,11 @@ module _ (l : List ℕ) (at : ℕ) (full : length l ≡ 4096) where
 
 -- ---- what an addition answers
 
-refused_as : (w t f : Bool) (more : Added) {e : Refusal} → pick w (pick t (pick f (Ok (tt {0})) (Err Fit)) (Err Text)) (Err Area) ≡ Err e
-    → Err e ≡ pick w (pick t (pick f more (Err Fit)) (Err Text)) (Err Area)
-refused_as true true true more h = cc
-refused_as true true false more h = cc
-refused_as true false f more h = cc
-refused_as false t f more h = cc
+-- what is behind a judgement, where it isn't the area that is wrong
+pub behind-picks : (t f : Bool) (more : Added) → behind (pick t (pick f (Ok (tt {0})) (Err Fit)) (Err Text)) more ≡ pick t (pick f more (Err Fit)) (Err Text)
+behind-picks true true more = refl
+behind-picks true false more = refl
+behind-picks false f more = refl
 
 -- what a judgement that refuses nothing says
 pub judged-fine : (n : ℕ) (texts : Bool) (end : ℕ) → judged n texts end ≡ Ok (tt {0}) → (n ≡ 4096) × (texts ≡ true) × (end ≤ 4096)
@@ -149,14 +148,12 @@ module _ (count : BatchBuilder → List ℕ → List ℕ) (b : BatchBuilder) (bo
   Says r l = (r ≡ addition_judged b body texts bs more) × (l ≡ body_after count b body bs r)
 
   pub way-refused : {e : Refusal} → judged (length body) texts (b.at + n) ≡ Err e → Says (Err e) body
-  unfolding judged addition_judged body_after
-  way-refused h = (refused_as (eqb (length body) 4096) texts (leb (b.at + length bs) 4096) more (rw (← m) at h), refl)
+  unfolding addition_judged body_after
+  way-refused h = (rw (m, h), refl)
 
   pub way-more : judged (length body) texts (b.at + n) ≡ Ok (tt {0}) → {x : Added} {l : List ℕ} → x ≡ more → l ≡ body_after count b body bs x → Says x l
   unfolding addition_judged
-  way-more h p q =
-      let f = judged-fine (length body) texts (b.at + n) h in
-      (p ∙ rw (eq-eqb _ _ f.0, f.1, m, le-leb _ _ f.2), q)
+  way-more h p q = (p ∙ rw (m, h), q)
 
 module _ (b : BatchBuilder) (body : List ℕ) (texts : Bool) (op : ℕ) (t : List ℕ) (row : ℤ) (z : ℕ) where
   abbrev H : List ℕ

@@ -34,10 +34,14 @@ started_bytes t body = pick (eqb (length body) body_size) (encode_body t []) bod
 unfoldable pub judged : ℕ → Bool → ℕ → Result Unit Refusal
 judged n texts end = pick (eqb n body_size) (pick texts (pick (leb end body_size) (Ok tt) (Err Fit)) (Err Text)) (Err Area)
 
--- the refusals 1, 19 and 20 of an addition with the bytes bs, in order, then what is behind them; `texts`: its texts are UTF-8
+abbrev pub behind : Result Unit Refusal → Added → Added
+behind (Ok tt) more = more
+behind (Err r) more = Err r
+
+-- an addition with the bytes bs: these refusals, then what is behind them
 unfoldable pub addition_judged : BatchBuilder → List ℕ → Bool → List ℕ → Added → Added
 addition_judged b body texts bs more =
-    pick (eqb (length body) body_size) (pick texts (pick (leb (b.at + length bs) body_size) more (Err Fit)) (Err Text)) (Err Area)
+    behind (judged (length body) texts (b.at + length bs)) more
 
 -- the later bytes: those added, with the count that goes with them; after a refusal the body is as it was
 unfoldable pub body_after : (BatchBuilder → List ℕ → List ℕ) → BatchBuilder → List ℕ → List ℕ → Added → List ℕ

@@ -140,7 +140,7 @@ named_by answer a (b ∷ rest) = Ok (step.Stored (place_of a))
 -- "A next-step call with no commit or fold under way does nothing and says Idle"; a store that would pass its area is refused (1): only a
 -- made-up store has such a one
 unfoldable pub named : ℕ → List Act → Result Step Refusal
-named answer [] = (Ok step.Idle)
+named answer [] = Ok step.Idle
 named answer (a ∷ rest) = pick (inside a) (named_by answer a rest) (Err refusal.Area)
 
 -- v is the world w after the first store
