@@ -1,5 +1,5 @@
 /* Lateenbael: a store of 4,096-byte pages on two files, a main file and a write-ahead log, whose every function is proved.
- * This is what a host links: libcapi.a, for C or C++ on x86-64. It asks nothing of the host but memcpy and its like.
+ * This is what a host links: libcapi.a, for C or C++ on x86-64. It asks nothing of the host but memcpy and memset.
  *
  * The library opens no file and keeps nothing between calls. An open store is a struct of numbers, lateenbael_store, that every
  * call takes by value and gives back changed; the host keeps it and lends four areas, always the same ones:

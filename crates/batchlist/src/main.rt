@@ -4,6 +4,7 @@
 // A case: the body's length (2 bytes) and the bytes at its front; the rest of the body is zeros.
 #![tactic(auto)]
 
+mod out;
 mod print;
 
 use mvcc::BATCH_BODY_SIZE;

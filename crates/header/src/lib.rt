@@ -1,8 +1,9 @@
 // The main file's header, page 0: what it holds, and its bytes in both directions.
 #![tactic(auto)]
 
-ghost use Rattle.std.specs.Prelude.{◌≡◌};
-ghost use Rattle.header.specs.Header.{decode_header, header_fields, encode_answer, encode_after};
+ghost use Rattle.std.specs.Prelude.{◌≡◌, ◌≤◌, length, take};
+ghost use Rattle.le.specs.Le.{same_bytes};
+ghost use Rattle.header.specs.Header.{magic, decode_header, header_fields, encode_answer, encode_after};
 
 use page::PAGE_SIZE;
 use refusal::Refusal;
@@ -55,14 +56,26 @@ pub fn encode_header(h: DbHeader, buf: &mut [u8]) -> Result<(), Refusal>
     Ok(())
 }
 
-// Reads the header from its page, or answers the first of its refusals.
+// Whether a page begins with the magic bytes. They are compared by halves, for the compiler makes one comparison of eight bytes.
+fn has_magic(page: &[u8]) -> bool
+    requires { 16 ≤ length page.now }
+    ensures { result ≡ same_bytes (take 16 page.now) magic }
+{
+    if !page.starts_with(&MAGIC[..8]) {
+        return false;
+    }
+    page[8..].starts_with(&MAGIC[8..])
+}
+
+// Reads the header from its page, or answers the first of its refusals. Inlined, so that the answer doesn't go through memory.
+#[inline(always)]
 pub fn decode_header(buf: &[u8]) -> Result<DbHeader, Refusal>
     ensures { result ≡ decode_header buf.now }
 {
     if buf.len() != PAGE_SIZE {
         return Err(Refusal::Short);
     }
-    if !le::same(le::part(buf, 0, 16), &MAGIC) {
+    if !has_magic(buf) {
         return Err(Refusal::Magic);
     }
     let version = le::read_u16(buf, 16);

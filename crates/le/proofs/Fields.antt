@@ -108,6 +108,12 @@ unfolding le_bytes
 length-le_bytes zero x = refl
 length-le_bytes (suc n) x = ap suc (length-le_bytes n (x / 256))
 
+-- a field of n + m bytes is one of n and behind it one of m
+pub le_bytes-split : (n m x : ℕ) → le_bytes (n + m) x ≡ le_bytes n x ++ le_bytes m (x / 256 ^ n)
+unfolding le_bytes
+le_bytes-split zero m x = rw (zero-add, div-one)
+le_bytes-split (suc n) m x = rw (suc-add, pow-succ' 256, le_bytes-split n m (x / 256), div-div-eq-div-mul)
+
 -- the n lowest bytes of x are those of what x leaves at 256 ^ n
 pub le_bytes-mod : (n x : ℕ) → le_bytes n (x % 256 ^ n) ≡ le_bytes n x
 unfolding le_bytes

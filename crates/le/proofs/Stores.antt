@@ -3,14 +3,14 @@ use mathlib.Core.Path.{◌≡◌, sym, ap, ◌∙◌}
 use mathlib.Core.Bool.{true, false}
 use mathlib.Core.List.{List, [], ◌∷◌, ◌++◌, append_assoc, append-nil}
 use mathlib.Core.Logic.{⊎_elim}
-use Prim.Native.Nat.{ℕ, ◌+◌, ◌-◌, ◌/◌, ◌^◌, ◌≤◌, ◌<◌}
+use Prim.Native.Nat.{ℕ, ◌+◌, ◌-◌, ◌/◌, ◌%◌, ◌^◌, ◌≤◌, ◌<◌}
 use native.Mathlib.Nat.{div-one, add_assoc, add-zero, zero-add}
 use native.Mathlib.Numerals.{add-one}
 use native.Mathlib.Omega.{arith}
 use borrow.Author.Tests.{le-leb, lt-leb}
 use lib.Dec.{leb}
-use lib.ListN.{length, take, drop, set, length-append, length-take, length-drop, take-append-drop, replicate, replicate-append-replicate, length-replicate}
-use lib.Seq.{drop-length, drop-drop, set_split, take-append_seam, take_at, drop_at, drop-append-add, take-append-le, take-take}
+use lib.ListN.{length, take, drop, get_or, set, length-append, length-take, length-drop, take-append-drop, replicate, replicate-append-replicate, length-replicate}
+use lib.Seq.{drop-length, drop-drop, set_split, take-suc, take-append_seam, take_at, drop_at, drop-append-add, take-append-le, take-take}
 use borrow.Rule.Slice.PartMut.{put_mid}
 use Rattle.std.specs.Int.{bytes_low_first}
 use Rattle.std.specs.Prelude.{Err, Ok, Result}
@@ -19,7 +19,7 @@ use Rattle.refusal.specs.declared.Refusal.TheVariants as refusal
 use Rattle.le.specs.Le.{le_bytes, put, store}
 use Rattle.le.specs.Answers.{stored_of}
 use Rattle.le.proofs.Tests.{le-or-lt}
-use Rattle.le.proofs.Fields.{length-le_bytes, bytes_low_first-le_bytes}
+use Rattle.le.proofs.Fields.{length-le_bytes, le_bytes-mod, le_bytes-split, bytes_low_first-le_bytes}
 
 -- ---- putting bytes where they fit
 
@@ -124,6 +124,12 @@ put-more n l at xs b e h =
     let j : at + n < length (put l at xs) = rw (length-put l at xs (rw e (omega arith))) h in
     rw (set-put (put l at xs) (at + n) b j, put_next n l at xs (b ∷ []) e (omega arith))
 
+-- one byte more of a copy
+pub put_copy : (l : List ℕ) (at : ℕ) (src : List ℕ) (i : ℕ) → at + length src ≤ length l → i < length src
+    → set (put l at (take i src)) (at + i) (get_or src i 0) ≡ put l at (take (i + 1) src)
+put_copy l at src i h k =
+    rw (put-more i l at (take i src) (get_or src i 0) (simp length-take (omega arith)) (omega arith), add-one, take-suc src i 0)
+
 -- one zero more
 pub put-zero : (l : List ℕ) (at i : ℕ) → at + i < length l
     → set (put l at (replicate i 0)) (at + i) 0 ≡ put l at (replicate (i + 1) 0)
@@ -133,6 +139,14 @@ put-zero l at i h =
 -- what was stored is found at the length it has
 pub part-put : (n : ℕ) (l : List ℕ) (at : ℕ) (xs : List ℕ) → length xs ≡ n → at ≤ length l → take n (drop at (put l at xs)) ≡ xs
 part-put n l at xs e h = rw e at (get-put l at xs h)
+
+-- ---- fields
+
+-- a field of n + m bytes stored as one of n and one of m
+pub put-split : (n m : ℕ) (l : List ℕ) (at v : ℕ) → at + n ≤ length l
+    → put (put l at (le_bytes n (v % 256 ^ n))) (at + n) (le_bytes m (v / 256 ^ n)) ≡ put l at (le_bytes (n + m) v)
+put-split n m l at v h =
+    rw (le_bytes-mod, le_bytes-split n m v) (put_next n l at (le_bytes n v) (le_bytes m (v / 256 ^ n)) (length-le_bytes n v) h)
 
 -- ---- through a part of the slice
 

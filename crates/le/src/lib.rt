@@ -95,8 +95,9 @@ pub fn write_bytes(buf: &mut [u8], at: usize, src: &[u8]) -> Result<(), Refusal>
     ensures { (result ≡ stored_of buf.old at (length src.now)) × (buf.new ≡ store buf.old at src.now) }
 {
     if fits_in(buf.len(), at, src.len()) {
-        let end = at + src.len();
-        buf[at..end].copy_from_slice(src);
+        for i in 0..src.len() {
+            buf[at + i] = src[i];
+        }
         return Ok(());
     }
     Err(Refusal::Area)

@@ -148,12 +148,17 @@ fn text_of(body: &[u8], at: usize, n: usize) -> Field<TextPlace>
     if !le::fits_in(body.len(), at, n) {
         return Err(Refusal::Truncated);
     }
-    let mut chars = 0;
-    if n != 0 {
-        chars = text::count(le::part(body, at, n));
-        if chars == 0 {
-            return Err(Refusal::Text);
-        }
+    if n == 0 {
+        let place = TextPlace {
+            start: at,
+            len: n,
+            chars: 0,
+        };
+        return Ok((place, at + n));
+    }
+    let chars = text::count(le::part(body, at, n));
+    if chars == 0 {
+        return Err(Refusal::Text);
     }
     let place = TextPlace {
         start: at,

@@ -177,8 +177,19 @@ pub fn bits_of(x: f64) -> u64
     }
 }
 
+// What an addition to a body of this length is refused with where a text of it is not UTF-8.
+fn no_text(len: usize) -> Result<(), Refusal>
+    ensures { result ≡ pick (eqb len body_size) (Err Text) (Err Area) }
+{
+    if len != BATCH_BODY_SIZE {
+        return Err(Refusal::Area);
+    }
+    Err(Refusal::Text)
+}
+
 // Refuses an addition at `at` to a body of length `len`: where the body has another length, where the addition's texts are not UTF-8, and
-// where `fixed` bytes and a text and bytes of these lengths do not fit.
+// where `fixed` bytes and a text and bytes of these lengths do not fit. The texts' outcome is tested first, so that nothing lies between it
+// and what follows from it.
 #[tactic(auto, unfolding(crate::specs::Build::judged))]
 fn judge(
     len: usize,
@@ -191,11 +202,11 @@ fn judge(
     requires { fixed ≤ body_size }
     ensures { result ≡ judged len texts (at + (fixed + text + bytes)) }
 {
+    if !texts {
+        return no_text(len);
+    }
     if len != BATCH_BODY_SIZE {
         return Err(Refusal::Area);
-    }
-    if !texts {
-        return Err(Refusal::Text);
     }
     if !fits(at, fixed, text, bytes) {
         return Err(Refusal::Fit);

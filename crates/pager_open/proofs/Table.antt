@@ -5,11 +5,12 @@ use mathlib.Core.List.{List, [], ◌∷◌, ◌++◌}
 use mathlib.Core.Logic.{⊎_elim}
 use Prim.Native.Nat.{ℕ, zero, suc, ◌+◌, ◌-◌, ◌*◌, ◌/◌, ◌%◌, ◌≤◌, ◌<◌}
 use native.Mathlib.Nat.{add-zero, zero-add}
+use native.Mathlib.Numerals.{add-one}
 use native.Mathlib.Omega.{arith}
 use borrow.Author.Tests.{eq-eqb, ne_eqb}
 use lib.Dec.{eqb}
 use lib.ListN.{length, take, get_or, set, length-set}
-use lib.Seq.{set_out, get_or-set_same, get_or-set_other, ext_get_or}
+use lib.Seq.{set_out, take-suc-set, get_or-set_same, get_or-set_other, ext_get_or}
 use Rattle.le.specs.Choice.{pick, both}
 use Rattle.le.proofs.Tests.{le-or-lt, eq-or-not}
 use Rattle.frame.specs.Frame.{frame_at}
@@ -27,6 +28,13 @@ module _ (g : ℕ → ℕ) where
   unfolding tabulate
   length-tabulate i zero = refl
   length-tabulate i (suc k) = ap suc (length-tabulate (suc i) k)
+
+  pub tabulate-snoc : (i k : ℕ) → tabulate g i (suc k) ≡ tabulate g i k ++ (g (i + k) ∷ [])
+  unfolding tabulate
+  tabulate-snoc i zero = rw add-zero
+  tabulate-snoc i (suc k) =
+      let e : suc i + k ≡ i + suc k = omega arith in
+      ap (λ (l : List ℕ). g i ∷ l) (rw e at (tabulate-snoc (suc i) k))
 
   get_from : (i k n : ℕ) → n < k → get_or (tabulate g i k) n 0 ≡ g (i + n)
   unfolding tabulate
@@ -59,6 +67,11 @@ module _ (g h : ℕ → ℕ) (k p v : ℕ) (below : p < k) (here : h p ≡ v) (o
       let w : length (set (tabulate g 0 k) p v) ≡ k = rw (length-set, length-tabulate g 0 k) in
       ext_get_or 0 (set (tabulate g 0 k) p v) (tabulate h 0 k) (w ∙ sym (length-tabulate h 0 k))
       (λ n b. let m : n < k = rw w at b in set_at n m ∙ sym (get-tabulate h k n m))
+
+-- filling one from the front
+pub tabulate-next : (g : ℕ → ℕ) (t : List ℕ) (n v : ℕ) → n < length t → take n t ≡ tabulate g 0 n → v ≡ g n
+    → take (n + 1) (set t n v) ≡ tabulate g 0 (n + 1)
+tabulate-next g t n v h e k = rw (add-one, take-suc-set t n v h, tabulate-snoc g 0 n, e, k, zero-add)
 
 -- ---- the last frame of a page
 

@@ -3,6 +3,7 @@
 use super::{List, print};
 use mvcc::MvccCommitBatch;
 
+#[derive(Clone, Copy)]
 pub struct Bodies;
 
 impl List for Bodies {

@@ -9,6 +9,7 @@ const AT: usize = 32;
 
 const LOG_SIZE: usize = 4200;
 
+#[derive(Clone, Copy)]
 pub struct Frames;
 
 impl List for Frames {

@@ -3,6 +3,7 @@
 use super::{List, print};
 use header::DbHeader;
 
+#[derive(Clone, Copy)]
 pub struct Headers;
 
 impl List for Headers {

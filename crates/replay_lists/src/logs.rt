@@ -5,6 +5,7 @@ use frame::{FRAME_SIZE, FrameStart};
 use log_listing::LISTING_SIZE;
 use page::PAGE_SIZE;
 
+#[derive(Clone, Copy)]
 pub struct Logs;
 
 impl List for Logs {

@@ -3,6 +3,7 @@
 use super::{List, print};
 use page::PAGE_SIZE;
 
+#[derive(Clone, Copy)]
 pub struct Sums;
 
 impl List for Sums {

@@ -4,6 +4,7 @@ ghost use Rattle.std.specs.Prelude.{◌+◌, ◌≤◌, ◌<◌};
 
 use super::{List, print};
 
+#[derive(Clone, Copy)]
 pub struct Texts;
 
 impl List for Texts {

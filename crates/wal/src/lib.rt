@@ -62,7 +62,7 @@ pub fn decode_wal_header(log: &[u8]) -> Result<WalHeader, Refusal>
     if log.len() < WAL_HEADER_SIZE {
         return Err(Refusal::Short);
     }
-    if !le::same(le::part(log, 0, 8), &WAL_MAGIC) {
+    if !log.starts_with(&WAL_MAGIC) {
         return Err(Refusal::Magic);
     }
     let version = le::read_u32(log, 8);

@@ -108,7 +108,11 @@ impl Medium {
         assert!(filled < 64 * MIB, "the tmpfs has no end");
     }
 
+    /// Gives the room back. A program that another test has begun holds every file of this process until its exec, the filler too, and a
+    /// file that is removed keeps its blocks as long as anybody holds it: so it is emptied first.
     fn relieve(&self) {
+        let filler = OpenOptions::new().write(true).open(&self.filler).unwrap();
+        filler.set_len(0).unwrap();
         fs::remove_file(&self.filler).unwrap();
     }
 
