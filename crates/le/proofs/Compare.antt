@@ -36,7 +36,6 @@ same_bytes-pointwise [] (y ∷ ys) = refl
 same_bytes-pointwise (x ∷ xs) [] = refl
 same_bytes-pointwise (x ∷ xs) (y ∷ ys) = rw (same_bytes-pointwise xs ys, both-and)
 
--- `starts_with` of the library, which has the two the other way round
 eqb_swap : (x y : ℕ) → eqb x y ≡ eqb y x
 eqb_swap x y =
     ⊎_elim (λ e. rw (eq-eqb x y e, eq-eqb y x (sym e))) (λ e. rw (ne_eqb x y e, ne_eqb y x (λ f. e (sym f)))) (eq-or-not x y)
@@ -48,10 +47,11 @@ same_swap [] (y ∷ ys) = refl
 same_swap (x ∷ xs) [] = refl
 same_swap (x ∷ xs) (y ∷ ys) = rw (same_swap xs ys, eqb_swap x y)
 
+-- what the library says of `starts_with`, which has the two the other way round
 pub starts-same : (xs ys : List ℕ) → pointwise eqb ys (take (length ys) xs) ≡ same_bytes (take (length ys) xs) ys
 starts-same xs ys = sym (same_bytes-pointwise ys (take (length ys) xs)) ∙ same_swap ys (take (length ys) xs)
 
-both-assoc : (a b c : Bool) → both (both a b) c ≡ both a (both b c)
+pub both-assoc : (a b c : Bool) → both (both a b) c ≡ both a (both b c)
 both-assoc true b c = refl
 both-assoc false b c = refl
 

@@ -90,7 +90,8 @@ pub fn write_u64(buf: &mut [u8], at: usize, v: u64) -> Result<(), Refusal>
     write_bytes(buf, at, &u64::to_le_bytes(v))
 }
 
-// Stores all of `src` from `at` on.
+// Stores all of `src` from `at` on, byte by byte: of the library's copy the compiler makes a call of `memmove`, and a host without a C
+// library lends `memcpy` and `memset` alone.
 pub fn write_bytes(buf: &mut [u8], at: usize, src: &[u8]) -> Result<(), Refusal>
     ensures { (result ≡ stored_of buf.old at (length src.now)) × (buf.new ≡ store buf.old at src.now) }
 {

@@ -1,6 +1,6 @@
 -- Each way that appending a batch can end, from the tests that lead there. Assumes nothing.
 use mathlib.Core.Path.{◌≡◌, refl, sym, ap, ◌∙◌}
-use mathlib.Core.Bool.{Bool, true, false}
+use mathlib.Core.Bool.{true, false}
 use mathlib.Core.List.{List, ◌++◌}
 use Prim.Native.Nat.{ℕ, ◌+◌, ◌-◌, ◌≤◌, ◌<◌}
 use native.Mathlib.Omega.{arith}
@@ -13,7 +13,7 @@ use Rattle.std.specs.Result.{IsErrAnd}
 use Rattle.std.proofs.lemmas.Result.{err_from_is_err_and}
 use Rattle.le.specs.Choice.{both}
 use Rattle.le.specs.Le.{Bytes, put}
-use Rattle.le.proofs.Compare.{both_true}
+use Rattle.le.proofs.Compare.{both_true, both-assoc}
 use Rattle.le.proofs.Stores.{length-put, store-put}
 use Rattle.refusal.specs.declared.Refusal.{Refusal}
 use Rattle.refusal.specs.declared.Refusal.TheVariants as refusal
@@ -28,10 +28,6 @@ use Rattle.wal.specs.Write.{area_fine, with_frame, has_room}
 use Rattle.wal.specs.declared.Wal.{Wal}
 use Rattle.wal_batch.specs.Batch.{lent, batch_refusal, batch_answer, batch_after}
 
-both-assoc : (a b c : Bool) → both a (both b c) ≡ both (both a b) c
-both-assoc true b c = refl
-both-assoc false b c = refl
-
 module _ (l : List ℕ) (w : Wal) (s : List ℕ) where
   abbrev pub Says : Result Wal Refusal → List ℕ → Type 0
   Says r m = record { value : r ≡ batch_answer l w s; log_after : m ≡ batch_after l w s }
@@ -42,7 +38,7 @@ module _ (l : List ℕ) (w : Wal) (s : List ℕ) where
   says-refused f e q = record { value = rw (q, e); log_after = rw e }
 
   lent-is : lent l w s ≡ both (area_fine l w) (leb (length s) 4096)
-  lent-is = both-assoc (eqb (length l) 4210720) (leb w.len 4210720) (leb (length s) 4096)
+  lent-is = sym (both-assoc (eqb (length l) 4210720) (leb w.len 4210720) (leb (length s) 4096))
 
   pub way-area : {r : Result Wal Refusal} → (area_fine l w ≡ false) × (r ≡ Err refusal.Area) → Says r l
   unfolding batch_refusal
